@@ -1,0 +1,5 @@
+pub mod Layout
+pub mod Bytes
+pub mod Rows
+pub mod Reading
+pub mod Writing

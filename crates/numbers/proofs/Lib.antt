@@ -1,0 +1,2 @@
+pub mod ModuloLaws
+pub mod BitLaws

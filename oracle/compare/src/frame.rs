@@ -1,0 +1,45 @@
+//! A frame of a script, and the line that answers it.
+
+#[derive(Default)]
+pub struct Frame {
+    pub op: u8,
+    pub numbers: Vec<u32>,
+    pub bytes: Vec<u8>,
+}
+
+impl Frame {
+    /// The number at this place; one that is missing reads as 0.
+    pub fn number(&self, place: usize) -> u32 {
+        self.numbers.get(place).copied().unwrap_or(0)
+    }
+
+    pub fn encode(&self) -> Vec<u8> {
+        let count = u8::try_from(self.numbers.len()).expect("at most 255 numbers");
+        let length = u16::try_from(self.bytes.len()).expect("at most 65,535 bytes");
+        let mut out = vec![self.op, count];
+        out.extend(self.numbers.iter().flat_map(|number| number.to_be_bytes()));
+        out.extend(length.to_be_bytes());
+        out.extend(&self.bytes);
+        out
+    }
+
+    /// The op and these values.
+    pub fn line(&self, values: &[u32]) -> String {
+        let mut line = self.op.to_string();
+        for value in values {
+            line.push(' ');
+            line.push_str(&value.to_string());
+        }
+        line
+    }
+
+    /// The line of a number that does not fit its parameter.
+    pub fn bad(&self) -> String {
+        format!("{} bad", self.op)
+    }
+
+    /// The line of an op that is not listed.
+    pub fn unknown(&self) -> String {
+        format!("{} unknown", self.op)
+    }
+}

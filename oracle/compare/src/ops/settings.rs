@@ -1,0 +1,35 @@
+//! Op 0: the settings. Only the checksum and the store's length have numbers that do not fit.
+
+use enet::Bench;
+
+use super::Group;
+use crate::{frame::Frame, random::Random};
+
+const STORE: u32 = 49_152;
+
+pub const GROUP: Group = Group { name: "0", weight: 1, frame, line };
+
+fn frame(random: &mut Random, _: u64) -> Frame {
+    let mtu = match random.below(2) {
+        0 => random.pick(&[0, 575, 576, 1_392, 4_096, 4_097]),
+        _ => random.number(),
+    };
+    let packet = match random.below(2) {
+        0 => random.pick(&[0, 1, 1_073_741_824, 1_073_741_825]),
+        _ => random.number(),
+    };
+    let waiting = random.up_to(u32::MAX);
+    let checksum = random.pick(&[0, 0, 0, 1, 1, 1, 2, 256, u32::MAX]);
+    let store = match random.below(4) {
+        0 => random.pick(&[STORE + 1, 65_536, u32::MAX]),
+        _ => random.up_to(STORE),
+    };
+    Frame { op: 0, numbers: vec![mtu, packet, waiting, checksum, store], ..Frame::default() }
+}
+
+fn line(_: &mut Bench, frame: &Frame) -> String {
+    if frame.number(3) > 1 || frame.number(4) > STORE {
+        return frame.bad();
+    }
+    frame.line(&[])
+}

@@ -1,0 +1,113 @@
+//! A script of random frames, and beside it the lines that answer it.
+
+use std::io::{self, Write};
+
+use enet::Bench;
+
+use crate::{
+    frame::Frame,
+    ops::{Group, GROUPS},
+    random::Random,
+};
+
+/// The name that asks for a last frame that is cut.
+const SHORT: &str = "short";
+
+/// Which groups take part, and whether the script ends inside a frame.
+pub struct Choice {
+    groups: Vec<&'static Group>,
+    short: bool,
+}
+
+impl Choice {
+    /// The groups of these names, or everything.
+    pub fn named(names: Option<&str>) -> Result<Self, String> {
+        let Some(names) = names else {
+            return Ok(Choice { groups: GROUPS.iter().collect(), short: true });
+        };
+        let mut choice = Choice { groups: Vec::new(), short: false };
+        for name in names.split(',') {
+            match GROUPS.iter().find(|group| group.name == name) {
+                Some(group) => choice.groups.push(group),
+                None if name == SHORT => choice.short = true,
+                None => return Err(format!("there are no ops {name}")),
+            }
+        }
+        if choice.groups.is_empty() {
+            return Err("a script needs at least one op".to_string());
+        }
+        Ok(choice)
+    }
+}
+
+pub struct Plan {
+    pub seed: u64,
+    pub count: u64,
+    pub choice: Choice,
+}
+
+impl Plan {
+    pub fn write(&self, mut script: impl Write, mut lines: impl Write) -> io::Result<()> {
+        let mut random = Random::new(self.seed);
+        let mut bench = Bench::new();
+        let mut turns = vec![0; self.choice.groups.len()];
+        for _ in 0..self.count {
+            let (frame, line) = self.next(&mut random, &mut bench, &mut turns);
+            script.write_all(&frame.encode())?;
+            writeln!(lines, "{line}")?;
+        }
+        if self.choice.short {
+            let (frame, _) = self.next(&mut random, &mut bench, &mut turns);
+            let whole = frame.encode();
+            // At least one byte, or it would be no frame at all; at least one too few.
+            let kept = 1 + random.below(whole.len() as u64 - 1) as usize;
+            script.write_all(&whole[..kept])?;
+            writeln!(lines, "{SHORT}")?;
+        }
+        script.flush()?;
+        lines.flush()
+    }
+
+    /// A frame of some group, and its line; each group counts its own turns, to sweep its edges.
+    fn next(&self, random: &mut Random, bench: &mut Bench, turns: &mut [u64]) -> (Frame, String) {
+        let chosen = self.draw(random);
+        let group = self.choice.groups[chosen];
+        let mut frame = (group.frame)(random, turns[chosen]);
+        turns[chosen] += 1;
+        if random.once_in(12) {
+            miscount(&mut frame, random);
+        }
+        let line = (group.line)(bench, &frame);
+        (frame, line)
+    }
+
+    /// The place of a group, drawn by the weights.
+    fn draw(&self, random: &mut Random) -> usize {
+        let groups = &self.choice.groups;
+        let mut left = random.below(groups.iter().map(|group| group.weight).sum());
+        groups
+            .iter()
+            .position(|group| match left.checked_sub(group.weight) {
+                Some(rest) => {
+                    left = rest;
+                    false
+                }
+                None => true,
+            })
+            .expect("the draw is below the sum")
+    }
+}
+
+/// Takes numbers away, which then read as 0, or adds some, which are to be ignored.
+fn miscount(frame: &mut Frame, random: &mut Random) {
+    if random.once_in(2) {
+        let kept = random.below(frame.numbers.len() as u64 + 1) as usize;
+        frame.numbers.truncate(kept);
+    } else {
+        let room = 255 - frame.numbers.len() as u64;
+        let most = if random.once_in(8) { room } else { room.min(4) };
+        for _ in 0..random.below(most + 1) {
+            frame.numbers.push(random.number());
+        }
+    }
+}

@@ -1,0 +1,35 @@
+// Opens private functions of src/c/protocol.rs to the doors: each calls its namesake and nothing else.
+
+use super::*;
+
+pub(crate) unsafe fn change_state<S: Socket>(
+    host: *mut ENetHost<S>,
+    peer: *mut ENetPeer<S>,
+    state: ENetPeerState,
+) {
+    enet_protocol_change_state(host, peer, state);
+}
+
+pub(crate) unsafe fn handle_send_unsequenced<S: Socket>(
+    host: *mut ENetHost<S>,
+    peer: *mut ENetPeer<S>,
+    command: *const ENetProtocol,
+    current_data: *mut *mut u8,
+) -> i32 {
+    enet_protocol_handle_send_unsequenced(host, peer, command, current_data)
+}
+
+pub(crate) unsafe fn handle_incoming_commands<S: Socket>(
+    host: *mut ENetHost<S>,
+    event: *mut ENetEvent<S>,
+) -> bool {
+    enet_protocol_handle_incoming_commands(host, event)
+}
+
+pub(crate) unsafe fn check_timeouts<S: Socket>(
+    host: *mut ENetHost<S>,
+    peer: *mut ENetPeer<S>,
+    event: *mut ENetEvent<S>,
+) -> i32 {
+    enet_protocol_check_timeouts(host, peer, event)
+}

@@ -1,0 +1,7 @@
+//! The doors, one file for each function or piece of the source that they lead to.
+
+pub(crate) mod command;
+mod distance;
+mod fields;
+pub(crate) mod throttle;
+pub(crate) mod window;

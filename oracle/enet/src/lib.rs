@@ -1,0 +1,17 @@
+//! rusty_enet 0.4.1, compiled from its own unchanged files, and doors to its private functions.
+//!
+//! A door is a method of [`Bench`]: plain data in, plain data out, and the source's own code between.
+
+// The source and the shims, as prepare/tree.rs laid them out; they expect to stand at the crate's root.
+include!(concat!(env!("ENET_TREE"), "/root.rs"));
+
+mod bench;
+mod door;
+mod silent;
+
+pub use bench::Bench;
+pub use door::{
+    command::{limits, size, write, Read},
+    throttle::Throttle,
+    window::{Verdict, Window},
+};
