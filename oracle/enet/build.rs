@@ -13,7 +13,9 @@ const SOURCE: &str = "../../../shared/docs/src/src";
 fn main() {
     let source = match env::var_os("ENET_SRC") {
         Some(place) => PathBuf::from(place),
-        None => PathBuf::from(env::var_os("CARGO_MANIFEST_DIR").expect("set by cargo")).join(SOURCE),
+        None => {
+            PathBuf::from(env::var_os("CARGO_MANIFEST_DIR").expect("set by cargo")).join(SOURCE)
+        }
     };
     let out = PathBuf::from(env::var_os("OUT_DIR").expect("set by cargo")).join("tree");
 

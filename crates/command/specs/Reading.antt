@@ -22,7 +22,7 @@ readable s i = both (known (kindAt s i)) (leb (i + sizeOf (kindAt s i)) (length 
 -- 0, the next place, the kind and the command's row; else 9
 abbrev pub readAt : List ℕ → ℕ → Answer
 readAt s i =
-    pick (readable s i) (done (i + sizeOf (kindAt s i) ∷ kindAt s i ∷ rowAt s i (layout (kindAt s i)))) (refused 9)
+    pick (readable s i) (done ((i + sizeOf (kindAt s i)) ∷ kindAt s i ∷ rowAt s i (layout (kindAt s i)))) (refused 9)
 
 abbrev pub answerOf : Reading → Answer
 answerOf (vr.Found c next) = done (next ∷ kindOf (c .fields) ∷ rowOf c)

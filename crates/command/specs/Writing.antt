@@ -19,7 +19,7 @@ writable s i c = both (namesFields c) (leb (i + sizeOf (kindOf (c .fields))) (le
 
 -- 0 and the next place; else 9
 abbrev pub writeAnswer : List ℕ → ℕ → Command → Answer
-writeAnswer s i c = pick (writable s i c) (done (i + sizeOf (kindOf (c .fields)) ∷ [])) (refused 9)
+writeAnswer s i c = pick (writable s i c) (done ((i + sizeOf (kindOf (c .fields))) ∷ [])) (refused 9)
 
 -- the buffer afterwards
 abbrev pub writeBytes : List ℕ → ℕ → Command → List ℕ

@@ -43,3 +43,15 @@ impl Frame {
         format!("{} unknown", self.op)
     }
 }
+
+#[cfg(test)]
+mod tests {
+    use super::*;
+
+    #[test]
+    fn a_frame_is_laid_out_as_the_script_page_says() {
+        let frame = Frame { op: 30, numbers: vec![1, 0x0203_0405], bytes: vec![9, 8] };
+        assert_eq!(frame.encode(), [30, 2, 0, 0, 0, 1, 2, 3, 4, 5, 0, 2, 9, 8]);
+        assert_eq!((frame.number(0), frame.number(2)), (1, 0));
+    }
+}

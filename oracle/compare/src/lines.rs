@@ -27,3 +27,16 @@ pub fn compare(expected: &str, got: &str) -> bool {
 fn show(line: Option<&str>) -> String {
     line.map_or("no line".to_string(), |line| format!("`{line}`"))
 }
+
+#[cfg(test)]
+mod tests {
+    use super::*;
+
+    #[test]
+    fn a_changed_or_missing_line_differs() {
+        assert!(compare("1\n2\n", "1\n2\n"));
+        assert!(!compare("1\n2\n", "1\n3\n"));
+        assert!(!compare("1\n2\n", "1\n"));
+        assert!(!compare("1\n", "1\n2\n"));
+    }
+}

@@ -8,11 +8,6 @@ mod script;
 
 use std::{env, fs, io, process::ExitCode};
 
-const USAGE: &str = "usage:
-  compare script SEED COUNT SCRIPT_FILE LINES_FILE [OPS]
-      OPS: names with commas between, of 0, 30, 31, 32, unknown, short; all of them if left out
-  compare lines EXPECTED GOT";
-
 fn main() -> ExitCode {
     let words: Vec<String> = env::args().skip(1).collect();
     let words: Vec<&str> = words.iter().map(String::as_str).collect();
@@ -20,12 +15,23 @@ fn main() -> ExitCode {
         ["script", seed, count, script, lines] => write(seed, count, script, lines, None),
         ["script", seed, count, script, lines, ops] => write(seed, count, script, lines, Some(ops)),
         ["lines", expected, got] => compare(expected, got),
-        _ => Err(USAGE.to_string()),
+        _ => Err(usage()),
     };
     done.unwrap_or_else(|why| {
         eprintln!("{why}");
         ExitCode::from(2)
     })
+}
+
+fn usage() -> String {
+    let names: Vec<&str> = script::names().collect();
+    format!(
+        "usage:
+  compare script SEED COUNT SCRIPT_FILE LINES_FILE [OPS]
+      OPS: names with commas between, all of them if left out: {}
+  compare lines EXPECTED GOT",
+        names.join(",")
+    )
 }
 
 fn write(
@@ -50,7 +56,7 @@ fn compare(expected: &str, got: &str) -> Result<ExitCode, String> {
 }
 
 fn number(word: &str) -> Result<u64, String> {
-    word.parse().map_err(|_| format!("{word} is not a number\n{USAGE}"))
+    word.parse().map_err(|_| format!("{word} is not a number\n{}", usage()))
 }
 
 fn create(name: &str) -> Result<io::BufWriter<fs::File>, String> {

@@ -13,6 +13,11 @@ use crate::{
 /// The name that asks for a last frame that is cut.
 const SHORT: &str = "short";
 
+/// All names that a choice may have.
+pub fn names() -> impl Iterator<Item = &'static str> {
+    GROUPS.iter().map(|group| group.name).chain([SHORT])
+}
+
 /// Which groups take part, and whether the script ends inside a frame.
 pub struct Choice {
     groups: Vec<&'static Group>,
@@ -109,5 +114,37 @@ fn miscount(frame: &mut Frame, random: &mut Random) {
         for _ in 0..random.below(most + 1) {
             frame.numbers.push(random.number());
         }
+    }
+}
+
+#[cfg(test)]
+mod tests {
+    use super::*;
+
+    fn written(seed: u64, count: u64, names: Option<&str>) -> (Vec<u8>, String) {
+        let (mut script, mut lines) = (Vec::new(), Vec::new());
+        let plan = Plan { seed, count, choice: Choice::named(names).unwrap() };
+        plan.write(&mut script, &mut lines).unwrap();
+        (script, String::from_utf8(lines).unwrap())
+    }
+
+    #[test]
+    fn a_seed_gives_one_script() {
+        assert_eq!(written(1, 500, None), written(1, 500, None));
+        assert_ne!(written(1, 500, None), written(2, 500, None));
+    }
+
+    #[test]
+    fn a_cut_frame_ends_the_lines() {
+        let (_, lines) = written(1, 500, None);
+        assert_eq!((lines.lines().count(), lines.lines().last()), (501, Some(SHORT)));
+    }
+
+    #[test]
+    fn only_the_named_ops_are_written() {
+        let (_, lines) = written(1, 500, Some("32"));
+        assert_eq!(lines.lines().filter(|line| line.starts_with("32 ")).count(), 500);
+        assert!(Choice::named(Some("short")).is_err());
+        assert!(Choice::named(Some("30,what")).is_err());
     }
 }

@@ -53,8 +53,14 @@ fn window_refuses_in_every_other_state() {
 
 #[test]
 fn throttle_case_p7() {
-    let numbers =
-        Throttle { value: 32, limit: 32, acceleration: 2, deceleration: 2, last: 100, variance: 10 };
+    let numbers = Throttle {
+        value: 32,
+        limit: 32,
+        acceleration: 2,
+        deceleration: 2,
+        last: 100,
+        variance: 10,
+    };
     let mut bench = Bench::new();
     assert_eq!(bench.throttle(numbers, 121), (Throttle { value: 30, ..numbers }, -1));
     assert_eq!(bench.throttle(numbers, 120), (numbers, 0));

@@ -1,0 +1,72 @@
+// The unsequenced window: which groups were delivered, as a base and the marks of 1,024 groups from it on.
+ghost use mathlib.Core.Path.{_≡_};
+ghost use Rattle.window.specs.Window.{Judges, distant, marked, marking};
+use numbers::counters::Group;
+
+const WINDOW: u16 = 1024;
+
+const REACH: u32 = 32768;
+
+pub enum Verdict {
+    Distant,
+    Marked,
+    Taken,
+}
+
+pub struct Judged {
+    pub base: Group,
+    pub words: [u32; 32],
+    pub verdict: Verdict,
+}
+
+// Whether the group is marked in the words.
+fn is_marked(words: [u32; 32], group: Group) -> bool
+    ensures { λ r. ⌜ r ≡ marked words (group .0) ⌝ }
+{
+    let index = group.0 % WINDOW;
+    let word = words[(index / 32) as usize];
+    numbers::bits::is_set(word, (index % 32) as u32)
+}
+
+// An unsequenced arrival's group against the window. The move and the clearing come first, whatever becomes of the packet.
+pub fn judge(base: Group, words: [u32; 32], group: Group) -> Judged
+    ensures { λ r. ⌜ Judges base words group r ⌝ }
+{
+    if is_distant(base, group) {
+        return Judged { base, words, verdict: Verdict::Distant };
+    }
+    let first = group.0 - group.0 % WINDOW;
+    if first != base.0 {
+        let moved = Group(first);
+        let cleared = [0u32; 32];
+        return Judged { base: moved, words: cleared, verdict: Verdict::Taken };
+    }
+    if is_marked(words, group) {
+        return Judged { base, words, verdict: Verdict::Marked };
+    }
+    Judged { base, words, verdict: Verdict::Taken }
+}
+
+// Whether the group lies 32 windows or more past the base; below it, it counts as 65,536 more.
+fn is_distant(base: Group, group: Group) -> bool
+    ensures { λ r. ⌜ r ≡ distant (base .0) (group .0) ⌝ }
+{
+    let low = base.0 as u32;
+    let mut high = group.0 as u32;
+    if high < low {
+        high = high + 65536;
+    }
+    low + REACH <= high
+}
+
+// The words with the group marked: done once it is stored.
+pub fn mark(words: [u32; 32], group: Group) -> [u32; 32]
+    ensures { λ r. ⌜ r ≡ marking words (group .0) ⌝ }
+{
+    let index = group.0 % WINDOW;
+    let place = (index / 32) as usize;
+    let mut marks = words;
+    let word = marks[place];
+    marks[place] = numbers::bits::set(word, (index % 32) as u32);
+    marks
+}
