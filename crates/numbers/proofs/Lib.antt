@@ -1,2 +1,3 @@
 pub mod ModuloLaws
 pub mod BitLaws
+pub mod Trips

@@ -1,7 +1,7 @@
 pub mod Pick
+pub mod Answers
 pub mod Modulo
 pub mod Counters
 pub mod Clock
 pub mod Wrapping
 pub mod Bits
-pub mod Answers

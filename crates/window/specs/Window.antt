@@ -7,6 +7,7 @@ use mathlib.Core.List.{List, [], _∷_}
 use lib.Dec.{ltb, leb, eqb}
 use lib.ListN.{getD, set, replicate}
 use Rattle.numbers.specs.Pick.{pick}
+use Rattle.numbers.specs.Modulo.{minus}
 use Rattle.numbers.specs.Bits.{bit, withBit}
 use Rattle.numbers.specs.Answers.{Answer, done}
 use Rattle.numbers.specs.declared.counters.Group.{Group}
@@ -60,3 +61,7 @@ pub record Judges (b : Group) (ws : List ℕ) (g : Group) (r : Judged) : Type 0 
   pub base : r .base .0 ≡ baseAfter (b .0) ws (g .0)
   pub words : r .words ≡ wordsAfter (b .0) ws (g .0)
   pub answer : answerOf (r .verdict) ≡ answerAfter (b .0) ws (g .0)
+
+-- how far the base moved, in windows of 1,024 groups, past 65,535 to 0
+abbrev pub windowsMoved : ℕ → ℕ → ℕ
+windowsMoved before after = minus 16 after before / 1024
