@@ -32,7 +32,7 @@ pub fn size(kind: u8) -> usize
     if 16 <= kind {
         return 0;
     }
-    SIZES[kind as usize] as usize
+    wide(SIZES[wide(kind)])
 }
 
 // The width in bytes of the number at place j of such a command, 0 where it has none.
@@ -45,5 +45,11 @@ pub fn width(kind: u8, j: usize) -> usize
     if 16 <= j {
         return 0;
     }
-    WIDTHS[16 * (kind as usize) + j] as usize
+    wide(WIDTHS[16 * wide(kind) + j])
+}
+
+fn wide(x: u8) -> usize
+    ensures { λ r. ⌜ r ≡ x ⌝ }
+{
+    x as usize
 }

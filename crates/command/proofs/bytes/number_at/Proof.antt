@@ -1,54 +1,57 @@
+-- The loop adds a byte a turn: n is the number of the bytes passed, and below 256 to their count.
+use mathlib.Core.Path.{_≡_, refl, sym, ap, _∙_}
+use Prim.Native.Nat.{ℕ, suc, _+_, _*_, _-_, _^_, _≤_, _<_}
+use native.Mathlib.Nat.{pow-suc}
+use native.Mathlib.Numerals.{add-one}
+use Rattle.command.specs.Bytes.{numberAt}
+use Rattle.command.proofs.ByteLaws.{pow-3}
+use borrow.Author.Needs.{needs}
+use native.Mathlib.Omega.{arith}
 use Rattle.command.proofs.bytes.number_at.Statement.{statement}
 use Rattle.command.proofs.bytes.number_at.Tie as tie
-use Rattle.command.proofs.bytes.number_at.Reads as reads
-use Rattle.command.proofs.bytes.number_at.Lts as lts
-use Rattle.command.proofs.bytes.wide.Reads as wide-reads
 
 abbrev Inv-loop : tie.InvT-loop
-Inv-loop s at width n₀ j₀ n j = ?
+Inv-loop s at width n₀ j₀ n j = (j ≤ width) × (n ≡ numberAt s at j) × (n < 256 ^ j)
 
 abbrev μ-loop : tie.MeasureT-loop
-μ-loop s at width n₀ j₀ n j = ?
+μ-loop s at width n₀ j₀ n j = width - j
 
--- src/bytes.rt:23:5
 loop-holds : tie.Need-loop-holds Inv-loop μ-loop
-loop-holds c = ?
+unfolding numberAt
+loop-holds c = search needs
 
--- src/bytes.rt:24:13
 mul-n : tie.Need-mul-n Inv-loop μ-loop
-mul-n c = ?
+mul-n c = let h : 256 ^ (c .before .loop .j) ≤ 16777216 = pow-3 (c .before .loop .j) (omega arith) in omega arith
 
--- src/bytes.rt:24:30
 add-wide : tie.Need-add-wide Inv-loop μ-loop
-add-wide c = ?
+add-wide c = search needs
 
--- src/bytes.rt:24:28
 shared-slice-read-wide : tie.Need-shared-slice-read-wide Inv-loop μ-loop
-shared-slice-read-wide c = ?
+shared-slice-read-wide c = search needs
 
--- src/bytes.rt:24:23
 wide-requires : tie.Need-wide-requires Inv-loop μ-loop
-wide-requires c κs = ?
+wide-requires c κs = search needs
 
--- src/bytes.rt:24:13
 add-n : tie.Need-add-n Inv-loop μ-loop
-add-n c = ?
+add-n c = let h : 256 ^ (c .before .before .before .loop .j) ≤ 16777216 = pow-3 (c .before .before .before .loop .j) (omega arith) in omega arith
 
--- src/bytes.rt:25:13
 add-j : tie.Need-add-j Inv-loop μ-loop
-add-j c = ?
+add-j c = search needs
 
--- src/bytes.rt:23:5
 loop-less : tie.Need-loop-less Inv-loop μ-loop
-loop-less c = ?
+loop-less c = search needs
 
--- src/bytes.rt:23:5
 loop-again : tie.Need-loop-again Inv-loop μ-loop
-loop-again c = ?
+unfolding numberAt
+loop-again c =
+    let j = c .before .before .before .loop .j in
+    (omega arith, rw add-one (omega arith), rw (add-one, pow-suc 256 j) (omega arith))
 
--- src/bytes.rt:17:1
 returns : tie.Need-returns Inv-loop μ-loop
-returns c = ?
+returns c =
+    let l = c .before .loop in
+    let e : l .j ≡ c .before .before .before .args .width = omega arith in
+    (rw e at (l .inv .1), rw e at (l .inv .2))
 
 pub number-at-spec : {M : Type 1} → statement M
 number-at-spec =

@@ -1,49 +1,51 @@
+-- The loop sets a byte a turn, the last first: what is still to be put conserves the whole.
+use mathlib.Core.Path.{_≡_, refl, sym, ap, _∙_}
+use Prim.Native.Nat.{ℕ, suc, _+_, _*_, _-_, _/_, _%_, _≤_, _<_}
+use lib.ListN.{length, length-set}
+use Rattle.command.specs.Bytes.{putNumber}
+use Rattle.command.proofs.ByteLaws.{put-set, put-turn}
+use borrow.Author.Needs.{needs}
+use native.Mathlib.Omega.{arith}
 use Rattle.command.proofs.bytes.put_number.Statement.{statement}
 use Rattle.command.proofs.bytes.put_number.Tie as tie
-use Rattle.command.proofs.bytes.put_number.Reads as reads
-use Rattle.command.proofs.bytes.put_number.Lts as lts
 
 abbrev Inv-loop : tie.InvT-loop
-Inv-loop out₀ at width x rest₀ j₀ out rest j = ?
+Inv-loop out₀ at width x rest₀ j₀ out rest j = (j ≤ width) × (length out ≡ length out₀) × (putNumber out at j rest ≡ putNumber out₀ at width x)
 
 abbrev μ-loop : tie.MeasureT-loop
-μ-loop out₀ at width x rest₀ j₀ out rest j = ?
+μ-loop out₀ at width x rest₀ j₀ out rest j = j
 
--- src/bytes.rt:37:5
 loop-holds : tie.Need-loop-holds Inv-loop μ-loop
-loop-holds c = ?
+loop-holds c = search needs
 
--- src/bytes.rt:38:13
 sub-j : tie.Need-sub-j Inv-loop μ-loop
-sub-j c = ?
+sub-j c = search needs
 
--- src/bytes.rt:39:23
 cast-out : tie.Need-cast-out Inv-loop μ-loop
-cast-out c = ?
+cast-out c = search needs
 
--- src/bytes.rt:39:13
 add-out : tie.Need-add-out Inv-loop μ-loop
-add-out c = ?
+add-out c = search needs
 
--- src/bytes.rt:39:9
 slice-write-out : tie.Need-slice-write-out Inv-loop μ-loop
-slice-write-out c = ?
+slice-write-out c = search needs
 
--- src/bytes.rt:37:5
 loop-less : tie.Need-loop-less Inv-loop μ-loop
-loop-less c = ?
+loop-less c = search needs
 
--- src/bytes.rt:37:5
 loop-again : tie.Need-loop-again Inv-loop μ-loop
-loop-again c = ?
+loop-again c =
+    let l = c .before .loop in
+    (omega arith, simp length-set (omega arith), sym (put-turn (l .out) (c .before .before .args .at) (l .j) (l .rest) (omega arith)) ∙ l .inv .2)
 
--- src/bytes.rt:31:1
 same-length : tie.Need-same-length Inv-loop μ-loop
-same-length c = ?
+same-length c = search needs
 
--- src/bytes.rt:31:1
 returns : tie.Need-returns Inv-loop μ-loop
-returns c = ?
+unfolding putNumber
+returns c =
+    let z : c .before .loop .j ≡ 0 = omega arith in
+    rw z at (c .before .loop .inv .2)
 
 pub put-number-spec : {M : Type 1} → statement M
 put-number-spec =

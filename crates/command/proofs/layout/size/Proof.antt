@@ -1,24 +1,31 @@
+-- The size of each command is the sum of its widths: one computed test over the table, and an empty layout past it.
+use mathlib.Core.Path.{_≡_, refl, sym, _∙_}
+use Rattle.command.specs.Layout.{layout, total, sizeOf}
+use Rattle.command.proofs.BoolLaws.{entry}
+use Rattle.command.proofs.LayoutLaws.{size-none, not-known}
+use native.Mathlib.Omega.{arith}
 use borrow.Author.Needs.{needs}
 use Rattle.command.proofs.layout.size.Statement.{statement}
 use Rattle.command.proofs.layout.size.Tie as tie
-use Rattle.command.proofs.layout.size.Reads as reads
-use Rattle.command.proofs.layout.size.Lts as lts
 
--- src/layout.rt:33:9
 returns : tie.Need-returns
-returns c = ?
+returns c = sym (size-none (c .before .args .kind) (not-known (c .before .args .kind) (omega arith)))
 
--- src/layout.rt:35:5
-array-read-result : tie.Need-array-read-result
-array-read-result c = search needs
+wide-requires : tie.Need-wide-requires
+wide-requires c κs = search needs
 
--- src/layout.rt:35:5
-cast-result : tie.Need-cast-result
-cast-result c = ?
+array-read-wide : tie.Need-array-read-wide
+array-read-wide c = search needs
 
--- src/layout.rt:29:1
+wide-requires-2 : tie.Need-wide-requires-2
+wide-requires-2 c κs = search needs
+
 returns-2 : tie.Need-returns-2
-returns-2 c = ?
+unfolding layout total
+returns-2 c =
+    let k = c .before .before .before .args .kind in
+    let e : c .before .wide .result ≡ k = c .before .wide .ensures in
+    c .wide2 .ensures ∙ (rw e (entry sizeOf 16 k (omega arith)))
 
 pub size-spec : {M : Type 1} → statement M
-size-spec = tie.close (tie.spec returns array-read-result cast-result returns-2)
+size-spec = tie.close (tie.spec returns wide-requires array-read-wide wide-requires-2 returns-2)

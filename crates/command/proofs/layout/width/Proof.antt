@@ -1,38 +1,59 @@
+-- The width at each place of each command: one computed test over the table, and none past it.
+use mathlib.Core.Path.{_≡_, refl, sym, ap, _∙_}
+use Prim.Native.Nat.{ℕ, _+_, _*_, _/_, _%_}
+use lib.ListN.{length, getD, List·getD-eq-default}
+use mathlib.Core.List.{List}
+use Rattle.command.specs.Layout.{layout, widthOf}
+use Rattle.command.proofs.BoolLaws.{entry}
+use Rattle.command.proofs.LayoutLaws.{layout-none, not-known, layout-length}
+use native.Mathlib.Omega.{arith}
 use borrow.Author.Needs.{needs}
 use Rattle.command.proofs.layout.width.Statement.{statement}
 use Rattle.command.proofs.layout.width.Tie as tie
-use Rattle.command.proofs.layout.width.Reads as reads
-use Rattle.command.proofs.layout.width.Lts as lts
 
--- src/layout.rt:43:9
 returns : tie.Need-returns
-returns c = ?
+returns c = sym (ap (λ (ws : List ℕ). getD ws (c .before .args .j) 0) (layout-none (c .before .args .kind) (not-known (c .before .args .kind) (omega arith))))
 
--- src/layout.rt:46:9
 returns-2 : tie.Need-returns-2
-returns-2 c = ?
+returns-2 c =
+    let k = c .before .before .args .kind in
+    let h = layout-length k in
+    sym (List·getD-eq-default (layout k) 0 {n = c .before .before .args .j} (omega arith))
 
--- src/layout.rt:48:12
-mul-result : tie.Need-mul-result
-mul-result c = search needs
+wide-requires : tie.Need-wide-requires
+wide-requires c κs = search needs
 
--- src/layout.rt:48:12
-add-result : tie.Need-add-result
-add-result c = search needs
+mul-wide : tie.Need-mul-wide
+mul-wide c = search needs
 
--- src/layout.rt:48:5
-array-read-result : tie.Need-array-read-result
-array-read-result c = search needs
+add-wide : tie.Need-add-wide
+add-wide c = search needs
 
--- src/layout.rt:48:5
-cast-result : tie.Need-cast-result
-cast-result c = ?
+array-read-wide : tie.Need-array-read-wide
+array-read-wide c = search needs
 
--- src/layout.rt:39:1
+wide-requires-2 : tie.Need-wide-requires-2
+wide-requires-2 c κs = search needs
+
 returns-3 : tie.Need-returns-3
-returns-3 c = ?
+unfolding layout
+returns-3 c =
+    let k = c .before .before .before .before .args .kind in
+    let j = c .before .before .before .before .args .j in
+    let e : c .before .wide .result ≡ k = c .before .wide .ensures in
+    let p : (16 * k + j) / 16 ≡ k = omega arith in
+    let q : (16 * k + j) % 16 ≡ j = omega arith in
+    c .wide2 .ensures ∙ rw e (entry (λ n. widthOf (n / 16) (n % 16)) 256 (16 * k + j) (omega arith) ∙ rw (p, q))
 
 pub width-spec : {M : Type 1} → statement M
 width-spec =
     tie.close
-    (tie.spec returns returns-2 mul-result add-result array-read-result cast-result returns-3)
+    (tie.spec
+    returns
+    returns-2
+    wide-requires
+    mul-wide
+    add-wide
+    array-read-wide
+    wide-requires-2
+    returns-3)

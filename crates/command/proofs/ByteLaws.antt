@@ -1,0 +1,107 @@
+-- A number in bytes: its length and its other bytes stay, what is put is read, and what is read is put back.
+-- The argument: induction on the width, a byte at a time.
+use mathlib.Core.Path.{_≡_, refl, ap, _∙_, sym}
+use mathlib.Core.List.{List, [], _∷_, _++_}
+use Prim.Native.Nat.{ℕ, zero, suc, _+_, _-_, _*_, _/_, _%_, _^_, _≤_, _<_}
+use native.Mathlib.Nat.{pow-suc}
+use native.Mathlib.Omega.{arith}
+use lib.ListN.{length, getD, set, length-set, take, drop}
+use lib.Seq.{set-comm, getD-set-same, getD-set-other, set-getD, take-suc, getD-drop}
+use Rattle.command.specs.Bytes.{numberAt, putNumber}
+
+abbrev pub Bytes : List ℕ → Type 0
+Bytes s = (j : ℕ) → getD s j 0 < 256
+
+pub put-length : (s : List ℕ) (i w x : ℕ) → length (putNumber s i w x) ≡ length s
+unfolding putNumber
+put-length s i zero x = refl
+put-length s i (suc w) x = length-set (putNumber s i w (x / 256)) (i + w) (x % 256) ∙ put-length s i w (x / 256)
+
+-- a byte above the number may be set before it or after it
+pub put-set : (s : List ℕ) (i w x p b : ℕ) → i + w ≤ p → putNumber (set s p b) i w x ≡ set (putNumber s i w x) p b
+unfolding putNumber
+put-set s i zero x p b h = refl
+put-set s i (suc w) x p b h =
+    ap (λ (l : List ℕ). set l (i + w) (x % 256)) (put-set s i w (x / 256) p b (omega arith))
+    ∙ set-comm (putNumber s i w (x / 256)) p (i + w) b (x % 256) (λ e. omega arith)
+
+pub put-below : (s : List ℕ) (i w x j : ℕ) → j < i → getD (putNumber s i w x) j 0 ≡ getD s j 0
+unfolding putNumber
+put-below s i zero x j h = refl
+put-below s i (suc w) x j h =
+    getD-set-other (putNumber s i w (x / 256)) (i + w) j (x % 256) 0 (λ e. omega arith) ∙ put-below s i w (x / 256) j h
+
+pub put-above : (s : List ℕ) (i w x j : ℕ) → i + w ≤ j → getD (putNumber s i w x) j 0 ≡ getD s j 0
+unfolding putNumber
+put-above s i zero x j h = refl
+put-above s i (suc w) x j h =
+    getD-set-other (putNumber s i w (x / 256)) (i + w) j (x % 256) 0 (λ e. omega arith)
+    ∙ put-above s i w (x / 256) j (omega arith)
+
+-- only the bytes of the number count
+pub number-same : (s t : List ℕ) (i w : ℕ) → ((j : ℕ) → j < i + w → getD s j 0 ≡ getD t j 0) → numberAt s i w ≡ numberAt t i w
+unfolding numberAt
+number-same s t i zero e = refl
+number-same s t i (suc w) e =
+    let h : numberAt s i w ≡ numberAt t i w = number-same s t i w (λ j l. e j (omega arith)) in
+    omega (arith, e (i + w) (omega arith))
+
+pub number-lt : (s : List ℕ) (i w : ℕ) → Bytes s → numberAt s i w < 256 ^ w
+unfolding numberAt
+number-lt s i zero b = rw (native.Mathlib.Nat.pow-zero) (omega arith)
+number-lt s i (suc w) b = rw (pow-suc 256 w) (omega (arith, number-lt s i w b, b (i + w)))
+
+pub number-put : (s : List ℕ) (i w x : ℕ) → x < 256 ^ w → i + w ≤ length s → numberAt (putNumber s i w x) i w ≡ x
+unfolding numberAt putNumber
+number-put s i zero x l h = omega (arith, rw (native.Mathlib.Nat.pow-zero) at l)
+number-put s i (suc w) x l h =
+    let p = putNumber s i w (x / 256) in
+    let q : numberAt (set p (i + w) (x % 256)) i w ≡ numberAt p i w =
+        number-same (set p (i + w) (x % 256)) p i w (λ j k. getD-set-other p (i + w) j (x % 256) 0 (λ e. omega arith))
+    in
+    let r : x < 256 ^ w * 256 = rw (pow-suc 256 w) at l in
+    let n : numberAt p i w ≡ x / 256 = number-put s i w (x / 256) (omega arith) (omega arith) in
+    let g : getD (set p (i + w) (x % 256)) (i + w) 0 ≡ x % 256 =
+        getD-set-same p (i + w) (x % 256) 0 (omega (arith, put-length s i w (x / 256)))
+    in
+    omega arith
+
+pub put-number : (s : List ℕ) (i w : ℕ) → Bytes s → putNumber s i w (numberAt s i w) ≡ s
+unfolding numberAt putNumber
+put-number s i zero b = refl
+put-number s i (suc w) b =
+    let l = b (i + w) in
+    let hi : (numberAt s i w * 256 + getD s (i + w) 0) / 256 ≡ numberAt s i w = omega arith in
+    let lo : (numberAt s i w * 256 + getD s (i + w) 0) % 256 ≡ getD s (i + w) 0 = omega arith in
+    rw (hi, lo, put-number s i w b) (set-getD s (i + w) 0)
+
+-- equal numbers have equal bytes
+pub number-bytes :
+    (s t : List ℕ) (i j w : ℕ) → Bytes s → Bytes t → i + w ≤ length s → j + w ≤ length t
+    → numberAt s i w ≡ numberAt t j w → take w (drop i s) ≡ take w (drop j t)
+unfolding numberAt
+number-bytes s t i j zero bs bt hs ht e = refl
+number-bytes s t i j (suc w) bs bt hs ht e =
+    let ls = bs (i + w) in
+    let lt = bt (j + w) in
+    let n : numberAt s i w ≡ numberAt t j w = omega arith in
+    let g : getD s (i + w) 0 ≡ getD t (j + w) 0 = omega arith in
+    let us : w < length (drop i s) = rw (lib.ListN.length-drop i s) (omega arith) in
+    let ut : w < length (drop j t) = rw (lib.ListN.length-drop j t) (omega arith) in
+    let r : take w (drop i s) ≡ take w (drop j t) = number-bytes s t i j w bs bt (omega arith) (omega arith) n in
+    rw (take-suc (drop i s) w 0 us, take-suc (drop j t) w 0 ut, getD-drop i s w 0, getD-drop j t w 0, g, r)
+
+-- a turn of the loop that puts a number: the last byte first, and the rest before it
+pub put-turn : (s : List ℕ) (i j x : ℕ) → 0 < j → putNumber s i j x ≡ putNumber (set s (i + (j - 1)) (x % 256)) i (j - 1) (x / 256)
+unfolding putNumber
+put-turn s i zero x h = absurd (omega arith)
+put-turn s i (suc j) x h =
+    let e : suc j - 1 ≡ j = omega arith in
+    rw e (sym (put-set s i j (x / 256) (i + j) (x % 256) (omega arith)))
+
+pub pow-3 : (j : ℕ) → j < 4 → 256 ^ j ≤ 16777216
+pow-3 zero h = omega arith
+pow-3 (suc zero) h = omega arith
+pow-3 (suc (suc zero)) h = omega arith
+pow-3 (suc (suc (suc zero))) h = omega arith
+pow-3 (suc (suc (suc (suc j)))) h = absurd (omega arith)

@@ -1,0 +1,4 @@
+pub mod BoolLaws
+pub mod LayoutLaws
+pub mod ByteLaws
+pub mod RowLaws

@@ -1,0 +1,79 @@
+// Lines: decimal numbers and words with one space between, gathered in a lent buffer.
+use libc::STDOUT_FILENO;
+
+// Writes what is gathered; the answer is the new count, 0.
+pub fn flush(out: &[u8], used: usize) -> usize {
+    if used <= out.len() {
+        io::write_all(STDOUT_FILENO, &out[0..used]);
+    }
+    0
+}
+
+// A line may be longer than the buffer: a full buffer is written.
+fn room(out: &[u8], used: usize) -> usize {
+    if used < out.len() {
+        used
+    } else {
+        flush(out, used)
+    }
+}
+
+fn byte(out: &mut [u8], used: usize, b: u8) -> usize {
+    let at = room(out, used);
+    if at < out.len() {
+        out[at] = b;
+        at + 1
+    } else {
+        at
+    }
+}
+
+fn text(out: &mut [u8], used: usize, s: &[u8]) -> usize {
+    let mut count = used;
+    let mut i = 0;
+    while i < s.len() {
+        count = byte(out, count, s[i]);
+        i += 1;
+    }
+    count
+}
+
+fn decimal(out: &mut [u8], used: usize, n: u64) -> usize {
+    let mut digits = [0u8; 20];
+    let k = io::decimal(n, &mut digits);
+    text(out, used, &digits[..k])
+}
+
+// The op begins its line.
+pub fn begin(out: &mut [u8], used: usize, op: u8) -> usize {
+    decimal(out, used, op as u64)
+}
+
+pub fn value(out: &mut [u8], used: usize, n: u64) -> usize {
+    let count = byte(out, used, b' ');
+    decimal(out, count, n)
+}
+
+pub fn end(out: &mut [u8], used: usize) -> usize {
+    byte(out, used, b'\n')
+}
+
+// The line of the op alone.
+pub fn plain(out: &mut [u8], used: usize, op: u8) -> usize {
+    let count = begin(out, used, op);
+    end(out, count)
+}
+
+// The line of the op and a word.
+pub fn worded(out: &mut [u8], used: usize, op: u8, word: &[u8]) -> usize {
+    let begun = begin(out, used, op);
+    let spaced = byte(out, begun, b' ');
+    let said = text(out, spaced, word);
+    end(out, said)
+}
+
+// The input ended inside a frame.
+pub fn short(out: &mut [u8], used: usize) -> usize {
+    let said = text(out, used, b"short");
+    end(out, said)
+}

@@ -1,0 +1,44 @@
+// Op 0: the settings for the calls that follow.
+use crate::frame;
+
+// The store's length; a larger one does not fit.
+const STORE: u32 = 49152;
+
+pub struct Settings {
+    pub mtu: u32,
+    pub packet: u32,
+    pub waiting: u32,
+    pub is_checked: bool,
+    pub store: u32,
+}
+
+pub enum Asked {
+    Fit(Settings),
+    Bad,
+}
+
+pub fn first() -> Settings {
+    Settings {
+        mtu: numbers::consts::HOST_DEFAULT_MTU,
+        packet: numbers::consts::HOST_DEFAULT_MAXIMUM_PACKET_SIZE,
+        waiting: numbers::consts::HOST_DEFAULT_MAXIMUM_WAITING_DATA,
+        is_checked: false,
+        store: STORE,
+    }
+}
+
+pub fn of(frame: &[u8]) -> Asked {
+    let checksum = frame::number(frame, 3);
+    if 1 < checksum {
+        return Asked::Bad;
+    }
+    let store = frame::number(frame, 4);
+    if STORE < store {
+        return Asked::Bad;
+    }
+    let mtu = frame::number(frame, 0);
+    let packet = frame::number(frame, 1);
+    let waiting = frame::number(frame, 2);
+    let is_checked = checksum == 1;
+    Asked::Fit(Settings { mtu, packet, waiting, is_checked, store })
+}
