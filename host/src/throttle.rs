@@ -15,7 +15,7 @@ fn number(random: &mut Random) -> u32 {
     match random.below(4) {
         0 => random.pick(&EDGES),
         1 => random.below(8) as u32,
-        2 => random.below(300) as u32,
+        2 => random.up_to(300),
         _ => random.number(),
     }
 }
