@@ -1,11 +1,11 @@
 -- A number in bytes: its length and its other bytes stay, what is put is read, and what is read is put back.
 -- The argument: induction on the width, a byte at a time.
 use mathlib.Core.Path.{_≡_, refl, ap, _∙_, sym}
-use mathlib.Core.List.{List, [], _∷_, _++_}
+use mathlib.Core.List.{List}
 use Prim.Native.Nat.{ℕ, zero, suc, _+_, _-_, _*_, _/_, _%_, _^_, _≤_, _<_}
-use native.Mathlib.Nat.{pow-suc}
+use native.Mathlib.Nat.{pow-zero, pow-suc}
 use native.Mathlib.Omega.{arith}
-use lib.ListN.{length, getD, set, length-set, take, drop}
+use lib.ListN.{length, getD, set, length-set, take, drop, length-drop}
 use lib.Seq.{set-comm, getD-set-same, getD-set-other, set-getD, take-suc, getD-drop}
 use Rattle.command.specs.Bytes.{numberAt, putNumber}
 
@@ -48,12 +48,12 @@ number-same s t i (suc w) e =
 
 pub number-lt : (s : List ℕ) (i w : ℕ) → Bytes s → numberAt s i w < 256 ^ w
 unfolding numberAt
-number-lt s i zero b = rw (native.Mathlib.Nat.pow-zero) (omega arith)
+number-lt s i zero b = rw (pow-zero 256) (omega arith)
 number-lt s i (suc w) b = rw (pow-suc 256 w) (omega (arith, number-lt s i w b, b (i + w)))
 
 pub number-put : (s : List ℕ) (i w x : ℕ) → x < 256 ^ w → i + w ≤ length s → numberAt (putNumber s i w x) i w ≡ x
 unfolding numberAt putNumber
-number-put s i zero x l h = omega (arith, rw (native.Mathlib.Nat.pow-zero) at l)
+number-put s i zero x l h = omega (arith, rw (pow-zero 256) at l)
 number-put s i (suc w) x l h =
     let p = putNumber s i w (x / 256) in
     let q : numberAt (set p (i + w) (x % 256)) i w ≡ numberAt p i w =
@@ -86,8 +86,8 @@ number-bytes s t i j (suc w) bs bt hs ht e =
     let lt = bt (j + w) in
     let n : numberAt s i w ≡ numberAt t j w = omega arith in
     let g : getD s (i + w) 0 ≡ getD t (j + w) 0 = omega arith in
-    let us : w < length (drop i s) = rw (lib.ListN.length-drop i s) (omega arith) in
-    let ut : w < length (drop j t) = rw (lib.ListN.length-drop j t) (omega arith) in
+    let us : w < length (drop i s) = rw (length-drop i s) (omega arith) in
+    let ut : w < length (drop j t) = rw (length-drop j t) (omega arith) in
     let r : take w (drop i s) ≡ take w (drop j t) = number-bytes s t i j w bs bt (omega arith) (omega arith) n in
     rw (take-suc (drop i s) w 0 us, take-suc (drop j t) w 0 ut, getD-drop i s w 0, getD-drop j t w 0, g, r)
 
@@ -105,3 +105,14 @@ pow-3 (suc zero) h = omega arith
 pow-3 (suc (suc zero)) h = omega arith
 pow-3 (suc (suc (suc zero))) h = omega arith
 pow-3 (suc (suc (suc (suc j)))) h = absurd (omega arith)
+
+pub pow-4 : (w : ℕ) → 4 ≤ w → 2 ^ 32 ≤ 256 ^ w
+pow-4 zero h = absurd (omega arith)
+pow-4 (suc zero) h = absurd (omega arith)
+pow-4 (suc (suc zero)) h = absurd (omega arith)
+pow-4 (suc (suc (suc zero))) h = absurd (omega arith)
+pow-4 (suc (suc (suc (suc w)))) h = rw (pow-suc 256 (suc (suc (suc w))), pow-suc 256 (suc (suc w)), pow-suc 256 (suc w), pow-suc 256 w) (omega (arith, pos w))
+  where
+  pos : (n : ℕ) → 0 < 256 ^ n
+  pos zero = omega arith
+  pos (suc n) = rw pow-suc (omega (arith, pos n))

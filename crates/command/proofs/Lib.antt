@@ -2,3 +2,8 @@ pub mod BoolLaws
 pub mod LayoutLaws
 pub mod ByteLaws
 pub mod RowLaws
+pub mod ShapeLaws
+pub mod ReadLaws
+pub mod WriteLaws
+pub mod RoundTrip
+pub mod Answers

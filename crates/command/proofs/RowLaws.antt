@@ -1,13 +1,13 @@
 -- A row of numbers in bytes, a number at a time: the steps of the loops over a row, and a row with zeros at its end.
 -- The argument: induction on the place, the widths and the row.
 use mathlib.Core.Path.{_≡_, refl, ap, _∙_, sym}
-use mathlib.Core.Bool.{Bool, true, false}
+use mathlib.Core.Bool.{Bool, true}
 use mathlib.Core.List.{List, [], _∷_, _++_, append-assoc}
-use Prim.Native.Nat.{ℕ, zero, suc, _+_, _-_, _*_, _^_, _≤_, _<_}
+use Prim.Native.Nat.{ℕ, zero, suc, _+_, _-_, _^_, _≤_, _<_}
 use native.Mathlib.Numerals.{add-one}
 use native.Mathlib.Omega.{arith}
 use lib.Dec.{eqb, ltb, leb}
-use lib.ListN.{length, getD, take, drop, set}
+use lib.ListN.{length, getD, take, drop, set, drop-of-length-le}
 use lib.Seq.{take-suc-set}
 use borrow.Author.Tests.{leb-true, ne-eqb, lt-ltb}
 use Rattle.numbers.specs.Pick.{pick, both}
@@ -68,7 +68,7 @@ fits-step (w ∷ ws) (x ∷ xs) (suc j) n h =
 
 pub fits-end : (ws xs : List ℕ) (j : ℕ) → length ws ≤ j → fits (drop j ws) xs ≡ true
 unfolding fits
-fits-end ws xs j h = rw (lib.ListN.drop-of-length-le ws {i = j} h)
+fits-end ws xs j h = rw (drop-of-length-le ws {i = j} h)
 
 pub row-length : (s ws : List ℕ) (i : ℕ) → length (rowAt s i ws) ≡ length ws
 unfolding rowAt
@@ -114,9 +114,14 @@ pub row-turn :
 row-turn s ws row p w j x e f h l =
     let n : 16 - j ≡ suc (16 - suc j) = omega arith in
     let q : x ≡ numberAt s p (getD ws j 0) = f ∙ ap (numberAt s p) e in
-    rw (add-one, add-one, take-suc-set row j x h, n, row-step s ws p j (16 - suc j), append-assoc, ← e, ← f)
+    rw (add-one, take-suc-set row j x h, n, row-step s ws p j (16 - suc j), append-assoc, ← e, ← f)
 
 pub put-turn :
     (s ws row : List ℕ) (p w j : ℕ) (t : List ℕ) → w ≡ getD ws j 0 → t ≡ putNumber s p w (getD row j 0) → j < length row
     → putRow t (p + w) (drop (j + 1) ws) (drop (j + 1) row) ≡ putRow s p (drop j ws) (drop j row)
 put-turn s ws row p w j t e f h = rw (add-one, f, e) (sym (put-step s ws row p j h))
+
+pub fits-turn :
+    (ws xs : List ℕ) (j w : ℕ) (r : Bool) → narrow ws ≡ true → j < length xs → w ≡ getD ws j 0 → r ≡ within (getD xs j 0) w
+    → fits (drop j ws) (drop j xs) ≡ both r (fits (drop (j + 1) ws) (drop (j + 1) xs))
+fits-turn ws xs j w r n h e f = rw (add-one, f, e) (fits-step ws xs j n h)

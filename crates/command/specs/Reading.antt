@@ -1,7 +1,7 @@
 -- The reader: 9 for "command 0 or 13 to 15, or bytes short", nothing else; the whole command byte is kept.
 use Prim.Native.Nat.{ℕ, _+_, _%_}
 use mathlib.Core.Bool.{Bool}
-use mathlib.Core.List.{List, [], _∷_}
+use mathlib.Core.List.{List, _∷_}
 use lib.Dec.{leb}
 use lib.ListN.{length, getD}
 use Rattle.numbers.specs.Pick.{pick, both}

@@ -1,4 +1,5 @@
--- The fields of a kind from a row's numbers 3 and on, each cut to its width: what `build` makes before it knows that nothing was cut.
+-- The fields of a kind from a row's numbers 3 and on, with the narrow numbers cut by two given functions.
+-- `build` cuts each to its width before it knows that nothing is lost; with nothing cut it is the inverse of `fieldsRow`.
 use Prim.Native.Nat.{ℕ, _%_}
 use mathlib.Core.List.{List, [], _∷_}
 use lib.ListN.{getD}
@@ -7,40 +8,48 @@ use Rattle.command.specs.declared.fields.Fragment.{Fragment}
 use Rattle.command.specs.declared.fields.Fields.{Fields}
 use Rattle.command.specs.declared.fields.Fields.the-variants as vr
 
-abbrev pub at8 : List ℕ → ℕ → ℕ
-at8 xs j = getD xs j 0 % 256
-
-abbrev pub at16 : List ℕ → ℕ → ℕ
-at16 xs j = getD xs j 0 % 65536
-
-abbrev pub at32 : List ℕ → ℕ → ℕ
-at32 xs j = getD xs j 0
-
-unfoldable pub connectFrom : List ℕ → Connect
-connectFrom xs =
+unfoldable pub connectBy : (ℕ → ℕ) → (ℕ → ℕ) → List ℕ → Connect
+connectBy low8 low16 xs =
     record {
-    peer = at16 xs 3; «incoming_session» = at8 xs 4; «outgoing_session» = at8 xs 5; mtu = at32 xs 6; window = at32 xs 7; channels = at32 xs 8;
-    «incoming_bandwidth» = at32 xs 9; «outgoing_bandwidth» = at32 xs 10; interval = at32 xs 11; acceleration = at32 xs 12; deceleration = at32 xs 13; id = at32 xs 14 }
+    peer = low16 (getD xs 3 0); «incoming_session» = low8 (getD xs 4 0); «outgoing_session» = low8 (getD xs 5 0); mtu = getD xs 6 0;
+    window = getD xs 7 0; channels = getD xs 8 0; «incoming_bandwidth» = getD xs 9 0; «outgoing_bandwidth» = getD xs 10 0;
+    interval = getD xs 11 0; acceleration = getD xs 12 0; deceleration = getD xs 13 0; id = getD xs 14 0 }
 
-unfoldable pub fragmentFrom : List ℕ → Fragment
-fragmentFrom xs = record { length = at16 xs 4; count = at32 xs 5; number = at32 xs 6; total = at32 xs 7; offset = at32 xs 8 }
+unfoldable pub fragmentBy : (ℕ → ℕ) → List ℕ → Fragment
+fragmentBy low16 xs =
+    record { length = low16 (getD xs 4 0); count = getD xs 5 0; number = getD xs 6 0; total = getD xs 7 0; offset = getD xs 8 0 }
 
 -- a line a kind, as in the table of the layout
-unfoldable pub shaped : ℕ → List ℕ → Fields
-shaped k xs =
+unfoldable pub shapedBy : (ℕ → ℕ) → (ℕ → ℕ) → ℕ → List ℕ → Fields
+shapedBy low8 low16 k xs =
     getD
     (vr.Ping
-    ∷ vr.Acknowledge (record { 0 = at16 xs 3 }) (at16 xs 4)
-    ∷ vr.Connect (connectFrom xs) (at32 xs 15)
-    ∷ vr.VerifyConnect (connectFrom xs)
-    ∷ vr.Disconnect (at32 xs 3)
+    ∷ vr.Acknowledge (record { 0 = low16 (getD xs 3 0) }) (low16 (getD xs 4 0))
+    ∷ vr.Connect (connectBy low8 low16 xs) (getD xs 15 0)
+    ∷ vr.VerifyConnect (connectBy low8 low16 xs)
+    ∷ vr.Disconnect (getD xs 3 0)
     ∷ vr.Ping
-    ∷ vr.SendReliable (at16 xs 3)
-    ∷ vr.SendUnreliable (record { 0 = at16 xs 3 }) (at16 xs 4)
-    ∷ vr.SendFragment (record { 0 = at16 xs 3 }) (fragmentFrom xs)
-    ∷ vr.SendUnsequenced (record { 0 = at16 xs 3 }) (at16 xs 4)
-    ∷ vr.BandwidthLimit (at32 xs 3) (at32 xs 4)
-    ∷ vr.ThrottleConfigure (at32 xs 3) (at32 xs 4) (at32 xs 5)
-    ∷ vr.SendUnreliableFragment (record { 0 = at16 xs 3 }) (fragmentFrom xs)
+    ∷ vr.SendReliable (low16 (getD xs 3 0))
+    ∷ vr.SendUnreliable (record { 0 = low16 (getD xs 3 0) }) (low16 (getD xs 4 0))
+    ∷ vr.SendFragment (record { 0 = low16 (getD xs 3 0) }) (fragmentBy low16 xs)
+    ∷ vr.SendUnsequenced (record { 0 = low16 (getD xs 3 0) }) (low16 (getD xs 4 0))
+    ∷ vr.BandwidthLimit (getD xs 3 0) (getD xs 4 0)
+    ∷ vr.ThrottleConfigure (getD xs 3 0) (getD xs 4 0) (getD xs 5 0)
+    ∷ vr.SendUnreliableFragment (record { 0 = low16 (getD xs 3 0) }) (fragmentBy low16 xs)
     ∷ [])
     k vr.Ping
+
+abbrev low8 : ℕ → ℕ
+low8 x = x % 256
+
+abbrev low16 : ℕ → ℕ
+low16 x = x % 65536
+
+abbrev pub connectFrom : List ℕ → Connect
+connectFrom = connectBy low8 low16
+
+abbrev pub fragmentFrom : List ℕ → Fragment
+fragmentFrom = fragmentBy low16
+
+abbrev pub shaped : ℕ → List ℕ → Fields
+shaped = shapedBy low8 low16

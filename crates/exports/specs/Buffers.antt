@@ -22,6 +22,18 @@ numbersIn n buffer = rowAt buffer 0 (replicate n 4)
 abbrev pub withNumbers : ℕ → List ℕ → List ℕ → List ℕ
 withNumbers n buffer xs = putRow buffer 0 (replicate n 4) xs
 
+-- six numbers as a throttle
+abbrev pub throttleOf : ℕ → ℕ → ℕ → ℕ → ℕ → ℕ → Throttle
+throttleOf value limit acceleration deceleration last variance =
+    record {
+      value = value;
+      limit = limit;
+      acceleration = acceleration;
+      deceleration = deceleration;
+      last = last;
+      variance = variance;
+    }
+
 -- the throttle: its new value, and 2^32 times 0 held, 1 raised, 2 lowered
 abbrev pub throttleReply : Throttle → ℕ → ℕ
 throttleReply t sample = throttle.valueAfter t sample + 4294967296 * throttle.byTests t sample 0 1 2 0

@@ -1,1 +1,178 @@
 // The window, the throttle and the reader for a host in Rust or C: numbers and byte slices only.
+ghost use mathlib.Core.Path.{_≡_};
+ghost use mathlib.Core.List.{_∷_};
+ghost use Prim.Native.Nat.{_+_, _*_, _≤_, _<_};
+ghost use lib.ListN.{length, replicate};
+ghost use Rattle.command.specs.Bytes.{numberAt, putNumber, putRow};
+ghost use Rattle.command.specs.Rows.{kindOf, pad, rowOf};
+ghost use Rattle.exports.specs.Buffers.{MarkCall, ReadCall, WindowCall, numbersIn, throttleOf, throttleReply, withNumbers};
+ghost use Rattle.exports.specs.Codes.{turnCode, verdictCode};
+use command::fields::Command;
+use command::reader::Reading;
+use numbers::counters::Group;
+use throttle::Throttle;
+use throttle::Turn;
+use window::Verdict;
+
+// The refusal of a buffer of another length.
+const BUFFER: u32 = 11;
+
+const REFUSED: u32 = 9;
+
+// The throttle: its new value, and above 32 bits how it turned.
+#[no_mangle]
+pub extern "C" fn lyn_throttle(
+    value: u32,
+    limit: u32,
+    acceleration: u32,
+    deceleration: u32,
+    last: u32,
+    variance: u32,
+    sample: u32,
+) -> u64
+    ensures { λ r. ⌜ r ≡ throttleReply (throttleOf value limit acceleration deceleration last variance) sample ⌝ }
+{
+    let throttle = Throttle {
+        value,
+        limit,
+        acceleration,
+        deceleration,
+        last,
+        variance,
+    };
+    let rolled = throttle.roll(sample);
+    let next = rolled.throttle;
+    let turn = rolled.turn;
+    next.value as u64 + 4294967296 * turn_code(turn)
+}
+
+fn turn_code(turn: Turn) -> u64
+    ensures { λ r. ⌜ r ≡ turnCode turn ⌝ }
+{
+    match turn {
+        Turn::Held => 0,
+        Turn::Raised => 1,
+        Turn::Lowered => 2,
+    }
+}
+
+// A group against the window in the buffer: the base afterwards, and above 16 bits the verdict.
+#[no_mangle]
+pub extern "C" fn lyn_window(base: u16, group: u16, words: &mut [u8]) -> u32
+    ensures { λ r. ⌜ WindowCall base group (now (words .entry)) r (now (words .exit)) ⌝ }
+{
+    if words.len() != 128 {
+        return BUFFER * 16777216;
+    }
+    let before = read_words(words);
+    let judged = window::judge(Group(base), before, Group(group));
+    let after = judged.words;
+    write_words(words, 0, &after);
+    let moved = judged.base;
+    let verdict = judged.verdict;
+    moved.0 as u32 + 65536 * verdict_code(verdict)
+}
+
+fn verdict_code(verdict: Verdict) -> u32
+    ensures { λ r. ⌜ r ≡ verdictCode verdict ⌝ }
+{
+    match verdict {
+        Verdict::Distant => 0,
+        Verdict::Marked => 1,
+        Verdict::Taken => 2,
+    }
+}
+
+// The group marked in the window of the buffer.
+#[no_mangle]
+pub extern "C" fn lyn_mark(group: u16, words: &mut [u8]) -> u32
+    ensures { λ r. ⌜ MarkCall group (now (words .entry)) r (now (words .exit)) ⌝ }
+{
+    if words.len() == 128 {
+        let marks = read_words(words);
+        let marked = window::mark(marks, Group(group));
+        write_words(words, 0, &marked);
+        return 0;
+    }
+    BUFFER
+}
+
+// The command at a place of the bytes, as 18 numbers.
+#[no_mangle]
+pub extern "C" fn lyn_read(bytes: &[u8], place: usize, row: &mut [u8]) -> u32
+    ensures { λ r. ⌜ ReadCall (now (bytes .entry)) place (now (row .entry)) r (now (row .exit)) ⌝ }
+{
+    if row.len() != 72 {
+        return BUFFER;
+    }
+    let Reading::Found { command, next } = command::reader::read(bytes, place) else {
+        return REFUSED;
+    };
+    put_command(row, next - place, command);
+    0
+}
+
+// A command's size, its kind and its row.
+fn put_command(out: &mut [u8], size: usize, command: Command)
+    requires { ⌜ (length (now out) ≡ 72) × (size < 256) ⌝ }
+    ensures { λ _. ⌜ now (out .exit) ≡ withNumbers 18 (now (out .entry)) (size ∷ kindOf (command .fields) ∷ pad 16 (rowOf command)) ⌝ }
+{
+    put_word(out, 0, size as u32);
+    let fields = command.fields;
+    put_word(out, 4, command::rows::kind(fields) as u32);
+    let row = command::rows::of(command);
+    write_words(out, 8, &row);
+}
+
+// The 32 words of a window's buffer.
+fn read_words(s: &[u8]) -> [u32; 32]
+    requires { ⌜ length (now s) ≡ 128 ⌝ }
+    ensures { λ r. ⌜ r ≡ numbersIn 32 (now (s .entry)) ⌝ }
+{
+    let mut words = [0u32; 32];
+    let mut i: usize = 0;
+    while i < 32 {
+        words[i] = word_at(s, 4 * i);
+        i = i + 1;
+    }
+    words
+}
+
+// The words from `at` on.
+fn write_words(out: &mut [u8], at: usize, words: &[u32])
+    requires { ⌜ at + 4 * length (now words) ≤ length (now out) ⌝ }
+    ensures { λ _. ⌜ now (out .exit) ≡ putRow (now (out .entry)) at (replicate (length (now (words .entry))) 4) (now (words .entry)) ⌝ }
+{
+    let mut i: usize = 0;
+    while i < words.len() {
+        put_word(out, at + 4 * i, words[i]);
+        i = i + 1;
+    }
+}
+
+// The word whose high byte stands at `at`.
+fn word_at(s: &[u8], at: usize) -> u32
+    requires { ⌜ at + 4 ≤ length (now s) ⌝ }
+    ensures { λ r. ⌜ r ≡ numberAt (now (s .entry)) at 4 ⌝ }
+{
+    let high = wide(s[at]) * 256 + wide(s[at + 1]);
+    let low = wide(s[at + 2]) * 256 + wide(s[at + 3]);
+    high * 65536 + low
+}
+
+// The four bytes of x, the high byte first.
+fn put_word(out: &mut [u8], at: usize, x: u32)
+    requires { ⌜ at + 4 ≤ length (now out) ⌝ }
+    ensures { λ _. ⌜ now (out .exit) ≡ putNumber (now (out .entry)) at 4 x ⌝ }
+{
+    out[at] = (x / 256 / 256 / 256 % 256) as u8;
+    out[at + 1] = (x / 256 / 256 % 256) as u8;
+    out[at + 2] = (x / 256 % 256) as u8;
+    out[at + 3] = (x % 256) as u8;
+}
+
+fn wide(x: u8) -> u32
+    ensures { λ r. ⌜ (r ≡ x) × (r < 256) ⌝ }
+{
+    x as u32
+}

@@ -1,6 +1,5 @@
 // Frames: op, count, numbers of 4 bytes, length in 2 bytes, bytes; all big-endian.
-ghost use mathlib.Core.Path.{_≡_};
-ghost use Prim.Native.Nat.{_+_, _-_, _*_, _≤_, _<_};
+ghost use Prim.Native.Nat.{_≤_, _<_};
 ghost use lib.ListN.{length};
 use libc::STDIN_FILENO;
 
@@ -20,11 +19,7 @@ fn wide(x: u8) -> usize
 fn count(frame: &[u8]) -> usize
     ensures { λ r. ⌜ r < 256 ⌝ }
 {
-    if frame.len() < 2 {
-        0
-    } else {
-        wide(frame[1])
-    }
+    if frame.len() < 2 { 0 } else { wide(frame[1]) }
 }
 
 // The bytes of the frame at the start of s, as far as s tells: s has a whole frame where it has so many.
@@ -40,11 +35,7 @@ pub fn size(s: &[u8]) -> usize {
 }
 
 pub fn op(frame: &[u8]) -> u8 {
-    if 0 < frame.len() {
-        frame[0]
-    } else {
-        0
-    }
+    if 0 < frame.len() { frame[0] } else { 0 }
 }
 
 // The number at place j; a missing one reads as 0.

@@ -1,7 +1,7 @@
 // Lines: decimal numbers and words with one space between, gathered in a lent buffer.
 use libc::STDOUT_FILENO;
 
-// Writes what is gathered; the answer is the new count, 0.
+// Writes the bytes in use, which are never more than the buffer has; the answer is the new count, 0.
 pub fn flush(out: &[u8], used: usize) -> usize {
     if used <= out.len() {
         io::write_all(STDOUT_FILENO, &out[0..used]);

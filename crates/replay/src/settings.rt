@@ -1,5 +1,7 @@
 // Op 0: the settings for the calls that follow.
+use crate::bench::Bench;
 use crate::frame;
+use crate::line;
 
 // The store's length; a larger one does not fit.
 const STORE: u32 = 49152;
@@ -12,7 +14,7 @@ pub struct Settings {
     pub store: u32,
 }
 
-pub enum Asked {
+enum Asked {
     Fit(Settings),
     Bad,
 }
@@ -27,7 +29,7 @@ pub fn first() -> Settings {
     }
 }
 
-pub fn of(frame: &[u8]) -> Asked {
+fn of(frame: &[u8]) -> Asked {
     let checksum = frame::number(frame, 3);
     if 1 < checksum {
         return Asked::Bad;
@@ -40,5 +42,25 @@ pub fn of(frame: &[u8]) -> Asked {
     let packet = frame::number(frame, 1);
     let waiting = frame::number(frame, 2);
     let is_checked = checksum == 1;
-    Asked::Fit(Settings { mtu, packet, waiting, is_checked, store })
+    Asked::Fit(Settings {
+        mtu,
+        packet,
+        waiting,
+        is_checked,
+        store,
+    })
+}
+
+pub fn set(frame: &[u8], out: &mut [u8], bench: Bench) -> Bench {
+    let mut after = bench;
+    match of(frame) {
+        Asked::Fit(s) => {
+            after.settings = s;
+            after.used = line::plain(out, bench.used, 0);
+        }
+        Asked::Bad => {
+            after.used = line::worded(out, bench.used, 0, b"bad");
+        }
+    }
+    after
 }

@@ -1,9 +1,9 @@
 -- The loop sets a byte a turn, the last first: what is still to be put conserves the whole.
-use mathlib.Core.Path.{_≡_, refl, sym, ap, _∙_}
-use Prim.Native.Nat.{ℕ, suc, _+_, _*_, _-_, _/_, _%_, _≤_, _<_}
+use mathlib.Core.Path.{_≡_, sym, _∙_}
+use Prim.Native.Nat.{_≤_}
 use lib.ListN.{length, length-set}
 use Rattle.command.specs.Bytes.{putNumber}
-use Rattle.command.proofs.ByteLaws.{put-set, put-turn}
+use Rattle.command.proofs.ByteLaws.{put-turn}
 use borrow.Author.Needs.{needs}
 use native.Mathlib.Omega.{arith}
 use Rattle.command.proofs.bytes.put_number.Statement.{statement}

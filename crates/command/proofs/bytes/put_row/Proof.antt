@@ -1,11 +1,10 @@
 -- The loop puts a number a turn: what is still to be put conserves the whole.
-use mathlib.Core.Path.{_≡_, refl, sym, ap, _∙_}
-use Prim.Native.Nat.{ℕ, suc, _+_, _-_, _≤_}
-use mathlib.Core.List.{List, [], _∷_, _++_}
-use native.Mathlib.Numerals.{add-one}
+use mathlib.Core.Path.{_≡_, sym, ap, _∙_}
+use Prim.Native.Nat.{_+_, _-_, _≤_}
+use mathlib.Core.List.{[]}
 use lib.ListN.{length, drop, getD, drop-of-length-le}
 use Rattle.command.specs.Layout.{layout, total, sizeOf}
-use Rattle.command.specs.Bytes.{putRow, putNumber}
+use Rattle.command.specs.Bytes.{putRow}
 use Rattle.command.proofs.ByteLaws.{put-length}
 use Rattle.command.proofs.RowLaws.{total-step, total-turn, put-turn, put-end}
 use borrow.Author.Needs.{needs}
@@ -39,7 +38,11 @@ put-number-requires c κs =
     omega (arith, total-step (layout k) (l .j))
 
 add-place : tie.Need-add-place Inv-loop μ-loop
-add-place c = search needs
+add-place c =
+    let l = c .before .before .before .before .before .before .loop in
+    let k = c .before .before .before .before .before .before .before .before .args .kind in
+    let e = c .before .before .before .before .width .ensures in
+    omega (arith, total-step (layout k) (l .j))
 
 add-j : tie.Need-add-j Inv-loop μ-loop
 add-j c = search needs
@@ -54,9 +57,9 @@ loop-again c =
     let w = c .before .before .before .before .width in
     let e = c .before .before .put-number .ensures in
     (search needs,
-    ap length e ∙ put-length (l .out) (l .place) (w .result) (getD (a .t3) (l .j) 0) ∙ l .inv .1,
+    ap length e ∙ put-length (l .out) (l .place) (w .result) (getD (a .t4) (l .j) 0) ∙ l .inv .1,
     total-turn (layout (a .kind)) (l .place) (w .result) (l .j) (w .ensures) ∙ l .inv .2,
-    put-turn (l .out) (layout (a .kind)) (a .t3) (l .place) (w .result) (l .j) _ (w .ensures) e (omega arith) ∙ l .inv .3)
+    put-turn (l .out) (layout (a .kind)) (a .t4) (l .place) (w .result) (l .j) _ (w .ensures) e (omega arith) ∙ l .inv .3)
 
 same-length : tie.Need-same-length Inv-loop μ-loop
 same-length c = search needs
@@ -66,7 +69,7 @@ returns c =
     let l = c .before .loop in
     let a = c .before .before .before .args in
     let z : l .j ≡ 16 = omega arith in
-    let d : drop 16 (a .t3) ≡ [] = drop-of-length-le (a .t3) {i = 16} (omega arith) in
+    let d : drop 16 (a .t4) ≡ [] = drop-of-length-le (a .t4) {i = 16} (omega arith) in
     sym (put-end (l .out) (drop 16 (layout (a .kind))) (l .place)) ∙ (rw (z, d) at (l .inv .3))
 
 pub put-row-spec : {M : Type 1} → statement M

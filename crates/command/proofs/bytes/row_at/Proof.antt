@@ -1,11 +1,11 @@
 -- The loop reads a number a turn: the row so far and the numbers still to come are the whole row.
-use mathlib.Core.Path.{_≡_, refl, sym, ap, _∙_}
-use Prim.Native.Nat.{ℕ, suc, _+_, _-_, _≤_}
-use mathlib.Core.List.{List, [], _∷_, _++_, append-assoc, append-nil}
-use lib.ListN.{length, take, drop, set, length-set, getD}
+use mathlib.Core.Path.{_≡_, sym, ap, _∙_}
+use Prim.Native.Nat.{ℕ, _+_, _-_, _≤_}
+use mathlib.Core.List.{List, [], _++_, append-nil}
+use lib.ListN.{length, take, drop, length-set}
 use lib.Seq.{take-all}
 use Rattle.command.specs.Layout.{layout, total, sizeOf}
-use Rattle.command.specs.Bytes.{rowAt, numberAt}
+use Rattle.command.specs.Bytes.{rowAt}
 use Rattle.command.specs.Rows.{pad}
 use Rattle.command.proofs.LayoutLaws.{width-le}
 use Rattle.command.proofs.RowLaws.{total-step, row-turn, total-turn}

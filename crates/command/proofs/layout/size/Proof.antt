@@ -1,5 +1,5 @@
 -- The size of each command is the sum of its widths: one computed test over the table, and an empty layout past it.
-use mathlib.Core.Path.{_≡_, refl, sym, _∙_}
+use mathlib.Core.Path.{_≡_, sym, _∙_}
 use Rattle.command.specs.Layout.{layout, total, sizeOf}
 use Rattle.command.proofs.BoolLaws.{entry}
 use Rattle.command.proofs.LayoutLaws.{size-none, not-known}

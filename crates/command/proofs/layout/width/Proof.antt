@@ -1,7 +1,7 @@
 -- The width at each place of each command: one computed test over the table, and none past it.
-use mathlib.Core.Path.{_≡_, refl, sym, ap, _∙_}
+use mathlib.Core.Path.{_≡_, sym, ap, _∙_}
 use Prim.Native.Nat.{ℕ, _+_, _*_, _/_, _%_}
-use lib.ListN.{length, getD, List·getD-eq-default}
+use lib.ListN.{getD, List·getD-eq-default}
 use mathlib.Core.List.{List}
 use Rattle.command.specs.Layout.{layout, widthOf}
 use Rattle.command.proofs.BoolLaws.{entry}

@@ -1,52 +1,56 @@
+-- A row that fits is not cut, so the command built of its parts has the row's first numbers; another is refused.
+use mathlib.Core.Path.{_≡_, sym, _∙_}
+use mathlib.Core.Bool.{true}
+use Rattle.numbers.specs.Pick.{both}
+use borrow.Author.Tests.{not-true, not-false}
+use Rattle.command.specs.Layout.{known, layout}
+use Rattle.command.specs.Rows.{fits}
+use Rattle.command.proofs.BoolLaws.{both-left}
+use Rattle.command.proofs.ShapeLaws.{built-fit, built-none}
+use native.Mathlib.Omega.{arith}
 use borrow.Author.Needs.{needs}
 use Rattle.command.proofs.rows.build.Statement.{statement}
 use Rattle.command.proofs.rows.build.Tie as tie
-use Rattle.command.proofs.rows.build.Reads as reads
-use Rattle.command.proofs.rows.build.Lts as lts
-use Rattle.command.proofs.rows.is_fit.Reads as is-fit-reads
-use Rattle.command.proofs.rows.low16.Reads as low16-reads
-use Rattle.command.proofs.rows.low8.Reads as low8-reads
-use Rattle.command.proofs.rows.shape.Reads as shape-reads
 
--- src/rows.rt:119:9
 is-fit-requires : tie.Need-is-fit-requires
 is-fit-requires c κs = search needs
 
--- src/rows.rt:120:9
 returns : tie.Need-returns
-returns c = ?
+returns c =
+    let a = c .before .before .args in
+    let r = c .before .is-fit in
+    built-none (a .kind) (a .t2) (sym (r .ensures) ∙ not-true (r .result) (c .if1 .taken))
 
--- src/rows.rt:122:21
 array-read-low8 : tie.Need-array-read-low8
 array-read-low8 c = search needs
 
--- src/rows.rt:122:9
 low8-requires : tie.Need-low8-requires
 low8-requires c κs = search needs
 
--- src/rows.rt:123:24
 array-read-low8-2 : tie.Need-array-read-low8-2
 array-read-low8-2 c = search needs
 
--- src/rows.rt:123:9
 low8-requires-2 : tie.Need-low8-requires-2
 low8-requires-2 c κs = search needs
 
--- src/rows.rt:124:33
 array-read-low16 : tie.Need-array-read-low16
 array-read-low16 c = search needs
 
--- src/rows.rt:124:27
 low16-requires : tie.Need-low16-requires
 low16-requires c κs = search needs
 
--- src/rows.rt:125:9
 shape-requires : tie.Need-shape-requires
-shape-requires c κs = ?
+shape-requires c κs =
+    let a = c .before .before .before .before .before .args in
+    let r = c .before .before .before .before .is-fit in
+    both-left (known (a .kind)) (fits (layout (a .kind)) (a .t2)) (sym (r .ensures) ∙ not-false (r .result) (c .before .before .before .if1 .left))
 
--- src/rows.rt:116:1
 returns-2 : tie.Need-returns-2
-returns-2 c = ?
+returns-2 c =
+    let a = c .before .before .before .before .before .before .args in
+    let r = c .before .before .before .before .before .is-fit in
+    let t : both (known (a .kind)) (fits (layout (a .kind)) (a .t2)) ≡ true = sym (r .ensures) ∙ not-false (r .result) (c .before .before .before .before .if1 .left) in
+    rw (c .before .before .before .low8 .ensures, c .before .before .low82 .ensures, c .before .low16 .ensures, c .shape .ensures) (built-fit (a .kind) (a .t2) (omega arith) t)
 
 pub build-spec : {M : Type 1} → statement M
 build-spec =

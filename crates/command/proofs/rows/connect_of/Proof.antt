@@ -1,74 +1,57 @@
+-- The fields of a connect, each from its place: by computing.
+use Rattle.command.specs.Shapes.{connectBy}
 use borrow.Author.Needs.{needs}
 use Rattle.command.proofs.rows.connect_of.Statement.{statement}
 use Rattle.command.proofs.rows.connect_of.Tie as tie
-use Rattle.command.proofs.rows.connect_of.Reads as reads
-use Rattle.command.proofs.rows.connect_of.Lts as lts
-use Rattle.command.proofs.rows.low16.Reads as low16-reads
-use Rattle.command.proofs.rows.low8.Reads as low8-reads
 
--- src/rows.rt:211:22
 array-read-low16 : tie.Need-array-read-low16
 array-read-low16 c = search needs
 
--- src/rows.rt:211:9
 low16-requires : tie.Need-low16-requires
 low16-requires c κs = search needs
 
--- src/rows.rt:212:33
 array-read-low8 : tie.Need-array-read-low8
 array-read-low8 c = search needs
 
--- src/rows.rt:212:9
 low8-requires : tie.Need-low8-requires
 low8-requires c κs = search needs
 
--- src/rows.rt:213:33
 array-read-low8-2 : tie.Need-array-read-low8-2
 array-read-low8-2 c = search needs
 
--- src/rows.rt:213:9
 low8-requires-2 : tie.Need-low8-requires-2
 low8-requires-2 c κs = search needs
 
--- src/rows.rt:218:14
 array-read-t8 : tie.Need-array-read-t8
 array-read-t8 c = search needs
 
--- src/rows.rt:219:17
 array-read-t17 : tie.Need-array-read-t17
 array-read-t17 c = search needs
 
--- src/rows.rt:220:19
 array-read-t20 : tie.Need-array-read-t20
 array-read-t20 c = search needs
 
--- src/rows.rt:221:29
 array-read-t23 : tie.Need-array-read-t23
 array-read-t23 c = search needs
 
--- src/rows.rt:222:29
 array-read-t26 : tie.Need-array-read-t26
 array-read-t26 c = search needs
 
--- src/rows.rt:223:19
 array-read-t29 : tie.Need-array-read-t29
 array-read-t29 c = search needs
 
--- src/rows.rt:224:23
 array-read-t32 : tie.Need-array-read-t32
 array-read-t32 c = search needs
 
--- src/rows.rt:225:23
 array-read-t35 : tie.Need-array-read-t35
 array-read-t35 c = search needs
 
--- src/rows.rt:226:13
 array-read-t38 : tie.Need-array-read-t38
 array-read-t38 c = search needs
 
--- src/rows.rt:208:1
 returns : tie.Need-returns
-returns c = ?
+unfolding connectBy
+returns c = simp (c .before .before .low16 .ensures, c .before .low8 .ensures, c .low82 .ensures)
 
 pub connect-of-spec : {M : Type 1} → statement M
 connect-of-spec =

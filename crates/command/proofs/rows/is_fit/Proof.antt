@@ -1,64 +1,85 @@
+-- The loop tests a number a turn: the whole row fits where the rest does. Sixteen places cover every layout.
+use mathlib.Core.Path.{_≡_, sym, ap, _∙_}
+use Prim.Native.Nat.{_-_, _≤_}
+use mathlib.Core.Bool.{Bool}
+use lib.ListN.{drop}
+use borrow.Author.Tests.{not-true, not-false}
+use Rattle.numbers.specs.Pick.{both}
+use Rattle.command.specs.Layout.{known, layout}
+use Rattle.command.specs.Rows.{fits}
+use Rattle.command.proofs.BoolLaws.{both-false, both-true}
+use Rattle.command.proofs.LayoutLaws.{known-size, size-known, layout-narrow, layout-length}
+use Rattle.command.proofs.RowLaws.{fits-turn, fits-end}
+use borrow.Author.Needs.{needs}
+use native.Mathlib.Omega.{arith}
 use Rattle.command.proofs.rows.is_fit.Statement.{statement}
 use Rattle.command.proofs.rows.is_fit.Tie as tie
-use Rattle.command.proofs.rows.is_fit.Reads as reads
-use Rattle.command.proofs.rows.is_fit.Lts as lts
-use Rattle.command.proofs.layout.size.Reads as size-reads
-use Rattle.command.proofs.layout.width.Reads as width-reads
-use Rattle.command.proofs.rows.is_within.Reads as is-within-reads
 
 abbrev Inv-loop : tie.InvT-loop
-Inv-loop kind row j₀ j = ?
+Inv-loop kind row j₀ j = (j ≤ 16) × (fits (layout kind) row ≡ fits (drop j (layout kind)) (drop j row))
 
 abbrev μ-loop : tie.MeasureT-loop
-μ-loop kind row j₀ j = ?
+μ-loop kind row j₀ j = 16 - j
 
--- src/rows.rt:290:8
 size-requires : tie.Need-size-requires Inv-loop μ-loop
-size-requires c κs = ?
+size-requires c κs = search needs
 
--- src/rows.rt:291:9
 returns : tie.Need-returns Inv-loop μ-loop
-returns c = ?
+returns c =
+    let a = c .before .before .args in
+    let e = c .before .size .ensures in
+    sym (ap (λ (b : Bool). both b (fits (layout (a .kind)) (a .t2))) (known-size (a .kind) (omega arith)))
 
--- src/rows.rt:294:5
 loop-holds : tie.Need-loop-holds Inv-loop μ-loop
-loop-holds c = ?
+loop-holds c = search needs
 
--- src/rows.rt:295:17
 mul-x : tie.Need-mul-x Inv-loop μ-loop
-mul-x c = ?
+mul-x c = search needs
 
--- src/rows.rt:295:17
 array-read-x : tie.Need-array-read-x Inv-loop μ-loop
-array-read-x c = ?
+array-read-x c = search needs
 
--- src/rows.rt:296:26
 width-requires : tie.Need-width-requires Inv-loop μ-loop
-width-requires c κs = ?
+width-requires c κs = search needs
 
--- src/rows.rt:296:13
 is-within-requires : tie.Need-is-within-requires Inv-loop μ-loop
-is-within-requires c κs = ?
+is-within-requires c κs = search needs
 
--- src/rows.rt:297:13
 returns-2 : tie.Need-returns-2 Inv-loop μ-loop
-returns-2 c = ?
+returns-2 c =
+    let a = c .before .before .before .before .before .before .before .args in
+    let l = c .before .before .before .before .loop in
+    let w = c .before .before .width in
+    let r = c .before .is-within in
+    let t = fits-turn (layout (a .kind)) (a .t2) (l .j) (w .result) (r .result) (layout-narrow (a .kind)) (omega arith) (w .ensures) (r .ensures) in
+    let n = not-true (r .result) (c .if2 .taken) in
+    sym (both-false (known (a .kind)) (fits (layout (a .kind)) (a .t2)) (l .inv .1 ∙ t ∙ rw n))
 
--- src/rows.rt:299:13
 add-j : tie.Need-add-j Inv-loop μ-loop
-add-j c = ?
+add-j c = search needs
 
--- src/rows.rt:294:5
 loop-less : tie.Need-loop-less Inv-loop μ-loop
-loop-less c = ?
+loop-less c = search needs
 
--- src/rows.rt:294:5
 loop-again : tie.Need-loop-again Inv-loop μ-loop
-loop-again c = ?
+loop-again c =
+    let a = c .before .before .before .before .before .before .before .args in
+    let l = c .before .before .before .before .loop in
+    let w = c .before .before .width in
+    let r = c .before .is-within in
+    let t = fits-turn (layout (a .kind)) (a .t2) (l .j) (w .result) (r .result) (layout-narrow (a .kind)) (omega arith) (w .ensures) (r .ensures) in
+    let n = not-false (r .result) (c .if2 .left) in
+    (omega arith, l .inv .1 ∙ t ∙ rw n)
 
--- src/rows.rt:287:1
 returns-3 : tie.Need-returns-3 Inv-loop μ-loop
-returns-3 c = ?
+returns-3 c =
+    let a = c .before .before .before .before .args in
+    let l = c .before .loop in
+    let e = c .before .before .before .size .ensures in
+    let h = layout-length (a .kind) in
+    sym
+    (both-true (known (a .kind)) (fits (layout (a .kind)) (a .t2)) (size-known (a .kind) (λ z. omega arith))
+    (l .inv .1 ∙ fits-end (layout (a .kind)) (drop (l .j) (a .t2)) (l .j) (omega arith)))
 
 pub is-fit-spec : {M : Type 1} → statement M
 is-fit-spec =

@@ -1,11 +1,12 @@
+-- Three numbers at the fields' places: by computing the row.
+use mathlib.Core.Path.{refl}
+use Rattle.command.specs.Rows.{pad}
 use Rattle.command.proofs.rows.triple_row.Statement.{statement}
 use Rattle.command.proofs.rows.triple_row.Tie as tie
-use Rattle.command.proofs.rows.triple_row.Reads as reads
-use Rattle.command.proofs.rows.triple_row.Lts as lts
 
--- src/rows.rt:89:1
 returns : tie.Need-returns
-returns c = ?
+unfolding pad
+returns c = refl
 
 pub triple-row-spec : {M : Type 1} → statement M
 triple-row-spec = tie.close (tie.spec returns)

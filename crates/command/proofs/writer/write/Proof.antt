@@ -1,56 +1,62 @@
+-- Each refusal is a test of the definition that fails, with the buffer untouched; past them the row is put.
+use mathlib.Core.Path.{sym, ap, _∙_}
+use Prim.Native.Nat.{_%_}
+use borrow.Author.Tests.{not-true, not-false}
+use Rattle.command.specs.Layout.{layout, sizeOf}
+use Rattle.command.specs.Bytes.{putRow}
+use Rattle.command.proofs.WriteLaws.{write-unnamed, write-short, write-done, named-kind}
+use native.Mathlib.Omega.{arith}
 use borrow.Author.Needs.{needs}
 use Rattle.command.proofs.writer.write.Statement.{statement}
 use Rattle.command.proofs.writer.write.Tie as tie
-use Rattle.command.proofs.writer.write.Reads as reads
-use Rattle.command.proofs.writer.write.Lts as lts
-use Rattle.command.proofs.bytes.put_row.Reads as put-row-reads
-use Rattle.command.proofs.layout.size.Reads as size-reads
-use Rattle.command.proofs.rows.is_named.Reads as is-named-reads
-use Rattle.command.proofs.rows.of.Reads as of-reads
 
--- src/writer.rt:17:9
 is-named-requires : tie.Need-is-named-requires
 is-named-requires c κs = search needs
 
--- src/writer.rt:18:9
 returns : tie.Need-returns
-returns c = ?
+returns c =
+    let a = c .before .before .before .args in
+    let r = c .before .is-named in
+    write-unnamed (a .out .now) (a .at) (a .c) (sym (r .ensures) ∙ not-true (r .result) (c .if1 .taken))
 
--- src/writer.rt:21:9
 size-requires : tie.Need-size-requires
 size-requires c κs = search needs
 
--- src/writer.rt:23:9
 returns-2 : tie.Need-returns-2
-returns-2 c = ?
+returns-2 c = let a = c .before .before .before .before .before .before .args in write-short (a .out .now) (a .at) (a .c) (omega arith)
 
--- src/writer.rt:25:8
 sub-if3 : tie.Need-sub-if3
 sub-if3 c = search needs
 
--- src/writer.rt:26:9
 returns-3 : tie.Need-returns-3
-returns-3 c = ?
+returns-3 c =
+    let a = c .before .before .before .before .before .before .before .args in
+    let r = c .before .before .before .before .before .is-named in
+    let k = named-kind (a .out .now) (a .at) (a .c) (sym (r .ensures) ∙ not-false (r .result) (c .before .before .before .before .if1 .left)) in
+    let e = c .before .before .size .ensures ∙ ap sizeOf k in
+    write-short (a .out .now) (a .at) (a .c) (omega arith)
 
--- src/writer.rt:28:35
 of-requires : tie.Need-of-requires
 of-requires c κs = search needs
 
--- src/writer.rt:28:5
 put-row-requires : tie.Need-put-row-requires
 put-row-requires c κs = search needs
 
--- src/writer.rt:29:19
 add-t8 : tie.Need-add-t8
 add-t8 c = search needs
 
--- src/writer.rt:14:1
 same-length : tie.Need-same-length
 same-length c = search needs
 
--- src/writer.rt:14:1
 returns-4 : tie.Need-returns-4
-returns-4 c = ?
+returns-4 c =
+    let a = c .before .before .before .before .before .before .before .before .before .before .before .before .args in
+    let r = c .before .before .before .before .before .before .before .before .before .before .is-named in
+    let named = sym (r .ensures) ∙ not-false (r .result) (c .before .before .before .before .before .before .before .before .before .if1 .left) in
+    let e = c .before .before .before .before .before .before .before .size .ensures in
+    let k = e ∙ ap sizeOf (named-kind (a .out .now) (a .at) (a .c) named) in
+    write-done (a .out .now) (a .at) (a .c) (c .before .before .before .before .before .before .before .size .result) (c .before .before .put-row .last .0) named (omega arith) e
+    (c .before .before .put-row .ensures ∙ ap (putRow (a .out .now) (a .at) (layout (a .c .byte % 16))) (c .before .before .before .of .ensures))
 
 pub write-spec : {M : Type 1} → statement M
 write-spec =

@@ -1,4 +1,4 @@
--- Safe and ends: what is held stays within the buffer; the measure is the room behind it, which each read lessens.
+-- `fetch` is safe and ends: what is held stays within the buffer; the measure is the room behind it, which each read lessens.
 use Prim.Native.Nat.{_≤_, _-_}
 use mathlib.Core.Path.{_≡_}
 use lib.ListN.{length}

@@ -1,4 +1,4 @@
--- Safe and ends: stores keep the length of the buffer; the measure is the bytes that are left to move.
+-- `to_front` is safe and ends: stores keep the length of the buffer; the measure is the bytes that are left to move.
 use Prim.Native.Nat.{_+_, _≤_, _-_}
 use mathlib.Core.Path.{_≡_}
 use lib.ListN.{length}

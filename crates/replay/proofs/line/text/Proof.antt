@@ -1,4 +1,4 @@
--- Safe and ends: the measure is the bytes of s that are left; i stays within s.
+-- `text` is safe and ends: i stays within s, and the length of the output buffer stays; the measure is the bytes of s that are left.
 use Prim.Native.Nat.{_≤_, _-_}
 use mathlib.Core.Path.{_≡_}
 use lib.ListN.{length}

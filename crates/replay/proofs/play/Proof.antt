@@ -1,19 +1,19 @@
--- Safe and ends: what is held stays within the buffer, whose length stays; the measure is the turns that are left.
+-- `play` is safe and ends: what is held stays within the buffer, and both lengths stay; the measure is the turns that are left.
 use Prim.Native.Nat.{_≤_}
 use mathlib.Core.Path.{_≡_}
 use lib.ListN.{length}
 use borrow.Author.Needs.{needs}
-use Rattle.replay.proofs.run.Statement.{statement}
-use Rattle.replay.proofs.run.Tie as tie
+use Rattle.replay.proofs.play.Statement.{statement}
+use Rattle.replay.proofs.play.Tie as tie
 
 abbrev Inv-loop : tie.InvT-loop
-Inv-loop input₀ out₀ turns₀ bench₀ input out turns bench = (bench .held .start ≤ bench .held .end) × (bench .held .end ≤ length input) × (length input ≡ length input₀) × (length out ≡ length out₀)
+Inv-loop input₀ out₀ turns₀ run₀ input out turns run = (run .held .start ≤ run .held .end) × (run .held .end ≤ length input) × (length input ≡ length input₀) × (length out ≡ length out₀)
 
 abbrev μ-loop : tie.MeasureT-loop
-μ-loop input₀ out₀ turns₀ bench₀ input out turns bench = turns
+μ-loop input₀ out₀ turns₀ run₀ input out turns run = turns
 
-start-requires : tie.Need-start-requires Inv-loop μ-loop
-start-requires c κs = search needs
+first-requires : tie.Need-first-requires Inv-loop μ-loop
+first-requires c κs = search needs
 
 loop-holds : tie.Need-loop-holds Inv-loop μ-loop
 loop-holds c = search needs
@@ -42,13 +42,13 @@ same-length-2 c = search needs
 returns : tie.Need-returns Inv-loop μ-loop
 returns c = search needs
 
-pub run-spec : {M : Type 1} → statement M
-run-spec =
+pub play-spec : {M : Type 1} → statement M
+play-spec =
     tie.close
     (tie.spec
     Inv-loop
     μ-loop
-    start-requires
+    first-requires
     loop-holds
     turn-requires
     sub-turns

@@ -1,0 +1,49 @@
+-- `lyn_mark` reads the words, marks and writes them back: the contracts of the three, one put into the other.
+use mathlib.Core.Path.{_≡_, _∙_}
+use lib.ListN.{length}
+use borrow.Author.Needs.{needs}
+use borrow.Author.Tests.{eq-eqb, ne-eqb}
+use Rattle.exports.proofs.Words.{put-all}
+use Rattle.exports.proofs.lyn_mark.Statement.{statement}
+use Rattle.exports.proofs.lyn_mark.Tie as tie
+
+read-words-requires : tie.Need-read-words-requires
+read-words-requires c κs = search needs
+
+mark-requires : tie.Need-mark-requires
+mark-requires c κs = search needs
+
+slice-aggregate-write-words : tie.Need-slice-aggregate-write-words
+slice-aggregate-write-words c = search needs
+
+write-words-requires : tie.Need-write-words-requires
+write-words-requires c κs = search needs
+
+same-length : tie.Need-same-length
+same-length c = search needs
+
+returns : tie.Need-returns
+returns c =
+    let full = eq-eqb _ _ (c .before .before .before .before .before .before .before .before .if1 .taken) in
+    let marked = c .before .before .before .before .before .mark in
+    let long : length (marked .result) ≡ 32 = search needs in
+    let write = c .before .before .write-words in
+    let wrote = put-all 0 32 (c .before .before .before .before .before .before .before .before .before .before .args .words .now) (marked .result) (write .last .0) long (write .ensures) in
+    record { reply = simp full; buffer = wrote ∙ simp (full, marked .ensures, c .before .before .before .before .before .before .read-words .ensures) }
+
+returns-2 : tie.Need-returns-2
+returns-2 c =
+    let full = ne-eqb _ _ (c .if1 .left) in
+    record { reply = simp full; buffer = simp full }
+
+pub lyn-mark-spec : {M : Type 1} → statement M
+lyn-mark-spec =
+    tie.close
+    (tie.spec
+    read-words-requires
+    mark-requires
+    slice-aggregate-write-words
+    write-words-requires
+    same-length
+    returns
+    returns-2)

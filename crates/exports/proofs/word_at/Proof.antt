@@ -1,0 +1,88 @@
+-- `word_at` adds up the four bytes as the definition does, in two halves.
+use mathlib.Core.Path.{_≡_}
+use Prim.Native.Nat.{_+_}
+use native.Mathlib.Omega.{arith}
+use borrow.Author.Needs.{needs}
+use Rattle.command.specs.Bytes.{numberAt}
+use Rattle.exports.proofs.word_at.Statement.{statement}
+use Rattle.exports.proofs.word_at.Tie as tie
+
+shared-slice-read-wide : tie.Need-shared-slice-read-wide
+shared-slice-read-wide c = search needs
+
+wide-requires : tie.Need-wide-requires
+wide-requires c κs = search needs
+
+mul-high : tie.Need-mul-high
+mul-high c = search needs
+
+add-wide : tie.Need-add-wide
+add-wide c = search needs
+
+shared-slice-read-wide-2 : tie.Need-shared-slice-read-wide-2
+shared-slice-read-wide-2 c = search needs
+
+wide-requires-2 : tie.Need-wide-requires-2
+wide-requires-2 c κs = search needs
+
+add-high : tie.Need-add-high
+add-high c = search needs
+
+add-wide-2 : tie.Need-add-wide-2
+add-wide-2 c = search needs
+
+shared-slice-read-wide-3 : tie.Need-shared-slice-read-wide-3
+shared-slice-read-wide-3 c = search needs
+
+wide-requires-3 : tie.Need-wide-requires-3
+wide-requires-3 c κs = search needs
+
+mul-low : tie.Need-mul-low
+mul-low c = search needs
+
+add-wide-3 : tie.Need-add-wide-3
+add-wide-3 c = search needs
+
+shared-slice-read-wide-4 : tie.Need-shared-slice-read-wide-4
+shared-slice-read-wide-4 c = search needs
+
+wide-requires-4 : tie.Need-wide-requires-4
+wide-requires-4 c κs = search needs
+
+add-low : tie.Need-add-low
+add-low c = search needs
+
+mul-result : tie.Need-mul-result
+mul-result c = search needs
+
+add-result : tie.Need-add-result
+add-result c = search needs
+
+returns : tie.Need-returns
+unfolding numberAt
+returns c =
+    let first : c .before .before .before .before .before .before .before .before .before .args .at + 0 ≡ c .before .before .before .before .before .before .before .before .before .args .at = omega arith in
+    rw first (omega arith)
+
+pub word-at-spec : {M : Type 1} → statement M
+word-at-spec =
+    tie.close
+    (tie.spec
+    shared-slice-read-wide
+    wide-requires
+    mul-high
+    add-wide
+    shared-slice-read-wide-2
+    wide-requires-2
+    add-high
+    add-wide-2
+    shared-slice-read-wide-3
+    wide-requires-3
+    mul-low
+    add-wide-3
+    shared-slice-read-wide-4
+    wide-requires-4
+    add-low
+    mul-result
+    add-result
+    returns)
