@@ -43,7 +43,11 @@ fields-back (vr.SendUnreliableFragment m g) a b n = refl
 abbrev commandFrom : List ℕ → Command
 commandFrom ys =
     record {
-    byte = getD ys 1 0; channel = getD ys 2 0; number = record { 0 = getD ys 3 0 }; fields = shapedBy same same (getD ys 0 0) (drop 1 ys) }
+      byte = getD ys 1 0;
+      channel = getD ys 2 0;
+      number = record { 0 = getD ys 3 0 };
+      fields = shapedBy same same (getD ys 0 0) (drop 1 ys);
+    }
 
 command-back : (c : Command) → commandFrom (kindOf (c .fields) ∷ rowOf c) ≡ c
 command-back c =

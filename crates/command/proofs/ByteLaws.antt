@@ -57,12 +57,12 @@ number-put s i zero x l h = omega (arith, rw (pow-zero 256) at l)
 number-put s i (suc w) x l h =
     let p = putNumber s i w (x / 256) in
     let q : numberAt (set p (i + w) (x % 256)) i w ≡ numberAt p i w =
-        number-same (set p (i + w) (x % 256)) p i w (λ j k. getD-set-other p (i + w) j (x % 256) 0 (λ e. omega arith))
+    number-same (set p (i + w) (x % 256)) p i w (λ j k. getD-set-other p (i + w) j (x % 256) 0 (λ e. omega arith))
     in
     let r : x < 256 ^ w * 256 = rw (pow-suc 256 w) at l in
     let n : numberAt p i w ≡ x / 256 = number-put s i w (x / 256) (omega arith) (omega arith) in
     let g : getD (set p (i + w) (x % 256)) (i + w) 0 ≡ x % 256 =
-        getD-set-same p (i + w) (x % 256) 0 (omega (arith, put-length s i w (x / 256)))
+    getD-set-same p (i + w) (x % 256) 0 (omega (arith, put-length s i w (x / 256)))
     in
     omega arith
 
@@ -113,6 +113,6 @@ pow-4 (suc (suc zero)) h = absurd (omega arith)
 pow-4 (suc (suc (suc zero))) h = absurd (omega arith)
 pow-4 (suc (suc (suc (suc w)))) h = rw (pow-suc 256 (suc (suc (suc w))), pow-suc 256 (suc (suc w)), pow-suc 256 (suc w), pow-suc 256 w) (omega (arith, pos w))
   where
-  pos : (n : ℕ) → 0 < 256 ^ n
-  pos zero = omega arith
-  pos (suc n) = rw pow-suc (omega (arith, pos n))
+    pos : (n : ℕ) → 0 < 256 ^ n
+    pos zero = omega arith
+    pos (suc n) = rw pow-suc (omega (arith, pos n))

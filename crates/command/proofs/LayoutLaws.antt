@@ -35,9 +35,9 @@ not-known k h = both-false (leb 1 k) (leb k 12) (lt-leb k 12 (omega arith))
 pub each-layout : (f : List ℕ → Bool) → f [] ≡ true → upTo (λ k. f (layout k)) 13 ≡ true → (k : ℕ) → f (layout k) ≡ true
 each-layout f none some k = go (ltb k 13) refl
   where
-  go : (b : Bool) → ltb k 13 ≡ b → f (layout k) ≡ true
-  go true e = below (λ j. f (layout j)) 13 some k (ltb-true k 13 e)
-  go false e = rw (layout-none k (not-known k (ltb-false k 13 e))) none
+    go : (b : Bool) → ltb k 13 ≡ b → f (layout k) ≡ true
+    go true e = below (λ j. f (layout j)) 13 some k (ltb-true k 13 e)
+    go false e = rw (layout-none k (not-known k (ltb-false k 13 e))) none
 
 -- each width is from 1 to 4
 unfoldable pub narrow : List ℕ → Bool
@@ -72,13 +72,13 @@ size-some k e = let h : sizeOf k ≡ total (named k) = ap total (layout-known k 
 pub known-size : (k : ℕ) → sizeOf k ≡ 0 → known k ≡ false
 known-size k z = go (known k) refl
   where
-  go : (b : Bool) → known k ≡ b → b ≡ false
-  go true e = absurd (omega (arith, size-some k e))
-  go false e = refl
+    go : (b : Bool) → known k ≡ b → b ≡ false
+    go true e = absurd (omega (arith, size-some k e))
+    go false e = refl
 
 pub size-known : (k : ℕ) → (sizeOf k ≡ 0 → ⊥) → known k ≡ true
 size-known k z = go (known k) refl
   where
-  go : (b : Bool) → known k ≡ b → b ≡ true
-  go true e = refl
-  go false e = absurd (z (size-none k e))
+    go : (b : Bool) → known k ≡ b → b ≡ true
+    go true e = refl
+    go false e = absurd (z (size-none k e))

@@ -55,10 +55,10 @@ row-put s (w ∷ ws) (x ∷ xs) i f h =
     let t = putNumber s i w x in
     let l : x < 256 ^ w = ltb-true x (256 ^ w) (both-left (ltb x (256 ^ w)) (fits ws xs) f) in
     let n : numberAt (putRow t (i + w) ws xs) i w ≡ x =
-        number-same (putRow t (i + w) ws xs) t i w (λ j k. row-below t ws xs (i + w) j k) ∙ number-put s i w x l (omega arith)
+    number-same (putRow t (i + w) ws xs) t i w (λ j k. row-below t ws xs (i + w) j k) ∙ number-put s i w x l (omega arith)
     in
     let r : rowAt (putRow t (i + w) ws xs) (i + w) ws ≡ take (length ws) xs =
-        row-put t ws xs (i + w) (both-right (ltb x (256 ^ w)) (fits ws xs) f) (omega (arith, put-length s i w x))
+    row-put t ws xs (i + w) (both-right (ltb x (256 ^ w)) (fits ws xs) f) (omega (arith, put-length s i w x))
     in
     rw (n, r)
 
@@ -79,7 +79,7 @@ row-bytes s t (w ∷ ws) i j bs bt hs ht e =
     let r : rowAt s (i + w) ws ≡ rowAt t (j + w) ws = ap (λ (l : List ℕ). drop 1 l) e in
     let p : take w (drop i s) ≡ take w (drop j t) = number-bytes s t i j w bs bt (omega arith) (omega arith) n in
     let q : take (total ws) (drop (i + w) s) ≡ take (total ws) (drop (j + w) t) =
-        row-bytes s t ws (i + w) (j + w) bs bt (omega arith) (omega arith) r
+    row-bytes s t ws (i + w) (j + w) bs bt (omega arith) (omega arith) r
     in
     rw (take-add w (total ws) (drop i s), take-add w (total ws) (drop j t), drop-drop w i s, drop-drop w j t, p, q)
 
@@ -120,13 +120,13 @@ module _ (s : List ℕ) (i : ℕ) (c : Command) where
       let t = putRow s i (layout kind) (rowOf c) in
       let kn = kind-known (c .fields) in
       let row : rowAt t i (layout kind) ≡ rowOf c =
-          row-put s (layout kind) (rowOf c) i f room ∙ ap (λ (n : ℕ). take n (rowOf c)) (row-of-length c) ∙ take-length (rowOf c)
+      row-put s (layout kind) (rowOf c) i f room ∙ ap (λ (n : ℕ). take n (rowOf c)) (row-of-length c) ∙ take-length (rowOf c)
       in
       let byte : getD t i 0 ≡ c .byte = sym (first t i kind kn) ∙ ap (λ (l : List ℕ). getD l 0 0) row in
       let k : kindAt t i ≡ kind = ap (λ (x : ℕ). x % 16) byte ∙ named-kind s i c named in
       let r : both (known kind) (leb (i + sizeOf kind) (length t)) ≡ true =
-          both-true (known kind) (leb (i + sizeOf kind) (length t)) kn
-          (le-leb (i + sizeOf kind) (length t) (omega (arith, row-put-length s (layout kind) (rowOf c) i)))
+      both-true (known kind) (leb (i + sizeOf kind) (length t)) kn
+      (le-leb (i + sizeOf kind) (length t) (omega (arith, row-put-length s (layout kind) (rowOf c) i)))
       in
       ap (λ (l : List ℕ). readAt l i) (left s i c true w)
       ∙ ap
@@ -138,23 +138,23 @@ module _ (s : List ℕ) (i : ℕ) (c : Command) where
   pub write-length : length (writeBytes s i c) ≡ length s
   write-length = go (writable s i c) refl
     where
-    go : (b : Bool) → writable s i c ≡ b → length (writeBytes s i c) ≡ length s
-    go true e = ap length (left s i c true e) ∙ row-put-length s (layout kind) (rowOf c) i
-    go false e = ap length (left s i c false e)
+      go : (b : Bool) → writable s i c ≡ b → length (writeBytes s i c) ≡ length s
+      go true e = ap length (left s i c true e) ∙ row-put-length s (layout kind) (rowOf c) i
+      go false e = ap length (left s i c false e)
 
   pub write-below : (j : ℕ) → j < i → getD (writeBytes s i c) j 0 ≡ getD s j 0
   write-below j h = go (writable s i c) refl
     where
-    go : (b : Bool) → writable s i c ≡ b → getD (writeBytes s i c) j 0 ≡ getD s j 0
-    go true e = ap (λ (l : List ℕ). getD l j 0) (left s i c true e) ∙ row-below s (layout kind) (rowOf c) i j h
-    go false e = ap (λ (l : List ℕ). getD l j 0) (left s i c false e)
+      go : (b : Bool) → writable s i c ≡ b → getD (writeBytes s i c) j 0 ≡ getD s j 0
+      go true e = ap (λ (l : List ℕ). getD l j 0) (left s i c true e) ∙ row-below s (layout kind) (rowOf c) i j h
+      go false e = ap (λ (l : List ℕ). getD l j 0) (left s i c false e)
 
   pub write-above : (j : ℕ) → i + sizeOf kind ≤ j → getD (writeBytes s i c) j 0 ≡ getD s j 0
   write-above j h = go (writable s i c) refl
     where
-    go : (b : Bool) → writable s i c ≡ b → getD (writeBytes s i c) j 0 ≡ getD s j 0
-    go true e = ap (λ (l : List ℕ). getD l j 0) (left s i c true e) ∙ row-above s (layout kind) (rowOf c) i j h
-    go false e = ap (λ (l : List ℕ). getD l j 0) (left s i c false e)
+      go : (b : Bool) → writable s i c ≡ b → getD (writeBytes s i c) j 0 ≡ getD s j 0
+      go true e = ap (λ (l : List ℕ). getD l j 0) (left s i c true e) ∙ row-above s (layout kind) (rowOf c) i j h
+      go false e = ap (λ (l : List ℕ). getD l j 0) (left s i c false e)
 
 pub read-write :
     (s : List ℕ) (i : ℕ) → Bytes s → putRow s i (layout (kindAt s i)) (rowAt s i (layout (kindAt s i))) ≡ s

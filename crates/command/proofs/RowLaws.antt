@@ -81,6 +81,14 @@ pad-length zero xs = refl
 pad-length (suc n) [] = ap suc (pad-length n [])
 pad-length (suc n) (x ∷ xs) = ap suc (pad-length n xs)
 
+pub pad-at : (n : ℕ) (xs : List ℕ) (j : ℕ) → j < n → getD (pad n xs) j 0 ≡ getD xs j 0
+unfolding pad
+pad-at zero xs j h = absurd (omega arith)
+pad-at (suc n) [] zero h = refl
+pad-at (suc n) [] (suc j) h = pad-at n [] j (omega arith)
+pad-at (suc n) (x ∷ xs) zero h = refl
+pad-at (suc n) (x ∷ xs) (suc j) h = pad-at n xs j (omega arith)
+
 pub take-pad : (n : ℕ) (xs : List ℕ) → length xs ≤ n → take (length xs) (pad n xs) ≡ xs
 unfolding pad
 take-pad n [] h = refl

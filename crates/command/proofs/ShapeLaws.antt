@@ -24,12 +24,13 @@ cut w x = pick (eqb w 1) (x % 256) (pick (eqb w 2) (x % 65536) x)
 cut-fit : (w x : ℕ) → x < 256 ^ w → cut w x ≡ x
 cut-fit w x h = go (eqb w 1) refl
   where
-  two : (b : Bool) → eqb w 2 ≡ b → pick b (x % 65536) x ≡ x
-  two true e = let l : x < 256 ^ 2 = rw (eqb-true w 2 e) at h in omega arith
-  two false e = refl
-  go : (b : Bool) → eqb w 1 ≡ b → pick b (x % 256) (pick (eqb w 2) (x % 65536) x) ≡ x
-  go true e = let l : x < 256 ^ 1 = rw (eqb-true w 1 e) at h in omega arith
-  go false e = two (eqb w 2) refl
+    two : (b : Bool) → eqb w 2 ≡ b → pick b (x % 65536) x ≡ x
+    two true e = let l : x < 256 ^ 2 = rw (eqb-true w 2 e) at h in omega arith
+    two false e = refl
+
+    go : (b : Bool) → eqb w 1 ≡ b → pick b (x % 256) (pick (eqb w 2) (x % 65536) x) ≡ x
+    go true e = let l : x < 256 ^ 1 = rw (eqb-true w 1 e) at h in omega arith
+    go false e = two (eqb w 2) refl
 
 -- the numbers of the row from i on, each cut to its width
 abbrev cuts : List ℕ → List ℕ → ℕ → List ℕ
@@ -45,7 +46,7 @@ cuts-fit (w ∷ ws) xs i h f =
     let g : both (ltb x (256 ^ w)) (fits ws (drop (i + 1) xs)) ≡ true = rw d at f in
     let e : cut w x ≡ x = cut-fit w x (ltb-true x (256 ^ w) (both-left (ltb x (256 ^ w)) (fits ws (drop (i + 1) xs)) g)) in
     let r : cuts ws xs (i + 1) ≡ take (length ws) (drop (i + 1) xs) =
-        cuts-fit ws xs (i + 1) (omega arith) (both-right (ltb x (256 ^ w)) (fits ws (drop (i + 1) xs)) g)
+    cuts-fit ws xs (i + 1) (omega arith) (both-right (ltb x (256 ^ w)) (fits ws (drop (i + 1) xs)) g)
     in
     rw (d, e, r)
 

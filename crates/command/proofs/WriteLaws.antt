@@ -70,8 +70,9 @@ module _ (s : List ℕ) (i : ℕ) (c : Command) where
       let k = named-kind named in
       let w = both-true (namesFields c) (leb (i + sizeOf kind) (length s)) named (le-leb (i + sizeOf kind) (length s) room) in
       let p : putRow s i (layout kind) (pad 16 (rowOf c)) ≡ putRow s i (layout kind) (rowOf c) =
-          put-pad s (layout kind) (rowOf c) i 16 (omega (arith, row-of-length c)) (layout-length kind)
+      put-pad s (layout kind) (rowOf c) i 16 (omega (arith, row-of-length c)) (layout-length kind)
       in
       record {
-      answer = ap (λ (x : ℕ). done ((i + x) ∷ [])) (m ∙ ap sizeOf k) ∙ sym (answered true w);
-      buffer = e ∙ ap (λ (x : ℕ). putRow s i (layout x) (pad 16 (rowOf c))) k ∙ p ∙ sym (left true w) }
+        answer = ap (λ (x : ℕ). done ((i + x) ∷ [])) (m ∙ ap sizeOf k) ∙ sym (answered true w);
+        buffer = e ∙ ap (λ (x : ℕ). putRow s i (layout x) (pad 16 (rowOf c))) k ∙ p ∙ sym (left true w);
+      }

@@ -4,3 +4,4 @@ pub mod Rows
 pub mod Shapes
 pub mod Reading
 pub mod Writing
+pub mod Steps

@@ -3,6 +3,7 @@
 use Prim.Native.Nat.{ℕ, _%_}
 use mathlib.Core.List.{List, [], _∷_}
 use lib.ListN.{getD}
+use Rattle.command.specs.declared.fields.Command.{Command}
 use Rattle.command.specs.declared.fields.Connect.{Connect}
 use Rattle.command.specs.declared.fields.Fragment.{Fragment}
 use Rattle.command.specs.declared.fields.Fields.{Fields}
@@ -11,9 +12,19 @@ use Rattle.command.specs.declared.fields.Fields.the-variants as vr
 unfoldable pub connectBy : (ℕ → ℕ) → (ℕ → ℕ) → List ℕ → Connect
 connectBy low8 low16 xs =
     record {
-    peer = low16 (getD xs 3 0); «incoming_session» = low8 (getD xs 4 0); «outgoing_session» = low8 (getD xs 5 0); mtu = getD xs 6 0;
-    window = getD xs 7 0; channels = getD xs 8 0; «incoming_bandwidth» = getD xs 9 0; «outgoing_bandwidth» = getD xs 10 0;
-    interval = getD xs 11 0; acceleration = getD xs 12 0; deceleration = getD xs 13 0; id = getD xs 14 0 }
+      peer = low16 (getD xs 3 0);
+      «incoming_session» = low8 (getD xs 4 0);
+      «outgoing_session» = low8 (getD xs 5 0);
+      mtu = getD xs 6 0;
+      window = getD xs 7 0;
+      channels = getD xs 8 0;
+      «incoming_bandwidth» = getD xs 9 0;
+      «outgoing_bandwidth» = getD xs 10 0;
+      interval = getD xs 11 0;
+      acceleration = getD xs 12 0;
+      deceleration = getD xs 13 0;
+      id = getD xs 14 0;
+    }
 
 unfoldable pub fragmentBy : (ℕ → ℕ) → List ℕ → Fragment
 fragmentBy low16 xs =
@@ -53,3 +64,7 @@ fragmentFrom = fragmentBy low16
 
 abbrev pub shaped : ℕ → List ℕ → Fields
 shaped = shapedBy low8 low16
+
+abbrev pub assembled : ℕ → List ℕ → Command
+assembled k xs =
+    record { byte = low8 (getD xs 0 0); channel = low8 (getD xs 1 0); number = record { 0 = low16 (getD xs 2 0) }; fields = shaped k xs }

@@ -1,5 +1,7 @@
 // A command, with the packed structs' fields in their order. The union of the source is an enum.
-use numbers::counters::{Group, Reliable, Unreliable};
+use numbers::counters::Group;
+use numbers::counters::Reliable;
+use numbers::counters::Unreliable;
 
 pub struct Connect {
     pub peer: u16,
@@ -25,18 +27,49 @@ pub struct Fragment {
 }
 
 pub enum Fields {
-    Acknowledge { number: Reliable, time: u16 },
-    Connect { connect: Connect, data: u32 },
-    VerifyConnect { connect: Connect },
-    Disconnect { data: u32 },
+    Acknowledge {
+        number: Reliable,
+        time: u16,
+    },
+    Connect {
+        connect: Connect,
+        data: u32,
+    },
+    VerifyConnect {
+        connect: Connect,
+    },
+    Disconnect {
+        data: u32,
+    },
     Ping,
-    SendReliable { length: u16 },
-    SendUnreliable { number: Unreliable, length: u16 },
-    SendFragment { start: Reliable, fragment: Fragment },
-    SendUnsequenced { group: Group, length: u16 },
-    BandwidthLimit { incoming: u32, outgoing: u32 },
-    ThrottleConfigure { interval: u32, acceleration: u32, deceleration: u32 },
-    SendUnreliableFragment { start: Unreliable, fragment: Fragment },
+    SendReliable {
+        length: u16,
+    },
+    SendUnreliable {
+        number: Unreliable,
+        length: u16,
+    },
+    SendFragment {
+        start: Reliable,
+        fragment: Fragment,
+    },
+    SendUnsequenced {
+        group: Group,
+        length: u16,
+    },
+    BandwidthLimit {
+        incoming: u32,
+        outgoing: u32,
+    },
+    ThrottleConfigure {
+        interval: u32,
+        acceleration: u32,
+        deceleration: u32,
+    },
+    SendUnreliableFragment {
+        start: Unreliable,
+        fragment: Fragment,
+    },
 }
 
 // The whole command byte is kept: its low four bits are the command's number, 64 and 128 its flags.

@@ -4,13 +4,18 @@ ghost use mathlib.Core.Bool.{true};
 ghost use mathlib.Core.List.{[], _∷_};
 ghost use lib.Dec.{eqb, ltb};
 ghost use Rattle.command.specs.Rows.{kindOf, rowOf, fieldsRow, connectRow, fragmentRow, pad, answerOf, fits, builtFrom, namesFields};
-ghost use Rattle.command.specs.Shapes.{shaped, connectFrom, fragmentFrom};
+ghost use Rattle.command.specs.Shapes.{assembled, shaped, connectFrom, fragmentFrom};
 ghost use Prim.Native.Nat.{_%_, _^_, _≤_, _<_};
 ghost use Rattle.numbers.specs.Pick.{both, pick};
 ghost use Rattle.command.specs.Layout.{known, layout};
-use crate::fields::{Command, Connect, Fields, Fragment};
+use crate::fields::Command;
+use crate::fields::Connect;
+use crate::fields::Fields;
+use crate::fields::Fragment;
 use crate::layout;
-use numbers::counters::{Group, Reliable, Unreliable};
+use numbers::counters::Group;
+use numbers::counters::Reliable;
+use numbers::counters::Unreliable;
 
 pub enum Built {
     Done(Command),
@@ -23,17 +28,39 @@ pub fn kind(f: Fields) -> u8
 {
     match f {
         Fields::Acknowledge { number: _, time: _ } => 1,
-        Fields::Connect { connect: _, data: _ } => 2,
+        Fields::Connect {
+            connect: _,
+            data: _,
+        } => 2,
         Fields::VerifyConnect { connect: _ } => 3,
         Fields::Disconnect { data: _ } => 4,
         Fields::Ping => 5,
         Fields::SendReliable { length: _ } => 6,
-        Fields::SendUnreliable { number: _, length: _ } => 7,
-        Fields::SendFragment { start: _, fragment: _ } => 8,
-        Fields::SendUnsequenced { group: _, length: _ } => 9,
-        Fields::BandwidthLimit { incoming: _, outgoing: _ } => 10,
-        Fields::ThrottleConfigure { interval: _, acceleration: _, deceleration: _ } => 11,
-        Fields::SendUnreliableFragment { start: _, fragment: _ } => 12,
+        Fields::SendUnreliable {
+            number: _,
+            length: _,
+        } => 7,
+        Fields::SendFragment {
+            start: _,
+            fragment: _,
+        } => 8,
+        Fields::SendUnsequenced {
+            group: _,
+            length: _,
+        } => 9,
+        Fields::BandwidthLimit {
+            incoming: _,
+            outgoing: _,
+        } => 10,
+        Fields::ThrottleConfigure {
+            interval: _,
+            acceleration: _,
+            deceleration: _,
+        } => 11,
+        Fields::SendUnreliableFragment {
+            start: _,
+            fragment: _,
+        } => 12,
     }
 }
 
@@ -73,7 +100,11 @@ fn fields_row(f: Fields) -> [u32; 16]
         Fields::SendFragment { start, fragment } => fragment_row(start.0, fragment),
         Fields::SendUnsequenced { group, length } => pair_row(group.0, length),
         Fields::BandwidthLimit { incoming, outgoing } => triple_row(incoming, outgoing, 0),
-        Fields::ThrottleConfigure { interval, acceleration, deceleration } => triple_row(interval, acceleration, deceleration),
+        Fields::ThrottleConfigure {
+            interval,
+            acceleration,
+            deceleration,
+        } => triple_row(interval, acceleration, deceleration),
         Fields::SendUnreliableFragment { start, fragment } => fragment_row(start.0, fragment),
     }
 }
@@ -99,8 +130,22 @@ fn connect_row(c: Connect, last: u32) -> [u32; 16]
     let i = wide8(c.incoming_session);
     let o = wide8(c.outgoing_session);
     [
-        0, 0, 0, p, i, o, c.mtu, c.window, c.channels, c.incoming_bandwidth, c.outgoing_bandwidth, c.interval,
-        c.acceleration, c.deceleration, c.id, last,
+        0,
+        0,
+        0,
+        p,
+        i,
+        o,
+        c.mtu,
+        c.window,
+        c.channels,
+        c.incoming_bandwidth,
+        c.outgoing_bandwidth,
+        c.interval,
+        c.acceleration,
+        c.deceleration,
+        c.id,
+        last,
     ]
 }
 
@@ -109,7 +154,24 @@ fn fragment_row(start: u16, g: Fragment) -> [u32; 16]
 {
     let s = wide16(start);
     let n = wide16(g.length);
-    [0, 0, 0, s, n, g.count, g.number, g.total, g.offset, 0, 0, 0, 0, 0, 0, 0]
+    [
+        0,
+        0,
+        0,
+        s,
+        n,
+        g.count,
+        g.number,
+        g.total,
+        g.offset,
+        0,
+        0,
+        0,
+        0,
+        0,
+        0,
+        0,
+    ]
 }
 
 // The command of this kind whose row begins so; refused where there is no such kind, or a number does not fit its place.
@@ -119,12 +181,25 @@ pub fn build(kind: u8, row: [u32; 16]) -> Built
     if !is_fit(kind, row) {
         return Built::Refused;
     }
+    let command = assemble(kind, row);
+    Built::Done(command)
+}
+
+// The command of this kind in a row, each number cut to its width.
+fn assemble(kind: u8, row: [u32; 16]) -> Command
+    requires { ⌜ known kind ≡ true ⌝ }
+    ensures { λ r. ⌜ r ≡ assembled kind row ⌝ }
+{
     let byte = low8(row[0]);
     let channel = low8(row[1]);
     let number = Reliable(low16(row[2]));
     let fields = shape(kind, row);
-    let command = Command { byte, channel, number, fields };
-    Built::Done(command)
+    Command {
+        byte,
+        channel,
+        number,
+        fields,
+    }
 }
 
 // The fields of this kind in a row, each cut to its width.
@@ -155,7 +230,10 @@ fn control_of(kind: u8, row: [u32; 16]) -> Fields
         }
         2 => {
             let connect = connect_of(row);
-            Fields::Connect { connect, data: row[15] }
+            Fields::Connect {
+                connect,
+                data: row[15],
+            }
         }
         3 => {
             let connect = connect_of(row);
@@ -176,7 +254,10 @@ fn packet_of(kind: u8, row: [u32; 16]) -> Fields
         6 => Fields::SendReliable { length: first },
         7 => {
             let number = Unreliable(first);
-            Fields::SendUnreliable { number, length: second }
+            Fields::SendUnreliable {
+                number,
+                length: second,
+            }
         }
         8 => {
             let start = Reliable(first);
@@ -185,7 +266,10 @@ fn packet_of(kind: u8, row: [u32; 16]) -> Fields
         }
         _ => {
             let group = Group(first);
-            Fields::SendUnsequenced { group, length: second }
+            Fields::SendUnsequenced {
+                group,
+                length: second,
+            }
         }
     }
 }
@@ -195,8 +279,15 @@ fn settings_of(kind: u8, row: [u32; 16]) -> Fields
     ensures { λ r. ⌜ r ≡ shaped kind row ⌝ }
 {
     match kind {
-        10 => Fields::BandwidthLimit { incoming: row[3], outgoing: row[4] },
-        11 => Fields::ThrottleConfigure { interval: row[3], acceleration: row[4], deceleration: row[5] },
+        10 => Fields::BandwidthLimit {
+            incoming: row[3],
+            outgoing: row[4],
+        },
+        11 => Fields::ThrottleConfigure {
+            interval: row[3],
+            acceleration: row[4],
+            deceleration: row[5],
+        },
         _ => {
             let start = Unreliable(low16(row[3]));
             let fragment = fragment_of(row);

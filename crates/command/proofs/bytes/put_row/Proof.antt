@@ -55,11 +55,12 @@ loop-again c =
     let l = c .before .before .before .before .before .before .loop in
     let a = c .before .before .before .before .before .before .before .before .args in
     let w = c .before .before .before .before .width in
-    let e = c .before .before .put-number .ensures in
-    (search needs,
-    ap length e ∙ put-length (l .out) (l .place) (w .result) (getD (a .t4) (l .j) 0) ∙ l .inv .1,
-    total-turn (layout (a .kind)) (l .place) (w .result) (l .j) (w .ensures) ∙ l .inv .2,
-    put-turn (l .out) (layout (a .kind)) (a .t4) (l .place) (w .result) (l .j) _ (w .ensures) e (omega arith) ∙ l .inv .3)
+    let e = c .before .before .put-number .ensures in (
+      search needs,
+      ap length e ∙ put-length (l .out) (l .place) (w .result) (getD (a .t4) (l .j) 0) ∙ l .inv .1,
+      total-turn (layout (a .kind)) (l .place) (w .result) (l .j) (w .ensures) ∙ l .inv .2,
+      put-turn (l .out) (layout (a .kind)) (a .t4) (l .place) (w .result) (l .j) _ (w .ensures) e (omega arith) ∙ l .inv .3,
+    )
 
 same-length : tie.Need-same-length Inv-loop μ-loop
 same-length c = search needs

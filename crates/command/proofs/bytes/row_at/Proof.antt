@@ -56,11 +56,12 @@ loop-again : tie.Need-loop-again Inv-loop μ-loop
 loop-again c =
     let l = c .before .before .before .loop in
     let a = c .before .before .before .before .before .args in
-    let e = c .before .width .ensures in
-    (search needs,
-    simp length-set (omega arith),
-    total-turn (layout (a .kind)) (l .place) (c .before .width .result) (l .j) e ∙ l .inv .2,
-    row-turn (a .s .now) (layout (a .kind)) (l .row) (l .place) (c .before .width .result) (l .j) (c .number-at .result) e (c .number-at .ensures .0) (omega arith) (omega arith) ∙ l .inv .3)
+    let e = c .before .width .ensures in (
+      search needs,
+      simp length-set (omega arith),
+      total-turn (layout (a .kind)) (l .place) (c .before .width .result) (l .j) e ∙ l .inv .2,
+      row-turn (a .s .now) (layout (a .kind)) (l .row) (l .place) (c .before .width .result) (l .j) (c .number-at .result) e (c .number-at .ensures .0) (omega arith) (omega arith) ∙ l .inv .3,
+    )
 
 returns : tie.Need-returns Inv-loop μ-loop
 unfolding pad

@@ -25,7 +25,7 @@ unfolding layout total
 returns-2 c =
     let k = c .before .before .before .args .kind in
     let e : c .before .wide .result ≡ k = c .before .wide .ensures in
-    c .wide2 .ensures ∙ (rw e (entry sizeOf 16 k (omega arith)))
+    c .wide2 .ensures ∙ (rw e (entry sizeOf 0 16 k (omega arith)))
 
 pub size-spec : {M : Type 1} → statement M
 size-spec = tie.close (tie.spec returns wide-requires array-read-wide wide-requires-2 returns-2)

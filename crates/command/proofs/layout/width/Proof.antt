@@ -1,11 +1,13 @@
--- The width at each place of each command: one computed test over the table, and none past it.
+-- The width at each place of each command: the table is the layouts with zeros at their ends, by computing; none past it.
 use mathlib.Core.Path.{_≡_, sym, ap, _∙_}
-use Prim.Native.Nat.{ℕ, _+_, _*_, _/_, _%_}
+use mathlib.Core.List.{List, []}
+use Prim.Native.Nat.{ℕ}
 use lib.ListN.{getD, List·getD-eq-default}
-use mathlib.Core.List.{List}
-use Rattle.command.specs.Layout.{layout, widthOf}
+use Rattle.command.specs.Layout.{layout}
+use Rattle.command.specs.Rows.{pad}
 use Rattle.command.proofs.BoolLaws.{entry}
 use Rattle.command.proofs.LayoutLaws.{layout-none, not-known, layout-length}
+use Rattle.command.proofs.RowLaws.{pad-at}
 use native.Mathlib.Omega.{arith}
 use borrow.Author.Needs.{needs}
 use Rattle.command.proofs.layout.width.Statement.{statement}
@@ -23,11 +25,11 @@ returns-2 c =
 wide-requires : tie.Need-wide-requires
 wide-requires c κs = search needs
 
-mul-wide : tie.Need-mul-wide
-mul-wide c = search needs
+mul-widths : tie.Need-mul-widths
+mul-widths c = search needs
 
-add-wide : tie.Need-add-wide
-add-wide c = search needs
+array-copy-out-widths : tie.Need-array-copy-out-widths
+array-copy-out-widths c = search needs
 
 array-read-wide : tie.Need-array-read-wide
 array-read-wide c = search needs
@@ -36,14 +38,13 @@ wide-requires-2 : tie.Need-wide-requires-2
 wide-requires-2 c κs = search needs
 
 returns-3 : tie.Need-returns-3
-unfolding layout
+unfolding layout pad
 returns-3 c =
-    let k = c .before .before .before .before .args .kind in
-    let j = c .before .before .before .before .args .j in
-    let e : c .before .wide .result ≡ k = c .before .wide .ensures in
-    let p : (16 * k + j) / 16 ≡ k = omega arith in
-    let q : (16 * k + j) % 16 ≡ j = omega arith in
-    c .wide2 .ensures ∙ rw e (entry (λ n. widthOf (n / 16) (n % 16)) 256 (16 * k + j) (omega arith) ∙ rw (p, q))
+    let k = c .before .before .before .before .before .args .kind in
+    let j = c .before .before .before .before .before .args .j in
+    let e : c .before .before .wide .result ≡ k = c .before .before .wide .ensures in
+    c .wide2 .ensures
+    ∙ rw e (ap (λ (ws : List ℕ). getD ws j 0) (entry (λ n. pad 16 (layout n)) [] 16 k (omega arith)) ∙ pad-at 16 (layout k) j (omega arith))
 
 pub width-spec : {M : Type 1} → statement M
 width-spec =
@@ -52,8 +53,8 @@ width-spec =
     returns
     returns-2
     wide-requires
-    mul-wide
-    add-wide
+    mul-widths
+    array-copy-out-widths
     array-read-wide
     wide-requires-2
     returns-3)
