@@ -34,13 +34,13 @@ rolled last variance value trip =
 
 abbrev pub cases : List ℕ → List Case
 cases words =
-    record { given = verdictAndBase 0 words 32767; stated = pos 1 ∷ pos 31744 ∷ [] } -- P1
-    ∷ record { given = verdict 0 words 32768; stated = pos 0 ∷ [] } -- P2
-    ∷ record { given = verdictAndBase 33792 words 5; stated = pos 1 ∷ pos 0 ∷ [] } -- P3
-    ∷ record { given = verdict 32768 words 5; stated = pos 0 ∷ [] } -- P4
-    ∷ record { given = sample 65541 6; stated = pos 0 ∷ [] } -- P5
-    ∷ record { given = sample 65541 5; stated = pos 1 ∷ pos 1 ∷ [] } -- P6
-    ∷ record { given = rolled 100 10 32 121; stated = pos 30 ∷ negsuc 0 ∷ [] } -- P7
+    record { given = verdictAndBase 0 words 32767; stated = pos 1 ∷ pos 31744 ∷ [] }  -- P1
+    ∷ record { given = verdict 0 words 32768; stated = pos 0 ∷ [] }  -- P2
+    ∷ record { given = verdictAndBase 33792 words 5; stated = pos 1 ∷ pos 0 ∷ [] }  -- P3
+    ∷ record { given = verdict 32768 words 5; stated = pos 0 ∷ [] }  -- P4
+    ∷ record { given = sample 65541 6; stated = pos 0 ∷ [] }  -- P5
+    ∷ record { given = sample 65541 5; stated = pos 1 ∷ pos 1 ∷ [] }  -- P6
+    ∷ record { given = rolled 100 10 32 121; stated = pos 30 ∷ negsuc 0 ∷ [] }  -- P7
     ∷ record { given = rolled 100 10 32 120; stated = pos 32 ∷ pos 0 ∷ [] }
     ∷ []
 

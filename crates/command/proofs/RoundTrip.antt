@@ -9,17 +9,18 @@ use native.Mathlib.Omega.{arith}
 use lib.Dec.{ltb, leb}
 use lib.ListN.{length, getD, take, drop}
 use lib.Seq.{take-add, take-length, drop-drop}
-use borrow.Author.Tests.{ltb-true, leb-true, le-leb}
+use borrow.Author.Tests.{ltb-true, leb-true, le-leb, eq-eqb}
 use Rattle.numbers.specs.Pick.{pick, both}
-use Rattle.numbers.specs.Answers.{done, refused}
+use Rattle.numbers.specs.Answers.{Answer, done, refused}
 use Rattle.command.specs.Layout.{known, layout, total, sizeOf}
 use Rattle.command.specs.Bytes.{numberAt, putNumber, rowAt, putRow}
 use Rattle.command.specs.Rows.{kindOf, rowOf, fits, namesFields}
-use Rattle.command.specs.Reading.{kindAt, readable, readAt}
-use Rattle.command.specs.Writing.{writable, writeBytes}
+use Rattle.command.specs.Reading.{kindAt, readable, readAt, answerOf}
+use Rattle.command.specs.Writing.{writable, writeBytes, writeAnswer}
 use Rattle.command.specs.declared.fields.Command.{Command}
 use Rattle.command.specs.declared.fields.Fields.{Fields}
 use Rattle.command.specs.declared.fields.Fields.the-variants as vr
+use Rattle.command.specs.declared.reader.Reading.the-variants as rd
 use Rattle.command.proofs.BoolLaws.{both-left, both-right, both-true}
 use Rattle.command.proofs.ByteLaws.{Bytes, put-length, put-below, put-above, number-same, number-put, put-number, number-bytes}
 use Rattle.command.proofs.LayoutLaws.{named, layout-known}
@@ -169,3 +170,42 @@ one-encoding s t i j bs bt rs rt k e =
     let ht = leb-true (j + sizeOf (kindAt t j)) (length t) (both-right (known (kindAt t j)) (leb (j + sizeOf (kindAt t j)) (length t)) rt) in
     let z : sizeOf (kindAt s i) ≡ sizeOf (kindAt t j) = ap sizeOf k in
     row-bytes s t (layout (kindAt s i)) i j bs bt hs (omega arith) (e ∙ ap (λ (x : ℕ). rowAt t j (layout x)) (sym k))
+
+-- the writer, given what the reader found at a place, leaves the bytes as they are and answers the reader's next place
+module _ (s : List ℕ) (i next : ℕ) (c : Command) (b : Bytes s) (r : readable s i ≡ true)
+    (e : answerOf (rd.Found c next) ≡ readAt s i) where
+  same : done (next ∷ kindOf (c .fields) ∷ rowOf c) ≡ done ((i + sizeOf (kindAt s i)) ∷ kindAt s i ∷ rowAt s i (layout (kindAt s i)))
+  same = e ∙ simp r
+
+  values : (next ∷ kindOf (c .fields) ∷ rowOf c) ≡ ((i + sizeOf (kindAt s i)) ∷ kindAt s i ∷ rowAt s i (layout (kindAt s i)))
+  values = ap (λ (a : Answer). a .values) same
+
+  kinds : kindOf (c .fields) ≡ kindAt s i
+  kinds = ap (λ (l : List ℕ). getD l 1 0) values
+
+  rows : rowOf c ≡ rowAt s i (layout (kindAt s i))
+  rows = ap (λ (l : List ℕ). drop 2 l) values
+
+  byte-is : c .byte ≡ getD s i 0
+  byte-is =
+      ap (λ (l : List ℕ). getD l 0 0) rows
+      ∙ first s i (kindAt s i) (both-left (known (kindAt s i)) (leb (i + sizeOf (kindAt s i)) (length s)) r)
+
+  pub found-writable : writable s i c ≡ true
+  found-writable =
+      both-true (namesFields c) (leb (i + sizeOf (kindOf (c .fields))) (length s))
+      (eq-eqb (c .byte % 16) (kindOf (c .fields)) (ap (λ (x : ℕ). x % 16) byte-is ∙ sym kinds))
+      (ap (λ (k : ℕ). leb (i + sizeOf k) (length s)) kinds
+      ∙ both-right (known (kindAt s i)) (leb (i + sizeOf (kindAt s i)) (length s)) r)
+
+  pub found-bytes : writeBytes s i c ≡ s
+  found-bytes =
+      left s i c true found-writable
+      ∙ ap (λ (k : ℕ). putRow s i (layout k) (rowOf c)) kinds
+      ∙ ap (putRow s i (layout (kindAt s i))) rows
+      ∙ read-write s i b
+
+  pub found-next : writeAnswer s i c ≡ done (next ∷ [])
+  found-next =
+      simp found-writable
+      (ap (λ (n : ℕ). done (n ∷ [])) (ap (λ (k : ℕ). i + sizeOf k) kinds ∙ sym (ap (λ (l : List ℕ). getD l 0 0) values)))

@@ -37,7 +37,8 @@ throttleAfter t sample =
       acceleration = t .acceleration;
       deceleration = t .deceleration;
       last = t .last;
-      variance = t .variance }
+      variance = t .variance;
+    }
 
 -- document 01's values: held 0, raised 1, lowered −1
 abbrev pub answerOf : Turn → ℤ

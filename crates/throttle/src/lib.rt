@@ -30,7 +30,10 @@ impl Throttle {
         let mut next = self;
         if self.last <= self.variance {
             next.value = self.limit;
-            return Rolled { throttle: next, turn: Turn::Held };
+            return Rolled {
+                throttle: next,
+                turn: Turn::Held,
+            };
         }
         if sample <= self.last {
             let raised = std::num::wrapping_add_u32(self.value, self.acceleration);
@@ -39,7 +42,10 @@ impl Throttle {
             } else {
                 next.value = raised;
             }
-            return Rolled { throttle: next, turn: Turn::Raised };
+            return Rolled {
+                throttle: next,
+                turn: Turn::Raised,
+            };
         }
         let twice = numbers::wrapping::double(self.variance);
         let high = std::num::wrapping_add_u32(self.last, twice);
@@ -49,8 +55,14 @@ impl Throttle {
             } else {
                 next.value = 0;
             }
-            return Rolled { throttle: next, turn: Turn::Lowered };
+            return Rolled {
+                throttle: next,
+                turn: Turn::Lowered,
+            };
         }
-        Rolled { throttle: next, turn: Turn::Held }
+        Rolled {
+            throttle: next,
+            turn: Turn::Held,
+        }
     }
 }

@@ -23,24 +23,24 @@ module _ (base : ℕ) (words : List ℕ) (g : ℕ) where
     pub taken-near : distant base g ≡ false
     taken-near = go (distant base g) refl
       where
-      go : (b : Bool) → distant base g ≡ b → distant base g ≡ false
-      go true t = absurd (omega (arith, ap (λ (a : Answer). getD (a .values) 0 0) (simp t at taken)))
-      go false t = t
+        go : (b : Bool) → distant base g ≡ b → distant base g ≡ false
+        go true t = absurd (omega (arith, ap (λ (a : Answer). getD (a .values) 0 0) (simp t at taken)))
+        go false t = t
 
     -- the base is then the first group of g's window
     pub taken-base : baseAfter base words g ≡ first g
     taken-base = go (eqb (first g) base) refl
       where
-      near : distant base g ≡ false
-      near = taken-near
+        near : distant base g ≡ false
+        near = taken-near
 
-      go : (b : Bool) → eqb (first g) base ≡ b → baseAfter base words g ≡ first g
-      go true t = simp (near, t) (again (marked words g) refl)
-        where
-        again : (m : Bool) → marked words g ≡ m → pick (marked words g) base base ≡ first g
-        again true m = simp m (sym (eqb-true (first g) base t))
-        again false m = simp m (sym (eqb-true (first g) base t))
-      go false t = simp (near, t)
+        go : (b : Bool) → eqb (first g) base ≡ b → baseAfter base words g ≡ first g
+        go true t = simp (near, t) (again (marked words g) refl)
+          where
+            again : (m : Bool) → marked words g ≡ m → pick (marked words g) base base ≡ first g
+            again true m = simp m (sym (eqb-true (first g) base t))
+            again false m = simp m (sym (eqb-true (first g) base t))
+        go false t = simp (near, t)
 
     pub taken-multiple : baseAfter base words g % 1024 ≡ 0
     taken-multiple = rw taken-base (omega arith)
@@ -48,12 +48,12 @@ module _ (base : ℕ) (words : List ℕ) (g : ℕ) where
     pub taken-moved : base % 1024 ≡ 0 → base < 65536 → g < 65536 → windowsMoved base (baseAfter base words g) < 32
     taken-moved even small fits = rw taken-base (omega (arith, reach (ltb g base) refl))
       where
-      near : counted base g < base + 32768
-      near = leb-false (base + 32768) (counted base g) taken-near
+        near : counted base g < base + 32768
+        near = leb-false (base + 32768) (counted base g) taken-near
 
-      reach : (b : Bool) → ltb g base ≡ b → minus 16 (first g) base / 1024 < 32
-      reach true t = let low = ltb-true g base t in let far : g + 65536 < base + 32768 = simp t at near in omega arith
-      reach false t = let low = ltb-false g base t in let far : g < base + 32768 = simp t at near in omega arith
+        reach : (b : Bool) → ltb g base ≡ b → minus 16 (first g) base / 1024 < 32
+        reach true t = let low = ltb-true g base t in let far : g + 65536 < base + 32768 = simp t at near in omega arith
+        reach false t = let low = ltb-false g base t in let far : g < base + 32768 = simp t at near in omega arith
 
     -- so far, and no other way
     pub taken-by : base % 1024 ≡ 0 → base < 65536 → g < 65536

@@ -33,18 +33,34 @@ pub fn judge(base: Group, words: [u32; 32], group: Group) -> Judged
     ensures { λ r. ⌜ Judges base words group r ⌝ }
 {
     if is_distant(base, group) {
-        return Judged { base, words, verdict: Verdict::Distant };
+        return Judged {
+            base,
+            words,
+            verdict: Verdict::Distant,
+        };
     }
     let first = group.0 - group.0 % WINDOW;
     if first != base.0 {
         let moved = Group(first);
         let cleared = [0u32; 32];
-        return Judged { base: moved, words: cleared, verdict: Verdict::Taken };
+        return Judged {
+            base: moved,
+            words: cleared,
+            verdict: Verdict::Taken,
+        };
     }
     if is_marked(words, group) {
-        return Judged { base, words, verdict: Verdict::Marked };
+        return Judged {
+            base,
+            words,
+            verdict: Verdict::Marked,
+        };
     }
-    Judged { base, words, verdict: Verdict::Taken }
+    Judged {
+        base,
+        words,
+        verdict: Verdict::Taken,
+    }
 }
 
 // Whether the group lies 32 windows or more past the base; below it, it counts as 65,536 more.

@@ -19,9 +19,9 @@ returns c =
     let a = c .before .before .before .args .a in
     let b = c .before .before .before .args .b in
     let plain : c .before .before .wrapping-sub-u32 .result ≡ minus 32 a b =
-        minus-of a b _ (search needs) (search needs) (search needs) (c .before .before .wrapping-sub-u32 .ensures) in
+    minus-of a b _ (search needs) (search needs) (search needs) (c .before .before .wrapping-sub-u32 .ensures) in
     let turned : c .wrapping-sub-u322 .result ≡ minus 32 b a =
-        minus-of b a _ (search needs) (search needs) (search needs) (c .wrapping-sub-u322 .ensures) in
+    minus-of b a _ (search needs) (search needs) (search needs) (c .wrapping-sub-u322 .ensures) in
     rw (← plain, le-leb _ _ (c .before .if1 .taken)) turned
 
 returns-2 : tie.Need-returns-2
@@ -29,7 +29,7 @@ returns-2 c =
     let a = c .before .before .args .a in
     let b = c .before .before .args .b in
     let plain : c .before .wrapping-sub-u32 .result ≡ minus 32 a b =
-        minus-of a b _ (search needs) (search needs) (search needs) (c .before .wrapping-sub-u32 .ensures) in
+    minus-of a b _ (search needs) (search needs) (search needs) (c .before .wrapping-sub-u32 .ensures) in
     rw (← plain, lt-leb _ _ (c .if1 .left))
 
 pub distance-spec : {M : Type 1} → statement M
