@@ -10,7 +10,8 @@ use lib.ListN.{length, getD}
 use borrow.Author.Tests.{ltb-true, ltb-false, leb-true, lt-leb}
 use Rattle.numbers.specs.Pick.{pick, both}
 use Rattle.command.specs.Layout.{known, table, layout, total, sizeOf, widthOf}
-use Rattle.command.proofs.BoolLaws.{both-left, both-right, both-false, upTo, below}
+use Rattle.numbers.proofs.BoolLaws.{both-left, both-right, both-false}
+use Rattle.command.proofs.TableLaws.{upTo, below}
 
 abbrev pub named : ℕ → List ℕ
 named k = 1 ∷ 1 ∷ 2 ∷ getD table k []

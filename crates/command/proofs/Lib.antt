@@ -1,4 +1,4 @@
-pub mod BoolLaws
+pub mod TableLaws
 pub mod LayoutLaws
 pub mod ByteLaws
 pub mod RowLaws

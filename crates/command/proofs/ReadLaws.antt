@@ -15,7 +15,7 @@ use Rattle.command.specs.Bytes.{rowAt}
 use Rattle.command.specs.Rows.{pad, fits, builtFrom}
 use Rattle.command.specs.Reading.{kindAt, readable, readAt}
 use Rattle.command.specs.Steps.{wholeKind, placed}
-use Rattle.command.proofs.BoolLaws.{both-left, both-right, both-true, both-false}
+use Rattle.numbers.proofs.BoolLaws.{both-left, both-right, both-true, both-false}
 use Rattle.command.proofs.ByteLaws.{Bytes}
 use Rattle.command.proofs.LayoutLaws.{known-low, layout-length}
 use Rattle.command.proofs.RowLaws.{row-length, take-pad, fits-read}

@@ -21,7 +21,7 @@ use Rattle.command.specs.declared.fields.Command.{Command}
 use Rattle.command.specs.declared.fields.Fields.{Fields}
 use Rattle.command.specs.declared.fields.Fields.the-variants as vr
 use Rattle.command.specs.declared.reader.Reading.the-variants as rd
-use Rattle.command.proofs.BoolLaws.{both-left, both-right, both-true}
+use Rattle.numbers.proofs.BoolLaws.{both-left, both-right, both-true}
 use Rattle.command.proofs.ByteLaws.{Bytes, put-length, put-below, put-above, number-same, number-put, put-number, number-bytes}
 use Rattle.command.proofs.LayoutLaws.{named, layout-known}
 use Rattle.command.proofs.WriteLaws.{left, named-kind, row-of-length}

@@ -14,7 +14,7 @@ use Rattle.numbers.specs.Pick.{pick, both}
 use Rattle.command.specs.Layout.{total}
 use Rattle.command.specs.Bytes.{numberAt, putNumber, rowAt, putRow}
 use Rattle.command.specs.Rows.{pad, fits}
-use Rattle.command.proofs.BoolLaws.{both-left, both-right, both-true}
+use Rattle.numbers.proofs.BoolLaws.{both-left, both-right, both-true}
 use Rattle.command.proofs.ByteLaws.{Bytes, number-lt}
 use Rattle.command.proofs.LayoutLaws.{narrow}
 

@@ -15,7 +15,7 @@ use Rattle.numbers.specs.Answers.{done, refused}
 use Rattle.command.specs.Layout.{known, layout}
 use Rattle.command.specs.Rows.{kindOf, fieldsRow, fits, builtFrom}
 use Rattle.command.specs.Shapes.{shaped, shapedBy, connectBy, fragmentBy}
-use Rattle.command.proofs.BoolLaws.{both-left, both-right}
+use Rattle.numbers.proofs.BoolLaws.{both-left, both-right}
 use Rattle.command.proofs.LayoutLaws.{known-low, known-high, layout-length}
 
 abbrev cut : ℕ → ℕ → ℕ

@@ -18,7 +18,7 @@ use Rattle.command.specs.declared.fields.Command.{Command}
 use Rattle.command.specs.declared.fields.Fields.{Fields}
 use Rattle.command.specs.declared.fields.Fields.the-variants as vr
 use Rattle.command.specs.declared.writer.Writing.the-variants as writing
-use Rattle.command.proofs.BoolLaws.{both-true, both-false}
+use Rattle.numbers.proofs.BoolLaws.{both-true, both-false}
 use Rattle.command.proofs.LayoutLaws.{layout-length}
 use Rattle.command.proofs.RowLaws.{put-pad}
 

@@ -1,3 +1,4 @@
+pub mod BoolLaws
 pub mod ModuloLaws
 pub mod BitLaws
 pub mod Trips

@@ -8,7 +8,7 @@ pub struct Bench {
     pub settings: Settings,
 }
 
-pub fn start() -> Bench {
+pub(crate) fn start() -> Bench {
     let settings = settings::first();
     Bench { used: 0, settings }
 }

@@ -2,7 +2,7 @@
 use crate::frame;
 use crate::line;
 
-pub fn distance(frame: &[u8], out: &mut [u8], used: usize) -> usize {
+pub(crate) fn distance(frame: &[u8], out: &mut [u8], used: usize) -> usize {
     let a = frame::number(frame, 0);
     let b = frame::number(frame, 1);
     let begun = line::begin(out, used, 32);

@@ -20,7 +20,7 @@ const KINDS: u32 = 12;
 // The most bytes that op 31 has room for.
 const ROOM: u32 = 64;
 
-pub fn read(frame: &[u8], out: &mut [u8], used: usize) -> usize {
+pub(crate) fn read(frame: &[u8], out: &mut [u8], used: usize) -> usize {
     let place = frame::number(frame, 0);
     let begun = line::begin(out, used, 30);
     match reader::read(frame::bytes(frame), place as usize) {
@@ -54,7 +54,7 @@ fn row(out: &mut [u8], used: usize, kind: u8, numbers: [u32; 16]) -> usize {
     count
 }
 
-pub fn write(frame: &[u8], out: &mut [u8], used: usize) -> usize {
+pub(crate) fn write(frame: &[u8], out: &mut [u8], used: usize) -> usize {
     let kind = frame::number(frame, 3);
     let room = frame::number(frame, 4);
     if KINDS < kind || ROOM < room {

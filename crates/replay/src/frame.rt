@@ -23,7 +23,7 @@ fn count(frame: &[u8]) -> usize
 }
 
 // The bytes of the frame at the start of s, as far as s tells: s has a whole frame where it has so many.
-pub fn size(s: &[u8]) -> usize {
+pub(crate) fn size(s: &[u8]) -> usize {
     if s.len() < 2 {
         return 2;
     }
@@ -34,12 +34,12 @@ pub fn size(s: &[u8]) -> usize {
     head + 256 * wide(s[head - 2]) + wide(s[head - 1])
 }
 
-pub fn op(frame: &[u8]) -> u8 {
+pub(crate) fn op(frame: &[u8]) -> u8 {
     if 0 < frame.len() { frame[0] } else { 0 }
 }
 
 // The number at place j; a missing one reads as 0.
-pub fn number(frame: &[u8], j: usize) -> u32 {
+pub(crate) fn number(frame: &[u8], j: usize) -> u32 {
     if count(frame) <= j {
         return 0;
     }
@@ -55,7 +55,7 @@ fn joined(a: u8, b: u8, c: u8, d: u8) -> u32 {
 }
 
 // What stands behind the numbers and the length.
-pub fn bytes(frame: &[u8]) -> &[u8] {
+pub(crate) fn bytes(frame: &[u8]) -> &[u8] {
     let head = 4 + 4 * count(frame);
     if frame.len() < head {
         return &frame[..0];
@@ -64,7 +64,7 @@ pub fn bytes(frame: &[u8]) -> &[u8] {
 }
 
 // Reads until the frame at the start is whole, or the input ends.
-pub fn fetch(input: &mut [u8], held: Held) -> Held
+pub(crate) fn fetch(input: &mut [u8], held: Held) -> Held
     requires { ⌜ (held .start ≤ held .end) × (held .end ≤ length (now input)) ⌝ }
     ensures { λ r. ⌜ (r .start ≤ r .end) × (r .end ≤ length (now (input .exit))) ⌝ }
 {

@@ -2,7 +2,7 @@
 use libc::STDOUT_FILENO;
 
 // Writes the bytes in use, which are never more than the buffer has; the answer is the new count, 0.
-pub fn flush(out: &[u8], used: usize) -> usize {
+pub(crate) fn flush(out: &[u8], used: usize) -> usize {
     if used <= out.len() {
         io::write_all(STDOUT_FILENO, &out[0..used]);
     }
@@ -45,27 +45,27 @@ fn decimal(out: &mut [u8], used: usize, n: u64) -> usize {
 }
 
 // The op begins its line.
-pub fn begin(out: &mut [u8], used: usize, op: u8) -> usize {
+pub(crate) fn begin(out: &mut [u8], used: usize, op: u8) -> usize {
     decimal(out, used, op as u64)
 }
 
-pub fn value(out: &mut [u8], used: usize, n: u64) -> usize {
+pub(crate) fn value(out: &mut [u8], used: usize, n: u64) -> usize {
     let count = byte(out, used, b' ');
     decimal(out, count, n)
 }
 
-pub fn end(out: &mut [u8], used: usize) -> usize {
+pub(crate) fn end(out: &mut [u8], used: usize) -> usize {
     byte(out, used, b'\n')
 }
 
 // The line of the op alone.
-pub fn plain(out: &mut [u8], used: usize, op: u8) -> usize {
+pub(crate) fn plain(out: &mut [u8], used: usize, op: u8) -> usize {
     let count = begin(out, used, op);
     end(out, count)
 }
 
 // The line of the op and a word.
-pub fn worded(out: &mut [u8], used: usize, op: u8, word: &[u8]) -> usize {
+pub(crate) fn worded(out: &mut [u8], used: usize, op: u8, word: &[u8]) -> usize {
     let begun = begin(out, used, op);
     let spaced = byte(out, begun, b' ');
     let said = text(out, spaced, word);
@@ -73,7 +73,7 @@ pub fn worded(out: &mut [u8], used: usize, op: u8, word: &[u8]) -> usize {
 }
 
 // The input ended inside a frame.
-pub fn short(out: &mut [u8], used: usize) -> usize {
+pub(crate) fn short(out: &mut [u8], used: usize) -> usize {
     let said = text(out, used, b"short");
     end(out, said)
 }

@@ -19,7 +19,7 @@ enum Asked {
     Bad,
 }
 
-pub fn first() -> Settings {
+pub(crate) fn first() -> Settings {
     Settings {
         mtu: numbers::consts::HOST_DEFAULT_MTU,
         packet: numbers::consts::HOST_DEFAULT_MAXIMUM_PACKET_SIZE,
@@ -51,7 +51,7 @@ fn of(frame: &[u8]) -> Asked {
     })
 }
 
-pub fn set(frame: &[u8], out: &mut [u8], bench: Bench) -> Bench {
+pub(crate) fn set(frame: &[u8], out: &mut [u8], bench: Bench) -> Bench {
     let mut after = bench;
     match of(frame) {
         Asked::Fit(s) => {

@@ -5,7 +5,7 @@ use Prim.Native.Nat.{ℕ}
 use lib.ListN.{getD, List·getD-eq-default}
 use Rattle.command.specs.Layout.{layout}
 use Rattle.command.specs.Rows.{pad}
-use Rattle.command.proofs.BoolLaws.{entry}
+use Rattle.command.proofs.TableLaws.{entry}
 use Rattle.command.proofs.LayoutLaws.{layout-none, not-known, layout-length}
 use Rattle.command.proofs.RowLaws.{pad-at}
 use native.Mathlib.Omega.{arith}

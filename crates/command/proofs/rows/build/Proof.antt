@@ -8,7 +8,7 @@ use borrow.Author.Tests.{not-true, not-false}
 use Rattle.command.specs.Layout.{known, layout}
 use Rattle.command.specs.Rows.{kindOf, rowOf, fits}
 use Rattle.command.specs.declared.fields.Command.{Command}
-use Rattle.command.proofs.BoolLaws.{both-left}
+use Rattle.numbers.proofs.BoolLaws.{both-left}
 use Rattle.command.proofs.ShapeLaws.{built-fit, built-none}
 use native.Mathlib.Omega.{arith}
 use borrow.Author.Needs.{needs}

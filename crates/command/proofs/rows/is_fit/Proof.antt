@@ -7,7 +7,7 @@ use borrow.Author.Tests.{not-true, not-false}
 use Rattle.numbers.specs.Pick.{both}
 use Rattle.command.specs.Layout.{known, layout}
 use Rattle.command.specs.Rows.{fits}
-use Rattle.command.proofs.BoolLaws.{both-false, both-true}
+use Rattle.numbers.proofs.BoolLaws.{both-false, both-true}
 use Rattle.command.proofs.LayoutLaws.{known-size, size-known, layout-narrow, layout-length}
 use Rattle.command.proofs.RowLaws.{fits-turn, fits-end}
 use borrow.Author.Needs.{needs}

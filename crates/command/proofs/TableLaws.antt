@@ -1,5 +1,5 @@
--- `both` holds where its two sides do, and a test that holds at each number below a bound, computed, holds at any of them.
--- The argument: by cases, and by induction on the bound or the list.
+-- A test that holds at each number below a bound, computed, holds at any of them; so does a table of a function's values.
+-- The argument: induction on the bound or the list.
 use mathlib.Core.Path.{_≡_, refl, ap, _∙_}
 use mathlib.Core.Bool.{Bool, true, false}
 use mathlib.Core.List.{List, [], _∷_}
@@ -9,21 +9,7 @@ use lib.Dec.{eqb}
 use lib.ListN.{getD}
 use borrow.Author.Tests.{eqb-true, eqb-false}
 use Rattle.numbers.specs.Pick.{both}
-
-pub both-left : (a b : Bool) → both a b ≡ true → a ≡ true
-both-left true b e = refl
-both-left false b e = e
-
-pub both-right : (a b : Bool) → both a b ≡ true → b ≡ true
-both-right true b e = e
-both-right false b e = cc
-
-pub both-true : (a b : Bool) → a ≡ true → b ≡ true → both a b ≡ true
-both-true a b p q = rw (p, q)
-
-pub both-false : (a b : Bool) → b ≡ false → both a b ≡ false
-both-false true b e = e
-both-false false b e = refl
+use Rattle.numbers.proofs.BoolLaws.{both-left, both-right}
 
 abbrev pub upTo : (ℕ → Bool) → ℕ → Bool
 upTo f zero = true
