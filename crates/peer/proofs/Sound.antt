@@ -1,0 +1,206 @@
+-- Soundness through the calls: after reset, begin or set state that answers done the record is sound, and a sound one stays sound.
+-- The argument: behind the gate a record is sound, so one law for any such call asks only that its rule keeps soundness; begin keeps it
+-- since with no channel nothing is held, and every outgoing command is the peer's own.
+use mathlib.Core.Path.{_≡_, refl, ap, sym, _∙_}
+use mathlib.Core.Bool.{Bool, true, false}
+use mathlib.Core.List.{List, [], _∷_, _++_}
+use Prim.Native.Nat.{ℕ, zero, suc, _+_, _≤_, _<_}
+use native.Mathlib.Omega.{arith}
+use lib.Dec.{leb, ltb, eqb}
+use lib.ListN.{length, getD, take, replicate}
+use borrow.Author.Tests.{le-leb, leb-true, ltb-true, eqb-true, le-ltb}
+use Rattle.numbers.specs.Pick.{pick, both}
+use Rattle.numbers.proofs.BoolLaws.{both-left, both-right, both-true}
+use Rattle.command.specs.Rows.{namesFields}
+use Rattle.command.specs.declared.fields.Command.{Command}
+use Rattle.slots.specs.Lists.{outgoing, incoming, outItems, inItems}
+use Rattle.slots.specs.Free.{exist, once}
+use Rattle.peer.specs.Settings.{fitSettings}
+use Rattle.peer.specs.Fresh.{channels, noLists, noChannel, noOutgoing, noIncoming, freshPeer}
+use Rattle.peer.specs.Damage.{sound, ranged, listsFit, heldFit, held, below, all, own, lengths, outFit, inFit, tried, outSound, inSound, usedOut, usedIn}
+use Rattle.peer.specs.Calls.{Outcome, Sounds, gated, unchanged, finished, kept, resets, begins, beginsSound, begun, beginFits, setsState, setsStateSound, stated}
+use Rattle.peer.specs.declared.settings.Settings.{Settings}
+use Rattle.peer.specs.declared.record.Peer.{Peer}
+use Rattle.peer.specs.declared.record.Channel.{Channel}
+use Rattle.peer.specs.declared.record.Outgoing.{Outgoing}
+use Rattle.peer.specs.declared.record.Incoming.{Incoming}
+use Rattle.peer.specs.declared.defaults.Kept.{Kept}
+
+-- behind the gate a record is sound, so a call need only keep it so
+module _ (s : Settings) (rest : Peer → Outcome) (keep : (p : Peer) → sound p ≡ true → sound (rest p .peer) ≡ true) where
+  gate-keeps : (p : Peer) (f w : Bool) → sound p ≡ w → sound p ≡ true
+      → sound (pick f (pick w (rest p) (unchanged 13 p)) (unchanged 11 p) .peer) ≡ true
+  gate-keeps p true true e h = keep p h
+  gate-keeps p true false e h = h
+  gate-keeps p false w e h = h
+
+  gate-after : (p : Peer) (f w : Bool) → sound p ≡ w
+      → pick f (pick w (rest p) (unchanged 13 p)) (unchanged 11 p) .answer .number ≡ 0
+      → sound (pick f (pick w (rest p) (unchanged 13 p)) (unchanged 11 p) .peer) ≡ true
+  gate-after p true true e n = keep p e
+  gate-after p true false e n = absurd (omega arith)
+  gate-after p false w e n = absurd (omega arith)
+
+  pub gated-sounds : Sounds (λ (p : Peer). gated s p (rest p))
+  gated-sounds =
+      record {
+        after = λ p n. gate-after p (fitSettings s) (sound p) refl n;
+        keeps = λ p h. gate-keeps p (fitSettings s) (sound p) refl h }
+
+-- set state: soundness does not look at the state
+state-same : (state : ℕ) (p : Peer) → sound (stated state p) ≡ sound p
+unfolding sound
+state-same state p = refl
+
+state-keeps : (state : ℕ) (p : Peer) → sound p ≡ true → sound (setsStateSound state p .peer) ≡ true
+state-keeps state p h = go (leb state 9)
+  where
+  go : (b : Bool) → sound (pick b (finished (stated state p)) (unchanged 11 p) .peer) ≡ true
+  go true = state-same state p ∙ h
+  go false = h
+
+pub state-sounds : (s : Settings) (state : ℕ) → Sounds (setsState s state)
+state-sounds s state = gated-sounds s (setsStateSound state) (state-keeps state)
+
+-- reset: nothing is held
+fresh-sound : (mtu : ℕ) (k : Kept) → leb 576 mtu ≡ true → leb mtu 4096 ≡ true → sound (freshPeer mtu k) ≡ true
+unfolding sound freshPeer noLists heldFit held all own lengths exist once
+fresh-sound mtu k low high = rw (low, high)
+
+fit-low : (s : Settings) → fitSettings s ≡ true → leb 576 (s .mtu) ≡ true
+fit-low s e = both-left _ _ e
+
+fit-high : (s : Settings) → fitSettings s ≡ true → leb (s .mtu) 4096 ≡ true
+fit-high s e = both-left _ _ (both-right (leb 576 (s .mtu)) _ e)
+
+pub reset-sounds : (s : Settings) → Sounds (resets s)
+reset-sounds s = record { after = λ p n. after p (fitSettings s) refl n; keeps = λ p h. keeps p (fitSettings s) refl h }
+  where
+  after : (p : Peer) (f : Bool) → fitSettings s ≡ f
+      → pick f (finished (freshPeer (s .mtu) (kept p))) (unchanged 11 p) .answer .number ≡ 0
+      → sound (pick f (finished (freshPeer (s .mtu) (kept p))) (unchanged 11 p) .peer) ≡ true
+  after p true e n = fresh-sound (s .mtu) (kept p) (fit-low s e) (fit-high s e)
+  after p false e n = absurd (omega arith)
+
+  keeps : (p : Peer) (f : Bool) → fitSettings s ≡ f → sound p ≡ true
+      → sound (pick f (finished (freshPeer (s .mtu) (kept p))) (unchanged 11 p) .peer) ≡ true
+  keeps p true e h = fresh-sound (s .mtu) (kept p) (fit-low s e) (fit-high s e)
+  keeps p false e h = h
+
+-- begin: with no channel nothing is held, and every outgoing command is the peer's own
+all-more : (f g : ℕ → Bool) (xs : List ℕ) → ((x : ℕ) → f x ≡ true → g x ≡ true) → all f xs ≡ true → all g xs ≡ true
+unfolding all
+all-more f g [] h e = refl
+all-more f g (x ∷ xs) h e =
+    both-true (g x) (all g xs) (h x (both-left (f x) (all f xs) e)) (all-more f g xs h (both-right (f x) (all f xs) e))
+
+none-below : (x : ℕ) → ltb x 0 ≡ false
+none-below x = le-ltb x 0 (omega arith)
+
+out-more : (slots : List Outgoing) (count s : ℕ) → outFit slots 0 s ≡ true → outFit slots count s ≡ true
+out-more slots count s e = both-true (namesFields c) _ (both-left (namesFields c) _ e) (go (ltb (c .channel) count))
+  where
+  c : Command
+  c = getD slots s noOutgoing .command
+
+  own-channel : eqb (c .channel) 255 ≡ true
+  own-channel = simp (none-below (c .channel)) at (both-right (namesFields c) (pick (ltb (c .channel) 0) true (eqb (c .channel) 255)) e)
+
+  go : (b : Bool) → pick b true (eqb (c .channel) 255) ≡ true
+  go true = refl
+  go false = own-channel
+
+in-more : (slots : List Incoming) (count s : ℕ) → inFit slots 0 s ≡ true → inFit slots count s ≡ true
+in-more slots count s e =
+    let l = leb (getD slots s noIncoming .length) 4096 in
+    let z : ltb (getD slots s noIncoming .channel) 0 ≡ true = both-right l _ e in
+    absurd (omega (arith, ltb-true (getD slots s noIncoming .channel) 0 z))
+
+-- channels as made new hold nothing
+module _ (slots : List Incoming) where
+  held-none : (n k : ℕ) → held (take k (replicate n noChannel)) ≡ []
+  unfolding held noChannel
+  held-none n zero = refl
+  held-none zero (suc k) = refl
+  held-none (suc n) (suc k) = held-none n k
+
+  fit-none : (n k : ℕ) → heldFit (take k (replicate n noChannel)) ≡ true
+  unfolding heldFit noChannel
+  fit-none n zero = refl
+  fit-none zero (suc k) = refl
+  fit-none (suc n) (suc k) = fit-none n k
+
+  own-none : (n k j : ℕ) → own slots j (take k (replicate n noChannel)) ≡ true
+  unfolding own all noChannel
+  own-none n zero j = refl
+  own-none zero (suc k) j = refl
+  own-none (suc n) (suc k) j = own-none n k (j + 1)
+
+module _ (mtu count : ℕ) (p : Peer) (h : sound p ≡ true) (none : p .standing .count ≡ 0)
+  (low : leb 576 mtu ≡ true) (high : leb mtu 4096 ≡ true) (few : leb count channels ≡ true) where
+  -- what the record's soundness says, with no channel
+  was : both (ranged (p .flow .mtu) 0)
+      (both (both (listsFit (p .lists)) true)
+      (both (outSound (p .outgoing) (p .lists) 0) (inSound (p .incoming) (p .lists) [] 0 (p .waiting .total)))) ≡ true
+  unfolding sound heldFit
+  was = rw none at h
+
+  was-lists : both (both (listsFit (p .lists)) true)
+      (both (outSound (p .outgoing) (p .lists) 0) (inSound (p .incoming) (p .lists) [] 0 (p .waiting .total))) ≡ true
+  was-lists = both-right (ranged (p .flow .mtu) 0) _ was
+
+  was-pools : both (outSound (p .outgoing) (p .lists) 0) (inSound (p .incoming) (p .lists) [] 0 (p .waiting .total)) ≡ true
+  was-pools = both-right (both (listsFit (p .lists)) true) _ was-lists
+
+  lists : listsFit (p .lists) ≡ true
+  lists = both-left (listsFit (p .lists)) true (both-left (both (listsFit (p .lists)) true) _ was-lists)
+
+  out : outSound (p .outgoing) (p .lists) count ≡ true
+  out =
+      let w = both-left (outSound (p .outgoing) (p .lists) 0) _ was-pools in
+      let named = both (exist outgoing (usedOut (p .lists))) (once (usedOut (p .lists))) in
+      let fit = all (outFit (p .outgoing) 0) (usedOut (p .lists)) in
+      let sent = all (tried (p .outgoing)) (outItems (p .lists .sent)) in
+      both-true named _ (both-left named (both fit sent) w)
+      (both-true _ sent
+      (all-more (outFit (p .outgoing) 0) (outFit (p .outgoing) count) (usedOut (p .lists)) (out-more (p .outgoing) count) (both-left fit sent (both-right named (both fit sent) w)))
+      (both-right fit sent (both-right named (both fit sent) w)))
+
+  now-held : List Channel
+  now-held = below (replicate channels noChannel) count
+
+  inn : inSound (p .incoming) (p .lists) now-held count (p .waiting .total) ≡ true
+  unfolding now-held held
+  inn =
+      rw (held-none (p .incoming) channels count)
+      (let w = both-right (outSound (p .outgoing) (p .lists) 0) _ was-pools in
+      let xs = inItems (p .lists .dispatched) ++ [] in
+      let named = both (exist incoming xs) (once xs) in
+      let fit = all (inFit (p .incoming) 0) xs in
+      let total = eqb (p .waiting .total) (lengths (p .incoming) xs) in
+      both-true named _ (both-left named _ w)
+      (both-true _ _ (all-more (inFit (p .incoming) 0) (inFit (p .incoming) count) xs (in-more (p .incoming) count) (both-left fit _ (both-right named _ w)))
+      (both-true _ total (own-none (p .incoming) channels count 0)
+      (both-right (own (p .incoming) 0 []) total (both-right fit (both (own (p .incoming) 0 []) total) (both-right named _ w))))))
+
+  begun-sound : sound (begun mtu count p) ≡ true
+  unfolding sound now-held
+  begun-sound =
+      both-true (ranged mtu count) _ (both-true (leb 576 mtu) _ low (both-true (leb mtu 4096) _ high few))
+      (both-true (both (listsFit (p .lists)) (heldFit now-held)) _ (both-true (listsFit (p .lists)) (heldFit now-held) lists (fit-none (p .incoming) channels count))
+      (both-true (outSound (p .outgoing) (p .lists) count) (inSound (p .incoming) (p .lists) now-held count (p .waiting .total)) out inn))
+
+begin-keeps : (mtu count : ℕ) (p : Peer) → sound p ≡ true → sound (beginsSound mtu count p .peer) ≡ true
+begin-keeps mtu count p h = go (beginFits mtu count (p .standing .count)) refl
+  where
+  go : (b : Bool) → beginFits mtu count (p .standing .count) ≡ b → sound (pick b (finished (begun mtu count p)) (unchanged 11 p) .peer) ≡ true
+  go true e =
+      let e₁ = both-right (leb 576 mtu) _ e in
+      let e₂ = both-right (leb mtu 4096) _ e₁ in
+      let e₃ = both-right (leb 1 count) _ e₂ in
+      begun-sound mtu count p h (eqb-true (p .standing .count) 0 (both-right (leb count channels) _ e₃)) (both-left (leb 576 mtu) _ e)
+      (both-left (leb mtu 4096) _ e₁) (both-left (leb count channels) _ e₃)
+  go false e = h
+
+pub begin-sounds : (s : Settings) (mtu count : ℕ) → Sounds (begins s mtu count)
+begin-sounds s mtu count = gated-sounds s (beginsSound mtu count) (begin-keeps mtu count)

@@ -1,0 +1,6 @@
+pub mod Settings
+pub mod Fresh
+pub mod Damage
+pub mod Walks
+pub mod Calls
+pub mod Same

@@ -1,0 +1,102 @@
+-- The comparison of records that document 01 means: free slots, channels at or above the count and cells past a length do not count.
+-- Two records are the same where what counts in them, their view, is equal.
+use Prim.Native.Nat.{ℕ}
+use mathlib.Core.Path.{_≡_}
+use mathlib.Core.List.{List, map}
+use lib.ListN.{getD}
+use Rattle.numbers.specs.declared.counters.Reliable.{Reliable}
+use Rattle.numbers.specs.declared.counters.Unreliable.{Unreliable}
+use Rattle.slots.specs.Lists.{outItems, inItems}
+use Rattle.slots.specs.declared.outgoing.OutList.{OutList}
+use Rattle.slots.specs.declared.incoming.InList.{InList}
+use Rattle.peer.specs.Fresh.{noOutgoing, noIncoming}
+use Rattle.peer.specs.Damage.{below}
+use Rattle.peer.specs.declared.record.Ids.{Ids}
+use Rattle.peer.specs.declared.record.Standing.{Standing}
+use Rattle.peer.specs.declared.record.Bandwidth.{Bandwidth}
+use Rattle.peer.specs.declared.record.Totals.{Totals}
+use Rattle.peer.specs.declared.record.Times.{Times}
+use Rattle.peer.specs.declared.record.Loss.{Loss}
+use Rattle.peer.specs.declared.record.Throttling.{Throttling}
+use Rattle.peer.specs.declared.record.Limits.{Limits}
+use Rattle.peer.specs.declared.record.Trips.{Trips}
+use Rattle.peer.specs.declared.record.Flow.{Flow}
+use Rattle.peer.specs.declared.record.Groups.{Groups}
+use Rattle.peer.specs.declared.record.Waiting.{Waiting}
+use Rattle.peer.specs.declared.record.Channel.{Channel}
+use Rattle.peer.specs.declared.record.Outgoing.{Outgoing}
+use Rattle.peer.specs.declared.record.Incoming.{Incoming}
+use Rattle.peer.specs.declared.record.Peer.{Peer}
+
+-- a list: its length, the slots that it names, and what they hold
+pub record ListView (A : Type 0) : Type 0 where
+  pub len : ℕ
+  pub items : List ℕ
+  pub slots : List A
+
+pub record ChannelView : Type 0 where
+  pub outgoingReliable : Reliable
+  pub outgoingUnreliable : Unreliable
+  pub incomingReliable : Reliable
+  pub incomingUnreliable : Unreliable
+  pub held : ListView Incoming
+
+pub record View : Type 0 where
+  pub ids : Ids
+  pub standing : Standing
+  pub bandwidth : Bandwidth
+  pub totals : Totals
+  pub times : Times
+  pub loss : Loss
+  pub throttling : Throttling
+  pub limits : Limits
+  pub trips : Trips
+  pub flow : Flow
+  pub sent : ListView Outgoing
+  pub reliable : ListView Outgoing
+  pub outgoing : ListView Outgoing
+  pub dispatched : ListView Incoming
+  pub groups : Groups
+  pub waiting : Waiting
+  pub channels : List ChannelView
+
+abbrev pub outView : List Outgoing → OutList → ListView Outgoing
+outView slots l =
+    record { len = l .len; items = outItems l; slots = map (λ (s : ℕ). getD slots s noOutgoing) (outItems l) }
+
+abbrev pub inView : List Incoming → InList → ListView Incoming
+inView slots l =
+    record { len = l .len; items = inItems l; slots = map (λ (s : ℕ). getD slots s noIncoming) (inItems l) }
+
+abbrev pub channelView : List Incoming → Channel → ChannelView
+channelView slots c =
+    record {
+      outgoingReliable = c .«outgoing_reliable»;
+      outgoingUnreliable = c .«outgoing_unreliable»;
+      incomingReliable = c .«incoming_reliable»;
+      incomingUnreliable = c .«incoming_unreliable»;
+      held = inView slots (c .held) }
+
+unfoldable pub view : Peer → View
+view p =
+    record {
+      ids = p .ids;
+      standing = p .standing;
+      bandwidth = p .bandwidth;
+      totals = p .totals;
+      times = p .times;
+      loss = p .loss;
+      throttling = p .throttling;
+      limits = p .limits;
+      trips = p .trips;
+      flow = p .flow;
+      sent = outView (p .outgoing) (p .lists .sent);
+      reliable = outView (p .outgoing) (p .lists .reliable);
+      outgoing = outView (p .outgoing) (p .lists .outgoing);
+      dispatched = inView (p .incoming) (p .lists .dispatched);
+      groups = p .groups;
+      waiting = p .waiting;
+      channels = map (channelView (p .incoming)) (below (p .channels) (p .standing .count)) }
+
+abbrev pub Same : Peer → Peer → Type 0
+Same p q = view p ≡ view q
