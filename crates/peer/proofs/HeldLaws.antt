@@ -33,13 +33,13 @@ fit-end cs n k h = rw (part-end cs n k h)
 
 module _ (slots : List Incoming) (count : ℕ) (cs : List Channel) (n k : ℕ) (m : List ℕ) where
   pub held-stop : (d : Channel) → n ≤ length cs → k < n → false ≡ passes (inPasses slots count true k) m (inItems (getD cs k d .held))
-    → heldPass slots count k m (drop k (take n cs)) ≡ false
+      → heldPass slots count k m (drop k (take n cs)) ≡ false
   unfolding heldPass
   held-stop d e h q = rw (part-step cs n k d e h, ← q)
 
   pub held-turn : (d : Channel) (after : List ℕ) → n ≤ length cs → k < n
-    → true ≡ passes (inPasses slots count true k) m (inItems (getD cs k d .held)) → after ≡ marked m (inItems (getD cs k d .held))
-    → heldPass slots count k m (drop k (take n cs)) ≡ heldPass slots count (k + 1) after (drop (k + 1) (take n cs))
+      → true ≡ passes (inPasses slots count true k) m (inItems (getD cs k d .held)) → after ≡ marked m (inItems (getD cs k d .held))
+      → heldPass slots count k m (drop k (take n cs)) ≡ heldPass slots count (k + 1) after (drop (k + 1) (take n cs))
   unfolding heldPass
   held-turn d after e h q w = rw (part-step cs n k d e h, ← q, w)
 
@@ -49,7 +49,7 @@ module _ (slots : List Incoming) (count : ℕ) (cs : List Channel) (n k : ℕ) (
 
 module _ (slots : List Incoming) (cs : List Channel) (n k : ℕ) where
   pub held-sum : (d : Channel) (t u : ℕ) → n ≤ length cs → k < n → u ≡ t + lengths slots (inItems (getD cs k d .held))
-    → t + lengths slots (held (drop k (take n cs))) ≡ u + lengths slots (held (drop (k + 1) (take n cs)))
+      → t + lengths slots (held (drop k (take n cs))) ≡ u + lengths slots (held (drop (k + 1) (take n cs)))
   unfolding held
   held-sum d t u e h q =
       rw (part-step cs n k d e h, sum-append slots (inItems (getD cs k d .held)) (held (drop (k + 1) (take n cs)))) (omega arith)
@@ -63,14 +63,16 @@ spread : (a b c d e f : Bool) → both (both a (both b c)) (both d (both e f)) �
 spread a b c d e f = middle a (both b c) d (both e f) ∙ rw (middle b c e f)
 
 pub held-is : (slots : List Incoming) (count k : ℕ) (m : List ℕ) (cs : List Channel)
-  → heldPass slots count k m cs ≡ both (passes any m (held cs)) (both (all (inFit slots count) (held cs)) (own slots k cs))
+    → heldPass slots count k m cs ≡ both (passes any m (held cs)) (both (all (inFit slots count) (held cs)) (own slots k cs))
 unfolding heldPass held own passes all
 held-is slots count k m [] = refl
 held-is slots count k m (c ∷ cs) =
     let xs = inItems (c .held) in
-    rw (held-is slots count (k + 1) (marked m xs) cs,
-    pass-two (inFit slots count) (λ (s : ℕ). eqb (getD slots s noIncoming .channel) k) m xs,
-    pass-append any m xs (held cs),
-    all-append (inFit slots count) xs (held cs))
+    rw (
+      held-is slots count (k + 1) (marked m xs) cs,
+      pass-two (inFit slots count) (λ (s : ℕ). eqb (getD slots s noIncoming .channel) k) m xs,
+      pass-append any m xs (held cs),
+      all-append (inFit slots count) xs (held cs),
+    )
     (spread (passes any m xs) (all (inFit slots count) xs) (all (λ (s : ℕ). eqb (getD slots s noIncoming .channel) k) xs)
     (passes any (marked m xs) (held cs)) (all (inFit slots count) (held cs)) (own slots (k + 1) cs))

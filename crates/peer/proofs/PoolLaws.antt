@@ -39,19 +39,27 @@ join a b c d e f t =
 
 -- three lists, the first with a test more
 three : (n : ℕ) (f t : ℕ → Bool) (xs ys zs : List ℕ)
-  → both (passes (λ (s : ℕ). both (f s) (t s)) (replicate n 0) xs)
+    → both (passes (λ (s : ℕ). both (f s) (t s)) (replicate n 0) xs)
     (both (passes (λ (s : ℕ). both (f s) true) (marked (replicate n 0) xs) ys)
     (passes (λ (s : ℕ). both (f s) true) (marked (marked (replicate n 0) xs) ys) zs))
-  ≡ both (both (exist n (xs ++ (ys ++ zs))) (once (xs ++ (ys ++ zs)))) (both (all f (xs ++ (ys ++ zs))) (all t xs))
+    ≡ both (both (exist n (xs ++ (ys ++ zs))) (once (xs ++ (ys ++ zs)))) (both (all f (xs ++ (ys ++ zs))) (all t xs))
 three n f t xs ys zs =
     let m : List ℕ = replicate n 0 in
-    rw (pass-two f t m xs, pass-one f (marked m xs) ys, pass-one f (marked (marked m xs) ys) zs, ← new-rule n (xs ++ (ys ++ zs)),
-    pass-append any m xs (ys ++ zs), pass-append any (marked m xs) ys zs, all-append f xs (ys ++ zs), all-append f ys zs)
+    rw (
+      pass-two f t m xs,
+      pass-one f (marked m xs) ys,
+      pass-one f (marked (marked m xs) ys) zs,
+      ← new-rule n (xs ++ (ys ++ zs)),
+      pass-append any m xs (ys ++ zs),
+      pass-append any (marked m xs) ys zs,
+      all-append f xs (ys ++ zs),
+      all-append f ys zs,
+    )
     (join (passes any m xs) (passes any (marked m xs) ys) (passes any (marked (marked m xs) ys) zs) (all f xs) (all f ys) (all f zs) (all t xs))
 
 pub out-is : (slots : List Outgoing) (l : Lists) (count : ℕ)
-  → outSound slots l count
-  ≡ both (passes (outPasses slots count true) (replicate outgoing 0) (outItems (l .sent)))
+    → outSound slots l count
+    ≡ both (passes (outPasses slots count true) (replicate outgoing 0) (outItems (l .sent)))
     (both (passes (outPasses slots count false) (marked (replicate outgoing 0) (outItems (l .sent))) (outItems (l .reliable)))
     (passes (outPasses slots count false) (marked (marked (replicate outgoing 0) (outItems (l .sent))) (outItems (l .reliable)))
     (outItems (l .outgoing))))
@@ -66,8 +74,8 @@ line a b c d o e =
 
 -- a list, then the channels' lists
 pub in-is : (slots : List Incoming) (l : Lists) (cs : List Channel) (count total : ℕ)
-  → inSound slots l cs count total
-  ≡ both (passes (inPasses slots count false 0) (replicate incoming 0) (inItems (l .dispatched)))
+    → inSound slots l cs count total
+    ≡ both (passes (inPasses slots count false 0) (replicate incoming 0) (inItems (l .dispatched)))
     (both (heldPass slots count 0 (marked (replicate incoming 0) (inItems (l .dispatched))) cs)
     (eqb total (lengths slots (inItems (l .dispatched)) + lengths slots (held cs))))
 in-is slots l cs count total =
@@ -75,15 +83,21 @@ in-is slots l cs count total =
     let m : List ℕ = replicate incoming 0 in
     let f = inFit slots count in
     let e = eqb total (lengths slots xs + lengths slots (held cs)) in
-    rw (pass-one f m xs, held-is slots count 0 (marked m xs) cs, ← new-rule incoming (xs ++ held cs),
-    pass-append any m xs (held cs), all-append f xs (held cs), sum-append slots xs (held cs))
+    rw (
+      pass-one f m xs,
+      held-is slots count 0 (marked m xs) cs,
+      ← new-rule incoming (xs ++ held cs),
+      pass-append any m xs (held cs),
+      all-append f xs (held cs),
+      sum-append slots xs (held cs),
+    )
     (sym (line (passes any m xs) (passes any (marked m xs) (held cs)) (all f xs) (all f (held cs)) (own slots 0 cs) e))
 
 -- a count in range is at most the channels
 pub few : (mtu count : ℕ) → ranged mtu count ≡ true → count ≤ channels
 few mtu count e = leb-true count channels (go (leb 576 mtu) (leb mtu 4096) (leb count channels) e)
   where
-  go : (a b d : Bool) → both a (both b d) ≡ true → d ≡ true
-  go true true d q = q
-  go true false d q = let z : _≡_ {A = ℕ} 0 1 = cc in absurd (omega arith)
-  go false b d q = let z : _≡_ {A = ℕ} 0 1 = cc in absurd (omega arith)
+    go : (a b d : Bool) → both a (both b d) ≡ true → d ≡ true
+    go true true d q = q
+    go true false d q = let z : _≡_ {A = ℕ} 0 1 = cc in absurd (omega arith)
+    go false b d q = let z : _≡_ {A = ℕ} 0 1 = cc in absurd (omega arith)

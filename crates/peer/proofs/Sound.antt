@@ -45,7 +45,8 @@ module _ (s : Settings) (rest : Peer → Outcome) (keep : (p : Peer) → sound p
   gated-sounds =
       record {
         after = λ p n. gate-after p (fitSettings s) (sound p) refl n;
-        keeps = λ p h. gate-keeps p (fitSettings s) (sound p) refl h }
+        keeps = λ p h. gate-keeps p (fitSettings s) (sound p) refl h;
+      }
 
 -- set state: soundness does not look at the state
 state-same : (state : ℕ) (p : Peer) → sound (stated state p) ≡ sound p
@@ -55,9 +56,9 @@ state-same state p = refl
 state-keeps : (state : ℕ) (p : Peer) → sound p ≡ true → sound (setsStateSound state p .peer) ≡ true
 state-keeps state p h = go (leb state 9)
   where
-  go : (b : Bool) → sound (pick b (finished (stated state p)) (unchanged 11 p) .peer) ≡ true
-  go true = state-same state p ∙ h
-  go false = h
+    go : (b : Bool) → sound (pick b (finished (stated state p)) (unchanged 11 p) .peer) ≡ true
+    go true = state-same state p ∙ h
+    go false = h
 
 pub state-sounds : (s : Settings) (state : ℕ) → Sounds (setsState s state)
 state-sounds s state = gated-sounds s (setsStateSound state) (state-keeps state)
@@ -76,16 +77,16 @@ fit-high s e = both-left _ _ (both-right (leb 576 (s .mtu)) _ e)
 pub reset-sounds : (s : Settings) → Sounds (resets s)
 reset-sounds s = record { after = λ p n. after p (fitSettings s) refl n; keeps = λ p h. keeps p (fitSettings s) refl h }
   where
-  after : (p : Peer) (f : Bool) → fitSettings s ≡ f
-      → pick f (finished (freshPeer (s .mtu) (kept p))) (unchanged 11 p) .answer .number ≡ 0
-      → sound (pick f (finished (freshPeer (s .mtu) (kept p))) (unchanged 11 p) .peer) ≡ true
-  after p true e n = fresh-sound (s .mtu) (kept p) (fit-low s e) (fit-high s e)
-  after p false e n = absurd (omega arith)
+    after : (p : Peer) (f : Bool) → fitSettings s ≡ f
+        → pick f (finished (freshPeer (s .mtu) (kept p))) (unchanged 11 p) .answer .number ≡ 0
+        → sound (pick f (finished (freshPeer (s .mtu) (kept p))) (unchanged 11 p) .peer) ≡ true
+    after p true e n = fresh-sound (s .mtu) (kept p) (fit-low s e) (fit-high s e)
+    after p false e n = absurd (omega arith)
 
-  keeps : (p : Peer) (f : Bool) → fitSettings s ≡ f → sound p ≡ true
-      → sound (pick f (finished (freshPeer (s .mtu) (kept p))) (unchanged 11 p) .peer) ≡ true
-  keeps p true e h = fresh-sound (s .mtu) (kept p) (fit-low s e) (fit-high s e)
-  keeps p false e h = h
+    keeps : (p : Peer) (f : Bool) → fitSettings s ≡ f → sound p ≡ true
+        → sound (pick f (finished (freshPeer (s .mtu) (kept p))) (unchanged 11 p) .peer) ≡ true
+    keeps p true e h = fresh-sound (s .mtu) (kept p) (fit-low s e) (fit-high s e)
+    keeps p false e h = h
 
 -- begin: with no channel nothing is held, and every outgoing command is the peer's own
 all-more : (f g : ℕ → Bool) (xs : List ℕ) → ((x : ℕ) → f x ≡ true → g x ≡ true) → all f xs ≡ true → all g xs ≡ true
@@ -100,15 +101,15 @@ none-below x = le-ltb x 0 (omega arith)
 out-more : (slots : List Outgoing) (count s : ℕ) → outFit slots 0 s ≡ true → outFit slots count s ≡ true
 out-more slots count s e = both-true (namesFields c) _ (both-left (namesFields c) _ e) (go (ltb (c .channel) count))
   where
-  c : Command
-  c = getD slots s noOutgoing .command
+    c : Command
+    c = getD slots s noOutgoing .command
 
-  own-channel : eqb (c .channel) 255 ≡ true
-  own-channel = simp (none-below (c .channel)) at (both-right (namesFields c) (pick (ltb (c .channel) 0) true (eqb (c .channel) 255)) e)
+    own-channel : eqb (c .channel) 255 ≡ true
+    own-channel = simp (none-below (c .channel)) at (both-right (namesFields c) (pick (ltb (c .channel) 0) true (eqb (c .channel) 255)) e)
 
-  go : (b : Bool) → pick b true (eqb (c .channel) 255) ≡ true
-  go true = refl
-  go false = own-channel
+    go : (b : Bool) → pick b true (eqb (c .channel) 255) ≡ true
+    go true = refl
+    go false = own-channel
 
 in-more : (slots : List Incoming) (count s : ℕ) → inFit slots 0 s ≡ true → inFit slots count s ≡ true
 in-more slots count s e =
@@ -137,7 +138,7 @@ module _ (slots : List Incoming) where
   own-none (suc n) (suc k) j = own-none n k (j + 1)
 
 module _ (mtu count : ℕ) (p : Peer) (h : sound p ≡ true) (none : p .standing .count ≡ 0)
-  (low : leb 576 mtu ≡ true) (high : leb mtu 4096 ≡ true) (few : leb count channels ≡ true) where
+    (low : leb 576 mtu ≡ true) (high : leb mtu 4096 ≡ true) (few : leb count channels ≡ true) where
   -- what the record's soundness says, with no channel
   was : both (ranged (p .flow .mtu) 0)
       (both (both (listsFit (p .lists)) true)
@@ -193,14 +194,14 @@ module _ (mtu count : ℕ) (p : Peer) (h : sound p ≡ true) (none : p .standing
 begin-keeps : (mtu count : ℕ) (p : Peer) → sound p ≡ true → sound (beginsSound mtu count p .peer) ≡ true
 begin-keeps mtu count p h = go (beginFits mtu count (p .standing .count)) refl
   where
-  go : (b : Bool) → beginFits mtu count (p .standing .count) ≡ b → sound (pick b (finished (begun mtu count p)) (unchanged 11 p) .peer) ≡ true
-  go true e =
-      let e₁ = both-right (leb 576 mtu) _ e in
-      let e₂ = both-right (leb mtu 4096) _ e₁ in
-      let e₃ = both-right (leb 1 count) _ e₂ in
-      begun-sound mtu count p h (eqb-true (p .standing .count) 0 (both-right (leb count channels) _ e₃)) (both-left (leb 576 mtu) _ e)
-      (both-left (leb mtu 4096) _ e₁) (both-left (leb count channels) _ e₃)
-  go false e = h
+    go : (b : Bool) → beginFits mtu count (p .standing .count) ≡ b → sound (pick b (finished (begun mtu count p)) (unchanged 11 p) .peer) ≡ true
+    go true e =
+        let e₁ = both-right (leb 576 mtu) _ e in
+        let e₂ = both-right (leb mtu 4096) _ e₁ in
+        let e₃ = both-right (leb 1 count) _ e₂ in
+        begun-sound mtu count p h (eqb-true (p .standing .count) 0 (both-right (leb count channels) _ e₃)) (both-left (leb 576 mtu) _ e)
+        (both-left (leb mtu 4096) _ e₁) (both-left (leb count channels) _ e₃)
+    go false e = h
 
 pub begin-sounds : (s : Settings) (mtu count : ℕ) → Sounds (begins s mtu count)
 begin-sounds s mtu count = gated-sounds s (beginsSound mtu count) (begin-keeps mtu count)

@@ -16,7 +16,7 @@ use Rattle.peer.specs.Damage.{lengths}
 use Rattle.peer.specs.Walks.{inTest, Sums}
 
 pub sum-turn : (slots : List Incoming) (xs : List ℕ) (n k : ℕ) → n ≤ length xs → k < n
-  → lengths slots (drop k (take n xs)) ≡ getD slots (getD xs k 0) noIncoming .length + lengths slots (drop (k + 1) (take n xs))
+    → lengths slots (drop k (take n xs)) ≡ getD slots (getD xs k 0) noIncoming .length + lengths slots (drop (k + 1) (take n xs))
 unfolding lengths
 sum-turn slots xs n k e h = rw (view-step xs n k)
 
@@ -33,9 +33,9 @@ sum-append slots (x ∷ xs) ys = omega (arith, sum-append slots xs ys)
 pub pass-short : (count : ℕ) (own : Bool) (k : ℕ) (i : Incoming) → inTest count own k i ≡ true → i .length ≤ 4096
 pass-short count own k i e = leb-true (i .length) 4096 (go _ _ _ e)
   where
-  go : (a b d : Bool) → both (both a b) d ≡ true → a ≡ true
-  go true b d q = refl
-  go false b d q = q
+    go : (a b d : Bool) → both (both a b) d ≡ true → a ≡ true
+    go true b d q = refl
+    go false b d q = q
 
 -- where a walk stopped, its sum is only low
 pub sums-stop : (slots : List Incoming) (xs : List ℕ) (total : ℕ) (r : InWalk) → r .ok ≡ false → r .total ≤ total + 49152 → Sums slots xs total r

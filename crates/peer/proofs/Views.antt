@@ -157,13 +157,15 @@ module _ (p : Peer) where
   sound-view : sound p ≡ viewSound (view p)
   unfolding sound viewSound view
   sound-view =
-      rw (outs-fit,
-      all-map triedOnce out (outItems (p .lists .sent)),
-      arrivals-fit,
-      arrivals-sum,
-      held-short (p .incoming) cs,
-      own-held (p .incoming) 0 cs,
-      held-items (p .incoming) cs)
+      rw (
+        outs-fit,
+        all-map triedOnce out (outItems (p .lists .sent)),
+        arrivals-fit,
+        arrivals-sum,
+        held-short (p .incoming) cs,
+        own-held (p .incoming) 0 cs,
+        held-items (p .incoming) cs,
+      )
 
 -- "What a free slot holds does not count", nor does the damage test see it
 pub same-sound : (p q : Peer) → Same p q → sound p ≡ sound q

@@ -43,7 +43,7 @@ module _ (f : ℕ → Bool) (m xs : List ℕ) (n k : ℕ) (e : n ≤ length xs) 
   pass-unfit q t p = rw (view-step xs n k, lt-ltb (getD xs k 0) (length m) q, ne-eqb (getD m (getD xs k 0) 0) 1 t, p)
 
   pub pass-turn : getD xs k 0 < length m → (getD m (getD xs k 0) 0 ≡ 1 → ⊥) → f (getD xs k 0) ≡ true
-    → passes f m (drop k (take n xs)) ≡ passes f (set m (getD xs k 0) 1) (drop (k + 1) (take n xs))
+      → passes f m (drop k (take n xs)) ≡ passes f (set m (getD xs k 0) 1) (drop (k + 1) (take n xs))
   unfolding passes
   pass-turn q t p = rw (view-step xs n k, lt-ltb (getD xs k 0) (length m) q, ne-eqb (getD m (getD xs k 0) 0) 1 t, p)
 
@@ -117,7 +117,7 @@ all-any (x ∷ xs) = all-any xs
 
 -- a walk that asks two things of each slot, and one that asks one
 pub pass-two : (f g : ℕ → Bool) (m xs : List ℕ)
-  → passes (λ (s : ℕ). both (f s) (g s)) m xs ≡ both (passes any m xs) (both (all f xs) (all g xs))
+    → passes (λ (s : ℕ). both (f s) (g s)) m xs ≡ both (passes any m xs) (both (all f xs) (all g xs))
 pass-two f g m xs = pass-split (λ (s : ℕ). both (f s) (g s)) m xs ∙ rw (all-both f g xs)
 
 pub pass-one : (f : ℕ → Bool) (m xs : List ℕ) → passes (λ (s : ℕ). both (f s) true) m xs ≡ both (passes any m xs) (all f xs)
@@ -131,11 +131,11 @@ clear m (x ∷ xs) = both (not (isMarked m x)) (clear m xs)
 set-mark : (m : List ℕ) (x y : ℕ) → x < length m → isMarked (set m x 1) y ≡ pick (eqb y x) true (isMarked m y)
 set-mark m x y h = go (eqb y x) refl
   where
-  go : (b : Bool) → eqb y x ≡ b → isMarked (set m x 1) y ≡ pick b true (isMarked m y)
-  go true e =
-      let q : y ≡ x = eqb-true y x e in
-      rw (q, getD-set-same m x 1 0 h)
-  go false e = rw (getD-set-other m x y 1 0 (eqb-false y x e))
+    go : (b : Bool) → eqb y x ≡ b → isMarked (set m x 1) y ≡ pick b true (isMarked m y)
+    go true e =
+        let q : y ≡ x = eqb-true y x e in
+        rw (q, getD-set-same m x 1 0 h)
+    go false e = rw (getD-set-other m x y 1 0 (eqb-false y x e))
 
 shuffle : (e k h c : Bool) → both (not (pick e true k)) (both (not h) c) ≡ both (not (pick e true h)) (both (not k) c)
 shuffle true k h c = refl
@@ -152,7 +152,7 @@ clear-set m x (y ∷ ys) h =
 
 -- one step of the theorem, at Bools
 step : (t k h e o c p : Bool) → (t ≡ true → p ≡ both e (both o (both (not h) c)))
-  → both t (both (not k) p) ≡ both (both t e) (both (both (not h) o) (both (not k) c))
+    → both t (both (not k) p) ≡ both (both t e) (both (both (not h) o) (both (not k) c))
 step false k h e o c p f = refl
 step true true h false o c p f = refl
 step true true true true o c p f = refl
@@ -160,12 +160,12 @@ step true true false true true c p f = refl
 step true true false true false c p f = refl
 step true false h e o c p f = f refl ∙ last h e o c
   where
-  last : (h e o c : Bool) → both e (both o (both (not h) c)) ≡ both e (both (both (not h) o) c)
-  last h false o c = refl
-  last true true true c = refl
-  last true true false c = refl
-  last false true true c = refl
-  last false true false c = refl
+    last : (h e o c : Bool) → both e (both o (both (not h) c)) ≡ both e (both (both (not h) o) c)
+    last h false o c = refl
+    last true true true c = refl
+    last true true false c = refl
+    last false true true c = refl
+    last false true false c = refl
 
 new-is : (n : ℕ) (m xs : List ℕ) → length m ≡ n → passes any m xs ≡ both (exist n xs) (both (once xs) (clear m xs))
 unfolding passes exist once clear

@@ -52,7 +52,8 @@ kept p =
       «outgoing_session» = p .ids .«outgoing_session»;
       «incoming_session» = p .ids .«incoming_session»;
       reserved = p .groups .reserved;
-      queued = p .waiting .queued }
+      queued = p .waiting .queued;
+    }
 
 -- "Reset needs no sound record and never answers 13."
 abbrev pub resets : Settings → Peer → Outcome
@@ -77,7 +78,8 @@ placed p standing flow cs =
       waiting = p .waiting;
       channels = cs;
       outgoing = p .outgoing;
-      incoming = p .incoming }
+      incoming = p .incoming;
+    }
 
 -- "begin: bad MTU or channel count, or count not 0 already"
 abbrev pub beginFits : ℕ → ℕ → ℕ → Bool

@@ -75,7 +75,8 @@ channelView slots c =
       outgoingUnreliable = c .«outgoing_unreliable»;
       incomingReliable = c .«incoming_reliable»;
       incomingUnreliable = c .«incoming_unreliable»;
-      held = inView slots (c .held) }
+      held = inView slots (c .held);
+    }
 
 unfoldable pub view : Peer → View
 view p =
@@ -96,7 +97,8 @@ view p =
       dispatched = inView (p .incoming) (p .lists .dispatched);
       groups = p .groups;
       waiting = p .waiting;
-      channels = map (channelView (p .incoming)) (below (p .channels) (p .standing .count)) }
+      channels = map (channelView (p .incoming)) (below (p .channels) (p .standing .count));
+    }
 
 abbrev pub Same : Peer → Peer → Type 0
 Same p q = view p ≡ view q

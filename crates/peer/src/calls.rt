@@ -1,7 +1,8 @@
 // The gate that every call passes, and the calls that need nothing but the record: reset, begin, set state.
 ghost use mathlib.Core.Path.{_≡_};
 ghost use Rattle.peer.specs.Calls.{Came, gateAnswer, answerOf, resets, begins, beginsSound, setsState, setsStateSound, kept, beginFits};
-use crate::defaults::{no_channels, Kept};
+use crate::defaults::Kept;
+use crate::defaults::no_channels;
 use crate::record::Peer;
 use crate::settings::Settings;
 
@@ -51,10 +52,16 @@ impl Peer {
         ensures { λ r. ⌜ Came (resets settings self) r ⌝ }
     {
         if !settings.is_fit() {
-            return Called { reply: Reply::OutOfRange, peer: self };
+            return Called {
+                reply: Reply::OutOfRange,
+                peer: self,
+            };
         }
         let peer = Peer::fresh(settings.mtu, self.kept());
-        Called { reply: Reply::Done, peer }
+        Called {
+            reply: Reply::Done,
+            peer,
+        }
     }
 
     // MTU and channels of all 0, before any channel was there.
@@ -63,8 +70,14 @@ impl Peer {
     {
         let gate = self.gate(settings);
         match gate {
-            Reply::OutOfRange => Called { reply: Reply::OutOfRange, peer: self },
-            Reply::Damaged => Called { reply: Reply::Damaged, peer: self },
+            Reply::OutOfRange => Called {
+                reply: Reply::OutOfRange,
+                peer: self,
+            },
+            Reply::Damaged => Called {
+                reply: Reply::Damaged,
+                peer: self,
+            },
             Reply::Done => self.begin_sound(mtu, count),
         }
     }
@@ -73,7 +86,10 @@ impl Peer {
         ensures { λ r. ⌜ Came (beginsSound mtu count self) r ⌝ }
     {
         if !can_begin(mtu, count, self.standing.count) {
-            return Called { reply: Reply::OutOfRange, peer: self };
+            return Called {
+                reply: Reply::OutOfRange,
+                peer: self,
+            };
         }
         let mut flow = self.flow;
         flow.mtu = mtu;
@@ -84,7 +100,10 @@ impl Peer {
         peer.flow = flow;
         peer.standing = standing;
         peer.channels = channels;
-        Called { reply: Reply::Done, peer }
+        Called {
+            reply: Reply::Done,
+            peer,
+        }
     }
 
     // Only the state changes.
@@ -93,8 +112,14 @@ impl Peer {
     {
         let gate = self.gate(settings);
         match gate {
-            Reply::OutOfRange => Called { reply: Reply::OutOfRange, peer: self },
-            Reply::Damaged => Called { reply: Reply::Damaged, peer: self },
+            Reply::OutOfRange => Called {
+                reply: Reply::OutOfRange,
+                peer: self,
+            },
+            Reply::Damaged => Called {
+                reply: Reply::Damaged,
+                peer: self,
+            },
             Reply::Done => self.set_state_sound(state),
         }
     }
@@ -103,13 +128,19 @@ impl Peer {
         ensures { λ r. ⌜ Came (setsStateSound state self) r ⌝ }
     {
         if Peer::ZOMBIE < state {
-            return Called { reply: Reply::OutOfRange, peer: self };
+            return Called {
+                reply: Reply::OutOfRange,
+                peer: self,
+            };
         }
         let mut standing = self.standing;
         standing.state = state;
         let mut peer = self;
         peer.standing = standing;
-        Called { reply: Reply::Done, peer }
+        Called {
+            reply: Reply::Done,
+            peer,
+        }
     }
 }
 

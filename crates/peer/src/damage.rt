@@ -8,11 +8,17 @@ ghost use Rattle.numbers.specs.Pick.{both};
 ghost use Rattle.slots.specs.Lists.{outItems, inItems};
 ghost use Rattle.peer.specs.Damage.{ranged, listsFit, heldFit, held, lengths, outFit, outSound, inSound, sound};
 ghost use Rattle.peer.specs.Walks.{Walks, Sums, outTest, inTest, outPasses, inPasses, heldPass};
-use crate::record::{Channel, Incoming, Lists, Outgoing, Peer, CHANNELS};
+use crate::record::CHANNELS;
+use crate::record::Channel;
+use crate::record::Incoming;
+use crate::record::Lists;
+use crate::record::Outgoing;
+use crate::record::Peer;
 use command::rows;
+use slots::INCOMING;
+use slots::OUTGOING;
 use slots::incoming::InList;
 use slots::outgoing::OutList;
-use slots::{INCOMING, OUTGOING};
 
 // Where a walk ended: whether every slot passed, and the marks there.
 pub struct OutWalk {
@@ -135,7 +141,13 @@ fn out_passes(slot: Outgoing, count: u32, sent: bool) -> bool
 }
 
 // "names a slot that does not exist, or a slot stands twice"
-fn walk_out(slots: [Outgoing; OUTGOING], l: OutList, from: [u8; OUTGOING], count: u32, sent: bool) -> OutWalk
+fn walk_out(
+    slots: [Outgoing; OUTGOING],
+    l: OutList,
+    from: [u8; OUTGOING],
+    count: u32,
+    sent: bool,
+) -> OutWalk
     ensures { λ r. ⌜ Walks (outPasses slots count sent) from (outItems l) (r .ok) (r .marks) ⌝ }
 {
     let n = l.count();
@@ -198,7 +210,14 @@ fn in_passes(slot: Incoming, count: u32, own: bool, k: u32) -> bool
     channel == k
 }
 
-fn walk_in(slots: [Incoming; INCOMING], l: InList, from: InWalk, count: u32, own: bool, k: u32) -> InWalk
+fn walk_in(
+    slots: [Incoming; INCOMING],
+    l: InList,
+    from: InWalk,
+    count: u32,
+    own: bool,
+    k: u32,
+) -> InWalk
     requires { ⌜ from .total ≤ 442368 ⌝ }
     ensures walks { λ r. ⌜ Walks (inPasses slots count own k) (from .marks) (inItems l) (r .ok) (r .marks) ⌝ }
     ensures sums { λ r. ⌜ Sums slots (inItems l) (from .total) r ⌝ }
@@ -211,24 +230,46 @@ fn walk_in(slots: [Incoming; INCOMING], l: InList, from: InWalk, count: u32, own
     while j < n {
         let place = cells[j] as usize;
         if INCOMING <= place {
-            return InWalk { ok: false, marks, total };
+            return InWalk {
+                ok: false,
+                marks,
+                total,
+            };
         }
         if marks[place] == 1 {
-            return InWalk { ok: false, marks, total };
+            return InWalk {
+                ok: false,
+                marks,
+                total,
+            };
         }
         let slot = slots[place];
         if !in_passes(slot, count, own, k) {
-            return InWalk { ok: false, marks, total };
+            return InWalk {
+                ok: false,
+                marks,
+                total,
+            };
         }
         total = total + slot.length;
         marks[place] = 1;
         j = j + 1;
     }
-    InWalk { ok: true, marks, total }
+    InWalk {
+        ok: true,
+        marks,
+        total,
+    }
 }
 
 // The channels' lists after the dispatched one, and "waiting total not the sum of lengths held".
-fn walk_held(slots: [Incoming; INCOMING], channels: [Channel; CHANNELS], count: u32, from: InWalk, total: u32) -> bool
+fn walk_held(
+    slots: [Incoming; INCOMING],
+    channels: [Channel; CHANNELS],
+    count: u32,
+    from: InWalk,
+    total: u32,
+) -> bool
     requires { ⌜ (count ≤ 8) × (from .total ≤ 49152) ⌝ }
     ensures { λ r. ⌜ r ≡ both (heldPass slots count 0 (from .marks) (take count channels)) (eqb total (from .total + lengths slots (held (take count channels)))) ⌝ }
 {
@@ -247,12 +288,22 @@ fn walk_held(slots: [Incoming; INCOMING], channels: [Channel; CHANNELS], count: 
     total == walk.total
 }
 
-fn in_sound(slots: [Incoming; INCOMING], lists: Lists, channels: [Channel; CHANNELS], count: u32, total: u32) -> bool
+fn in_sound(
+    slots: [Incoming; INCOMING],
+    lists: Lists,
+    channels: [Channel; CHANNELS],
+    count: u32,
+    total: u32,
+) -> bool
     requires { ⌜ count ≤ 8 ⌝ }
     ensures { λ r. ⌜ r ≡ inSound slots lists (take count channels) count total ⌝ }
 {
     let marks = [0u8; INCOMING];
-    let start = InWalk { ok: true, marks, total: 0 };
+    let start = InWalk {
+        ok: true,
+        marks,
+        total: 0,
+    };
     let dispatched = lists.dispatched;
     let walk = walk_in(slots, dispatched, start, count, false, 0);
     if !walk.ok {

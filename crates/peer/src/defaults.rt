@@ -1,15 +1,36 @@
 // The reset values and the state numbers, which belong to the peer's own type, and the reset record.
 ghost use mathlib.Core.Path.{_≡_};
-ghost use Rattle.peer.specs.Fresh.{freshPeer, noLists, noOutgoing, noIncoming, noChannel, channels};
+ghost use Rattle.peer.specs.Fresh.{freshPeer, freshIds, freshFlow, freshGroups, noLists, noOutgoing, noIncoming, noChannel, channels};
 ghost use lib.ListN.{replicate};
 ghost use Rattle.slots.specs.Lists.{outgoing, incoming};
-use crate::record::{Bandwidth, Channel, Flow, Groups, Ids, Incoming, Limits, Lists, Loss, Outgoing, Peer, Standing, Throttling, Times, Totals, Trips, Waiting, CHANNELS};
-use command::fields::{Command, Fields};
+use crate::record::Bandwidth;
+use crate::record::CHANNELS;
+use crate::record::Channel;
+use crate::record::Flow;
+use crate::record::Groups;
+use crate::record::Ids;
+use crate::record::Incoming;
+use crate::record::Limits;
+use crate::record::Lists;
+use crate::record::Loss;
+use crate::record::Outgoing;
+use crate::record::Peer;
+use crate::record::Standing;
+use crate::record::Throttling;
+use crate::record::Times;
+use crate::record::Totals;
+use crate::record::Trips;
+use crate::record::Waiting;
+use command::fields::Command;
+use command::fields::Fields;
 use numbers::consts;
-use numbers::counters::{Group, Reliable, Unreliable};
+use numbers::counters::Group;
+use numbers::counters::Reliable;
+use numbers::counters::Unreliable;
+use slots::INCOMING;
+use slots::OUTGOING;
 use slots::incoming::InList;
 use slots::outgoing::OutList;
-use slots::{INCOMING, OUTGOING};
 
 // What a reset keeps of the record.
 pub struct Kept {
@@ -42,65 +63,138 @@ impl Peer {
 
     pub const ZOMBIE: u32 = 9;
 
-    // The reset values that are not 0.
+    // The reset values.
     pub const OUTGOING_PEER: u16 = consts::PROTOCOL_MAXIMUM_PEER_ID;
 
-    pub const THROTTLE: u32 = consts::PEER_DEFAULT_PACKET_THROTTLE;
-
-    pub const ROUND_TRIP: u32 = consts::PEER_DEFAULT_ROUND_TRIP_TIME;
-
     pub const WINDOW: u32 = consts::PROTOCOL_MAXIMUM_WINDOW_SIZE;
+
+    pub const STANDING: Standing = Standing { state: 0, count: 0 };
+
+    pub const BANDWIDTH: Bandwidth = Bandwidth {
+        incoming: 0,
+        outgoing: 0,
+        incoming_epoch: 0,
+        outgoing_epoch: 0,
+    };
+
+    pub const TOTALS: Totals = Totals {
+        incoming: 0,
+        outgoing: 0,
+    };
+
+    pub const TIMES: Times = Times {
+        last_send: 0,
+        last_receive: 0,
+        next_timeout: 0,
+        earliest_timeout: 0,
+    };
+
+    pub const LOSS: Loss = Loss {
+        epoch: 0,
+        sent: 0,
+        lost: 0,
+        loss: 0,
+        variance: 0,
+    };
+
+    pub const THROTTLING: Throttling = Throttling {
+        value: consts::PEER_DEFAULT_PACKET_THROTTLE,
+        limit: consts::PEER_PACKET_THROTTLE_SCALE,
+        counter: 0,
+        epoch: 0,
+        acceleration: consts::PEER_PACKET_THROTTLE_ACCELERATION,
+        deceleration: consts::PEER_PACKET_THROTTLE_DECELERATION,
+        interval: consts::PEER_PACKET_THROTTLE_INTERVAL,
+    };
+
+    pub const LIMITS: Limits = Limits {
+        ping: consts::PEER_PING_INTERVAL,
+        timeout: consts::PEER_TIMEOUT_LIMIT,
+        minimum: consts::PEER_TIMEOUT_MINIMUM,
+        maximum: consts::PEER_TIMEOUT_MAXIMUM,
+    };
+
+    pub const TRIPS: Trips = Trips {
+        last: consts::PEER_DEFAULT_ROUND_TRIP_TIME,
+        lowest: consts::PEER_DEFAULT_ROUND_TRIP_TIME,
+        last_variance: 0,
+        highest_variance: 0,
+        now: consts::PEER_DEFAULT_ROUND_TRIP_TIME,
+        variance: 0,
+    };
 
     // The reset record.
     pub fn fresh(mtu: u32, kept: Kept) -> Peer
         ensures { λ r. ⌜ r ≡ freshPeer mtu kept ⌝ }
     {
-        let ids = Ids {
-            outgoing_peer: Peer::OUTGOING_PEER,
-            incoming_peer: kept.incoming_peer,
-            connect: 0,
-            outgoing_session: kept.outgoing_session,
-            incoming_session: kept.incoming_session,
-        };
-        let throttling = Throttling {
-            value: Peer::THROTTLE,
-            limit: consts::PEER_PACKET_THROTTLE_SCALE,
-            counter: 0,
-            epoch: 0,
-            acceleration: consts::PEER_PACKET_THROTTLE_ACCELERATION,
-            deceleration: consts::PEER_PACKET_THROTTLE_DECELERATION,
-            interval: consts::PEER_PACKET_THROTTLE_INTERVAL,
-        };
-        let limits = Limits {
-            ping: consts::PEER_PING_INTERVAL,
-            timeout: consts::PEER_TIMEOUT_LIMIT,
-            minimum: consts::PEER_TIMEOUT_MINIMUM,
-            maximum: consts::PEER_TIMEOUT_MAXIMUM,
-        };
-        let trips = Trips {
-            last: Peer::ROUND_TRIP,
-            lowest: Peer::ROUND_TRIP,
-            last_variance: 0,
-            highest_variance: 0,
-            now: Peer::ROUND_TRIP,
-            variance: 0,
-        };
-        let zero = Reliable(0);
-        let none = Group(0);
-        let words = [0u32; 32];
-        let standing = Standing { state: Peer::DISCONNECTED, count: 0 };
-        let bandwidth = Bandwidth { incoming: 0, outgoing: 0, incoming_epoch: 0, outgoing_epoch: 0 };
-        let totals = Totals { incoming: 0, outgoing: 0 };
-        let times = Times { last_send: 0, last_receive: 0, next_timeout: 0, earliest_timeout: 0 };
-        let loss = Loss { epoch: 0, sent: 0, lost: 0, loss: 0, variance: 0 };
-        let flow = Flow { mtu, window: Peer::WINDOW, transit: 0, reliable: zero };
-        let groups = Groups { flags: 0, reserved: kept.reserved, incoming: none, outgoing: none, words };
-        let waiting = Waiting { event: 0, total: 0, queued: kept.queued };
+        let ids = fresh_ids(kept);
+        let flow = fresh_flow(mtu);
         let lists = no_lists();
+        let groups = fresh_groups(kept.reserved);
         let channels = no_channels();
         let outgoing = no_outgoing();
         let incoming = no_incoming();
-        Peer { ids, standing, bandwidth, totals, times, loss, throttling, limits, trips, flow, lists, groups, waiting, channels, outgoing, incoming }
+        let waiting = Waiting {
+            event: 0,
+            total: 0,
+            queued: kept.queued,
+        };
+        Peer {
+            ids,
+            standing: Peer::STANDING,
+            bandwidth: Peer::BANDWIDTH,
+            totals: Peer::TOTALS,
+            times: Peer::TIMES,
+            loss: Peer::LOSS,
+            throttling: Peer::THROTTLING,
+            limits: Peer::LIMITS,
+            trips: Peer::TRIPS,
+            flow,
+            lists,
+            groups,
+            waiting,
+            channels,
+            outgoing,
+            incoming,
+        }
+    }
+}
+
+fn fresh_ids(kept: Kept) -> Ids
+    ensures { λ r. ⌜ r ≡ freshIds kept ⌝ }
+{
+    Ids {
+        outgoing_peer: Peer::OUTGOING_PEER,
+        incoming_peer: kept.incoming_peer,
+        connect: 0,
+        outgoing_session: kept.outgoing_session,
+        incoming_session: kept.incoming_session,
+    }
+}
+
+fn fresh_flow(mtu: u32) -> Flow
+    ensures { λ r. ⌜ r ≡ freshFlow mtu ⌝ }
+{
+    let reliable = Reliable(0);
+    Flow {
+        mtu,
+        window: Peer::WINDOW,
+        transit: 0,
+        reliable,
+    }
+}
+
+fn fresh_groups(reserved: u16) -> Groups
+    ensures { λ r. ⌜ r ≡ freshGroups reserved ⌝ }
+{
+    let group = Group(0);
+    let words = [0u32; 32];
+    Groups {
+        flags: 0,
+        reserved,
+        incoming: group,
+        outgoing: group,
+        words,
     }
 }
 
@@ -109,9 +203,20 @@ fn no_lists() -> Lists
 {
     let cells = [0u16; OUTGOING];
     let places = [0u16; INCOMING];
-    let out = OutList { len: 0, slots: cells };
-    let dispatched = InList { len: 0, slots: places };
-    Lists { sent: out, reliable: out, outgoing: out, dispatched }
+    let out = OutList {
+        len: 0,
+        slots: cells,
+    };
+    let dispatched = InList {
+        len: 0,
+        slots: places,
+    };
+    Lists {
+        sent: out,
+        reliable: out,
+        outgoing: out,
+        dispatched,
+    }
 }
 
 pub(crate) fn no_channels() -> [Channel; CHANNELS]
@@ -120,7 +225,10 @@ pub(crate) fn no_channels() -> [Channel; CHANNELS]
     let reliable = Reliable(0);
     let unreliable = Unreliable(0);
     let cells = [0u16; INCOMING];
-    let held = InList { len: 0, slots: cells };
+    let held = InList {
+        len: 0,
+        slots: cells,
+    };
     let channel = Channel {
         outgoing_reliable: reliable,
         outgoing_unreliable: unreliable,
@@ -136,8 +244,16 @@ fn no_outgoing() -> [Outgoing; OUTGOING]
 {
     let reliable = Reliable(0);
     let unreliable = Unreliable(0);
-    let fields = Fields::Acknowledge { number: reliable, time: 0 };
-    let command = Command { byte: 0, channel: 0, number: reliable, fields };
+    let fields = Fields::Acknowledge {
+        number: reliable,
+        time: 0,
+    };
+    let command = Command {
+        byte: 0,
+        channel: 0,
+        number: reliable,
+        fields,
+    };
     let slot = Outgoing {
         reliable,
         unreliable,
@@ -157,6 +273,13 @@ fn no_incoming() -> [Incoming; INCOMING]
     ensures { λ r. ⌜ r ≡ replicate incoming noIncoming ⌝ }
 {
     let number = Reliable(0);
-    let slot = Incoming { byte: 0, channel: 0, number, fragments: 0, remaining: 0, length: 0 };
+    let slot = Incoming {
+        byte: 0,
+        channel: 0,
+        number,
+        fragments: 0,
+        remaining: 0,
+        length: 0,
+    };
     [slot; INCOMING]
 }

@@ -1,9 +1,13 @@
 // The record of a peer in document 01's order, in groups that change together.
-use command::fields::{Command, Fields};
-use numbers::counters::{Group, Reliable, Unreliable};
+use command::fields::Command;
+use command::fields::Fields;
+use numbers::counters::Group;
+use numbers::counters::Reliable;
+use numbers::counters::Unreliable;
+use slots::INCOMING;
+use slots::OUTGOING;
 use slots::incoming::InList;
 use slots::outgoing::OutList;
-use slots::{INCOMING, OUTGOING};
 
 // The channels of a peer.
 pub const CHANNELS: usize = 8;

@@ -40,7 +40,7 @@ drop-take (suc i) (suc n) (x ∷ xs) = rw suc-sub-suc (drop-take i n xs)
 
 -- one turn of each loop: c are the cells so far
 pub lay-turn : (l run c : List ℕ) (at j : ℕ) → j < length run → c ≡ sets l at (take j run)
-  → set c (at + j) (getD run j 0) ≡ sets l at (take (j + 1) run)
+    → set c (at + j) (getD run j 0) ≡ sets l at (take (j + 1) run)
 lay-turn l run c at j h p =
     let e : length (take j run) ≡ j = length-take-le j run (omega arith) in
     rw (p, add-one j, take-suc run j 0, sets-snoc (take j run) l at (getD run j 0), e)
@@ -63,14 +63,20 @@ module _ (l : List ℕ) (from k j : ℕ) (hk : k ≤ from) (hf : from ≤ j) (hj
   next = omega (arith, passed)
 
 pub lower-turn : (l c : List ℕ) (from k j : ℕ) → k ≤ from → from ≤ j → j < length l → c ≡ sets l (from - k) (take (j - from) (drop from l))
-  → set c (j - k) (getD c j 0) ≡ sets l (from - k) (take (j + 1 - from) (drop from l))
+    → set c (j - k) (getD c j 0) ≡ sets l (from - k) (take (j + 1 - from) (drop from l))
 lower-turn l c from k j hk hf hj p =
     let s : j + 1 - from ≡ suc (j - from) = omega arith in
-    rw (p, unset l from k j hk hf hj, s, take-suc (drop from l) (j - from) 0 (there l from k j hk hf hj),
-      sets-snoc (take (j - from) (drop from l)) l (from - k) (getD (drop from l) (j - from) 0), next l from k j hk hf hj)
+    rw (
+      p,
+      unset l from k j hk hf hj,
+      s,
+      take-suc (drop from l) (j - from) 0 (there l from k j hk hf hj),
+      sets-snoc (take (j - from) (drop from l)) l (from - k) (getD (drop from l) (j - from) 0),
+      next l from k j hk hf hj,
+    )
 
 pub raise-turn : (l c : List ℕ) (n k i j : ℕ) → j ≡ i + 1 → i < n → n ≤ length l → c ≡ sets l (j + k) (take (n - j) (drop j l))
-  → set c (i + k) (getD c i 0) ≡ sets l (i + k) (take (n - i) (drop i l))
+    → set c (i + k) (getD c i 0) ≡ sets l (i + k) (take (n - i) (drop i l))
 raise-turn l c n k i j m hn hl p =
     let q : getD (sets l (j + k) (take (n - j) (drop j l))) i 0 ≡ getD l i 0 = sets-below (take (n - j) (drop j l)) l (j + k) i (omega arith) in
     let s : n - i ≡ suc (n - j) = omega arith in

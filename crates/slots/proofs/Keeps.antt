@@ -31,9 +31,9 @@ pub has-append : (xs ys : List ℕ) (s : ℕ) → has (xs ++ ys) s ≡ pick (has
 has-append [] ys s = refl
 has-append (x ∷ xs) ys s = rw (has-append xs ys s) (or-assoc (eqb x s) (has xs s) (has ys s))
   where
-  or-assoc : (a b v : Bool) → pick a true (pick b true v) ≡ pick (pick a true b) true v
-  or-assoc true b v = refl
-  or-assoc false b v = refl
+    or-assoc : (a b v : Bool) → pick a true (pick b true v) ≡ pick (pick a true b) true v
+    or-assoc true b v = refl
+    or-assoc false b v = refl
 
 pub exist-append : (n : ℕ) (xs ys : List ℕ) → exist n (xs ++ ys) ≡ both (exist n xs) (exist n ys)
 unfolding exist
@@ -45,9 +45,9 @@ pub has-times : (xs : List ℕ) (s : ℕ) → has xs s ≡ ltb 0 (times xs s)
 has-times [] s = refl
 has-times (x ∷ xs) s = go (has-times xs s) (eqb x s)
   where
-  go : has xs s ≡ ltb 0 (times xs s) → (b : Bool) → pick b true (has xs s) ≡ ltb 0 (pick b 1 0 + times xs s)
-  go rest true = sym (lt-ltb 0 (1 + times xs s) (omega arith))
-  go rest false = let z : 0 + times xs s ≡ times xs s = omega arith in rw z rest
+    go : has xs s ≡ ltb 0 (times xs s) → (b : Bool) → pick b true (has xs s) ≡ ltb 0 (pick b 1 0 + times xs s)
+    go rest true = sym (lt-ltb 0 (1 + times xs s) (omega arith))
+    go rest false = let z : 0 + times xs s ≡ times xs s = omega arith in rw z rest
 
 pub times-none : (xs : List ℕ) (s : ℕ) → has xs s ≡ false → times xs s ≡ 0
 times-none xs s e = omega (arith, ltb-false 0 (times xs s) (sym (has-times xs s) ∙ e))
@@ -67,20 +67,20 @@ unfolding once
 once-at-most [] e s = omega arith
 once-at-most (x ∷ xs) e s = go (once-at-most xs (both-right (not (has xs x)) (once xs) e) s) (eqb x s) refl
   where
-  go : times xs s ≤ 1 → (b : Bool) → eqb x s ≡ b → pick b 1 0 + times xs s ≤ 1
-  go rest true t =
-      let z : x ≡ s = eqb-true x s t in
-      let none : times xs s ≡ 0 = rw z at (times-none xs x (not-true (has xs x) (both-left (not (has xs x)) (once xs) e))) in
-      omega arith
-  go rest false t = omega arith
+    go : times xs s ≤ 1 → (b : Bool) → eqb x s ≡ b → pick b 1 0 + times xs s ≤ 1
+    go rest true t =
+        let z : x ≡ s = eqb-true x s t in
+        let none : times xs s ≡ 0 = rw z at (times-none xs x (not-true (has xs x) (both-left (not (has xs x)) (once xs) e))) in
+        omega arith
+    go rest false t = omega arith
 
 pub at-most-once : (xs : List ℕ) → ((s : ℕ) → times xs s ≤ 1) → once xs ≡ true
 unfolding once
 at-most-once [] h = refl
 at-most-once (x ∷ xs) h = rw (none-times xs x none, at-most-once xs (λ s. omega (arith, h s)))
   where
-  none : times xs x ≡ 0
-  none = let one-more : one x x + times xs x ≤ 1 = h x in let t = eq-eqb x x refl in let u : 1 + times xs x ≤ 1 = rw t at one-more in omega arith
+    none : times xs x ≡ 0
+    none = let one-more : one x x + times xs x ≤ 1 = h x in let t = eq-eqb x x refl in let u : 1 + times xs x ≤ 1 = rw t at one-more in omega arith
 
 -- `exist`: each slot named exists
 pub exist-below : (n : ℕ) (xs : List ℕ) → exist n xs ≡ true → (s : ℕ) → 0 < times xs s → s < n
@@ -88,19 +88,19 @@ unfolding exist
 exist-below n [] e s h = absurd (omega arith)
 exist-below n (x ∷ xs) e s h = go (exist-below n xs (both-right (ltb x n) (exist n xs) e) s) (eqb x s) refl h
   where
-  go : (0 < times xs s → s < n) → (b : Bool) → eqb x s ≡ b → 0 < pick b 1 0 + times xs s → s < n
-  go rest true t h =
-      let z : x ≡ s = eqb-true x s t in
-      omega (arith, ltb-true x n (both-left (ltb x n) (exist n xs) e))
-  go rest false t h = rest (omega arith)
+    go : (0 < times xs s → s < n) → (b : Bool) → eqb x s ≡ b → 0 < pick b 1 0 + times xs s → s < n
+    go rest true t h =
+        let z : x ≡ s = eqb-true x s t in
+        omega (arith, ltb-true x n (both-left (ltb x n) (exist n xs) e))
+    go rest false t h = rest (omega arith)
 
 pub below-exist : (n : ℕ) (xs : List ℕ) → ((s : ℕ) → 0 < times xs s → s < n) → exist n xs ≡ true
 unfolding exist
 below-exist n [] h = refl
 below-exist n (x ∷ xs) h = rw (lt-ltb x n (h x first), below-exist n xs (λ s p. h s (omega (arith, p))))
   where
-  first : 0 < one x x + times xs x
-  first = rw (eq-eqb x x refl) (omega arith)
+    first : 0 < one x x + times xs x
+    first = rw (eq-eqb x x refl) (omega arith)
 
 -- what names no slot more often than before keeps the rule
 module _ (xs ys : List ℕ) (h : (s : ℕ) → times ys s ≤ times xs s) where
@@ -115,24 +115,24 @@ module _ (xs ys : List ℕ) (new : ℕ) (h : (s : ℕ) → times ys s ≤ one ne
   pub once-more : has xs new ≡ false → once xs ≡ true → once ys ≡ true
   once-more free e = at-most-once ys (λ s. go s (eqb new s) refl)
     where
-    go : (s : ℕ) (b : Bool) → eqb new s ≡ b → times ys s ≤ 1
-    go s true t =
-        let z : new ≡ s = eqb-true new s t in
-        let none : times xs s ≡ 0 = rw z at (times-none xs new free) in
-        let u : times ys s ≤ 1 + times xs s = rw t at (h s) in
-        omega arith
-    go s false t =
-        let u : times ys s ≤ 0 + times xs s = rw t at (h s) in
-        omega (arith, u, once-at-most xs e s)
+      go : (s : ℕ) (b : Bool) → eqb new s ≡ b → times ys s ≤ 1
+      go s true t =
+          let z : new ≡ s = eqb-true new s t in
+          let none : times xs s ≡ 0 = rw z at (times-none xs new free) in
+          let u : times ys s ≤ 1 + times xs s = rw t at (h s) in
+          omega arith
+      go s false t =
+          let u : times ys s ≤ 0 + times xs s = rw t at (h s) in
+          omega (arith, u, once-at-most xs e s)
 
   pub exist-more : (n : ℕ) → new < n → exist n xs ≡ true → exist n ys ≡ true
   exist-more n k e = below-exist n ys (λ s p. go s p (eqb new s) refl)
     where
-    go : (s : ℕ) → 0 < times ys s → (b : Bool) → eqb new s ≡ b → s < n
-    go s p true t = let z : new ≡ s = eqb-true new s t in omega arith
-    go s p false t =
-        let u : times ys s ≤ 0 + times xs s = rw t at (h s) in
-        exist-below n xs e s (omega arith)
+      go : (s : ℕ) → 0 < times ys s → (b : Bool) → eqb new s ≡ b → s < n
+      go s p true t = let z : new ≡ s = eqb-true new s t in omega arith
+      go s p false t =
+          let u : times ys s ≤ 0 + times xs s = rw t at (h s) in
+          exist-below n xs e s (omega arith)
 
 true-or-false : (a b : Bool) → (a ≡ true → b ≡ true) → (b ≡ true → a ≡ true) → a ≡ b
 true-or-false true b f g = sym (f refl)
@@ -173,24 +173,24 @@ times-prepended n run xs s h = rw (le-leb (length run + length xs) n h) (times-a
 pub times-moved : (n k : ℕ) (xs ys : List ℕ) (s : ℕ) → times (movedFrom n k xs ys) s + times (movedTo n k xs ys) s ≡ times xs s + times ys s
 times-moved n k xs ys s = go (leb (length ys + length (take k xs)) n)
   where
-  go : (b : Bool) → times (pick b (drop k xs) xs) s + times (pick b (ys ++ take k xs) ys) s ≡ times xs s + times ys s
-  go true = omega (arith, times-append ys (take k xs) s, times-cut k xs s)
-  go false = refl
+    go : (b : Bool) → times (pick b (drop k xs) xs) s + times (pick b (ys ++ take k xs) ys) s ≡ times xs s + times ys s
+    go true = omega (arith, times-append ys (take k xs) s, times-cut k xs s)
+    go false = refl
 
 -- whether or not there is room
 pub pushed-adds : (n : ℕ) (xs : List ℕ) (x s : ℕ) → times (pushed n xs x) s ≤ one x s + times xs s
 pushed-adds n xs x s = go (ltb (length xs) n)
   where
-  go : (b : Bool) → times (pick b (xs ++ (x ∷ [])) xs) s ≤ one x s + times xs s
-  go true = omega (arith, times-append xs (x ∷ []) s)
-  go false = omega arith
+    go : (b : Bool) → times (pick b (xs ++ (x ∷ [])) xs) s ≤ one x s + times xs s
+    go true = omega (arith, times-append xs (x ∷ []) s)
+    go false = omega arith
 
 pub inserted-adds : (n : ℕ) (xs : List ℕ) (i x s : ℕ) → times (inserted n xs i x) s ≤ one x s + times xs s
 inserted-adds n xs i x s = go (ltb (length xs) n)
   where
-  go : (b : Bool) → times (pick b (take i xs ++ (x ∷ drop i xs)) xs) s ≤ one x s + times xs s
-  go true = omega (arith, times-append (take i xs) (x ∷ drop i xs) s, times-cut i xs s)
-  go false = omega arith
+    go : (b : Bool) → times (pick b (take i xs ++ (x ∷ drop i xs)) xs) s ≤ one x s + times xs s
+    go true = omega (arith, times-append (take i xs) (x ∷ drop i xs) s, times-cut i xs s)
+    go false = omega arith
 
 pub without-takes : (xs : List ℕ) (i s : ℕ) → times (without xs i) s ≤ times xs s
 without-takes xs i s =
@@ -202,9 +202,9 @@ without-takes xs i s =
 pub prepended-adds : (n : ℕ) (run xs : List ℕ) (s : ℕ) → times (prepended n run xs) s ≤ times run s + times xs s
 prepended-adds n run xs s = go (leb (length run + length xs) n)
   where
-  go : (b : Bool) → times (pick b (run ++ xs) xs) s ≤ times run s + times xs s
-  go true = omega (arith, times-append run xs s)
-  go false = omega arith
+    go : (b : Bool) → times (pick b (run ++ xs) xs) s ≤ times run s + times xs s
+    go true = omega (arith, times-append run xs s)
+    go false = omega arith
 
 -- the rule over all lists of a pool, of which xs is one and `others` are the others
 module _ (others xs : List ℕ) where
@@ -257,13 +257,14 @@ module _ (others xs : List ℕ) where
 module _ (others xs ys : List ℕ) (room k : ℕ) where
   all-there : (s : ℕ) → times (others ++ (movedFrom room k xs ys ++ movedTo room k xs ys)) s ≡ times (others ++ (xs ++ ys)) s
   all-there s =
-      omega
-      ( arith
-      , times-append others (movedFrom room k xs ys ++ movedTo room k xs ys) s
-      , times-append (movedFrom room k xs ys) (movedTo room k xs ys) s
-      , times-append others (xs ++ ys) s
-      , times-append xs ys s
-      , times-moved room k xs ys s )
+      omega (
+        arith,
+        times-append others (movedFrom room k xs ys ++ movedTo room k xs ys) s,
+        times-append (movedFrom room k xs ys) (movedTo room k xs ys) s,
+        times-append others (xs ++ ys) s,
+        times-append xs ys s,
+        times-moved room k xs ys s,
+      )
 
   pub once-moved : once (others ++ (movedFrom room k xs ys ++ movedTo room k xs ys)) ≡ once (others ++ (xs ++ ys))
   once-moved = once-same (others ++ (movedFrom room k xs ys ++ movedTo room k xs ys)) (others ++ (xs ++ ys)) all-there

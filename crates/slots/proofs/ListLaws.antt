@@ -19,11 +19,11 @@ use Rattle.slots.proofs.WalkLaws.{view-step}
 
 -- the list of the cells that an operation made
 pub out-made : (l : OutList) (xs ys cells : List ℕ) (r : ℕ) → Makes (l .slots) xs r cells → xs ≡ ys
-  → _≡_ {A = OutList} (record { len = r; slots = cells }) (outKeep l ys)
+    → _≡_ {A = OutList} (record { len = r; slots = cells }) (outKeep l ys)
 out-made l xs ys cells r m e = rw (m .count, m .cells, e)
 
 pub in-made : (l : InList) (xs ys cells : List ℕ) (r : ℕ) → Makes (l .slots) xs r cells → xs ≡ ys
-  → _≡_ {A = InList} (record { len = r; slots = cells }) (inKeep l ys)
+    → _≡_ {A = InList} (record { len = r; slots = cells }) (inKeep l ys)
 in-made l xs ys cells r m e = rw (m .count, m .cells, e)
 
 pub first-none : (xs : List ℕ) → length xs ≡ 0 → first xs ≡ Empty
@@ -38,17 +38,17 @@ pub found-has : (xs : List ℕ) (k i s : ℕ) → findFrom k xs s ≡ At i → h
 found-has [] k i s e = let z : _≡_ {A = ℕ} 0 1 = cc in absurd (omega arith)
 found-has (x ∷ xs) k i s e = go (found-has xs (k + 1) i s) (eqb x s) e
   where
-  go : (findFrom (k + 1) xs s ≡ At i → has xs s ≡ true) → (b : Bool) → pick b (At k) (findFrom (k + 1) xs s) ≡ At i → pick b true (has xs s) ≡ true
-  go rest true e = refl
-  go rest false e = rest e
+    go : (findFrom (k + 1) xs s ≡ At i → has xs s ≡ true) → (b : Bool) → pick b (At k) (findFrom (k + 1) xs s) ≡ At i → pick b true (has xs s) ≡ true
+    go rest true e = refl
+    go rest false e = rest e
 
 pub nowhere-has : (xs : List ℕ) (k s : ℕ) → findFrom k xs s ≡ Nowhere → has xs s ≡ false
 nowhere-has [] k s e = refl
 nowhere-has (x ∷ xs) k s e = go (nowhere-has xs (k + 1) s) (eqb x s) e
   where
-  go : (findFrom (k + 1) xs s ≡ Nowhere → has xs s ≡ false) → (b : Bool) → pick b (At k) (findFrom (k + 1) xs s) ≡ Nowhere → pick b true (has xs s) ≡ false
-  go rest true e = let z : _≡_ {A = ℕ} 0 1 = cc in absurd (omega arith)
-  go rest false e = rest e
+    go : (findFrom (k + 1) xs s ≡ Nowhere → has xs s ≡ false) → (b : Bool) → pick b (At k) (findFrom (k + 1) xs s) ≡ Nowhere → pick b true (has xs s) ≡ false
+    go rest true e = let z : _≡_ {A = ℕ} 0 1 = cc in absurd (omega arith)
+    go rest false e = rest e
 
 -- the first k of the first n
 pub take-least : (k n : ℕ) (l : List ℕ) → take (min k n) l ≡ take k (take n l)
@@ -67,22 +67,22 @@ module _ (n k : ℕ) (xs ys : List ℕ) where
   pub moved-cut : drop (length (movedTo n k xs ys) - length ys) xs ≡ movedFrom n k xs ys
   moved-cut = go (leb (length ys + length (take k xs)) n)
     where
-    go : (b : Bool) → drop (length (pick b (ys ++ take k xs) ys) - length ys) xs ≡ pick b (drop k xs) xs
-    go true =
-        let e : length (ys ++ take k xs) - length ys ≡ length (take k xs) = simp length-append (omega arith) in
-        rw e (drop-taken k xs)
-    go false = let e : length ys - length ys ≡ 0 = omega arith in rw e
+      go : (b : Bool) → drop (length (pick b (ys ++ take k xs) ys) - length ys) xs ≡ pick b (drop k xs) xs
+      go true =
+          let e : length (ys ++ take k xs) - length ys ≡ length (take k xs) = simp length-append (omega arith) in
+          rw e (drop-taken k xs)
+      go false = let e : length ys - length ys ≡ 0 = omega arith in rw e
 
   pub moved-bounds : (length ys ≤ length (movedTo n k xs ys)) × (length (movedTo n k xs ys) ≤ length ys + length xs)
   moved-bounds = go (leb (length ys + length (take k xs)) n)
     where
-    go : (b : Bool) → (length ys ≤ length (pick b (ys ++ take k xs) ys)) × (length (pick b (ys ++ take k xs) ys) ≤ length ys + length xs)
-    go true = (simp (length-append, length-take) (omega arith), simp (length-append, length-take) (omega arith))
-    go false = (omega arith, omega arith)
+      go : (b : Bool) → (length ys ≤ length (pick b (ys ++ take k xs) ys)) × (length (pick b (ys ++ take k xs) ys) ≤ length ys + length xs)
+      go true = (simp (length-append, length-take) (omega arith), simp (length-append, length-take) (omega arith))
+      go false = (omega arith, omega arith)
 
 -- the move of cells is the move of the lists that they are
 module _ (l t xs ys after : List ℕ) (room n p k least m : ℕ) (e : length t ≡ room) (sx : take n l ≡ xs) (sy : take p t ≡ ys) (q : least ≡ min k n)
-  (put : Makes t (movedTo (length t) least l (take p t)) m after) where
+    (put : Makes t (movedTo (length t) least l (take p t)) m after) where
   pub moved-same : movedTo (length t) least l (take p t) ≡ movedTo room k xs ys
   moved-same = rw (e, sy, q, take-least k n l, sx)
 

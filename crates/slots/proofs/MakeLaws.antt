@@ -19,10 +19,10 @@ make-same l n h = record { count = sym (length-take-le n l h); fits = h; cells =
 pub make-sets : (l vs xs : List ℕ) (i r : ℕ) → i + length vs ≤ length l → r ≡ i + length vs → take i l ++ vs ≡ xs → Makes l xs r (sets l i vs)
 make-sets l vs xs i r h e p =
     let k : length (take i l ++ vs) ≡ i + length vs = simp (length-append, length-take) (omega arith) in
-    record
-    { count = e ∙ sym k ∙ ap length p
-    ; fits = omega arith
-    ; cells = sets-over l vs i h ∙ ap (λ (x : List ℕ). over x l) p
+    record {
+      count = e ∙ sym k ∙ ap length p;
+      fits = omega arith;
+      cells = sets-over l vs i h ∙ ap (λ (x : List ℕ). over x l) p;
     }
 
 module _ (l : List ℕ) (n : ℕ) (h : n ≤ length l) where
@@ -47,11 +47,15 @@ module _ (l : List ℕ) (n : ℕ) (h : n ≤ length l) where
       rw (take-all i (take n l) e, drop-of-length-le (take n l) {i = i} e) m
 
   pub insert-room : (y : List ℕ) (i s : ℕ) → n < length l → i < n → y ≡ sets l (i + 1) (take (n - i) (drop i l))
-    → Makes l (inserted (length l) (take n l) i s) (n + 1) (set y i s)
+      → Makes l (inserted (length l) (take n l) i s) (n + 1) (set y i s)
   insert-room y i s q p e =
       let k : length (take (n - i) (drop i l)) ≡ n - i = simp (length-take, length-drop) (omega arith) in
-      rw (lt-ltb (length (take n l)) (length l) (omega (arith, view-length)), e, add-one i,
-        sets-before (take (n - i) (drop i l)) l i (suc i) s (omega arith))
+      rw (
+        lt-ltb (length (take n l)) (length l) (omega (arith, view-length)),
+        e,
+        add-one i,
+        sets-before (take (n - i) (drop i l)) l i (suc i) s (omega arith),
+      )
       (make-sets l (s ∷ take (n - i) (drop i l)) (take i (take n l) ++ (s ∷ drop i (take n l))) i (n + 1) (omega arith) (omega arith)
       (rw (take-take i n l (omega arith), drop-take i n l)))
 
@@ -74,7 +78,7 @@ module _ (l : List ℕ) (n : ℕ) (h : n ≤ length l) where
       rw (lt-leb (length (take k run) + length (take n l)) (length l) (omega (arith, view-length))) (make-same l n h)
 
   pub prepend-room : (run y z : List ℕ) (k : ℕ) → k ≤ length run → k ≤ length l - n → y ≡ sets l (0 + k) (take (n - 0) (drop 0 l))
-    → z ≡ sets y 0 (take k run) → Makes l (prepended (length l) (take k run) (take n l)) (n + k) z
+      → z ≡ sets y 0 (take k run) → Makes l (prepended (length l) (take k run) (take n l)) (n + k) z
   prepend-room run y z k p q d g =
       let e : length (take k run) ≡ k = length-take-le k run p in
       let v : n - 0 ≡ n = omega arith in
@@ -83,13 +87,13 @@ module _ (l : List ℕ) (n : ℕ) (h : n ≤ length l) where
       let ly : length y ≡ length l = ap length d ∙ length-sets l (0 + k) (take (n - 0) l) in
       let lk : length (take k l) ≡ k = length-take-le k l (omega arith) in
       let rest : drop (0 + length (take k run)) y ≡ take n l ++ drop (k + length (take n l)) l =
-          rw (e, w, f, append-assoc) (drop-at (take k l) (take n l ++ drop (k + length (take n l)) l) k lk) in
+      rw (e, w, f, append-assoc) (drop-at (take k l) (take n l ++ drop (k + length (take n l)) l) k lk) in
       let all : length (take k run ++ take n l) ≡ k + length (take n l) = simp length-append (omega arith) in
       rw (le-leb (length (take k run) + length (take n l)) (length l) (omega (arith, view-length)))
-      (record
-      { count = omega (arith, all, view-length)
-      ; fits = omega arith
-      ; cells = g ∙ sets-eq (take k run) y 0 (omega arith) ∙ rw (rest, all, append-assoc (take k run) (take n l) (drop (k + length (take n l)) l))
+      (record {
+        count = omega (arith, all, view-length);
+        fits = omega arith;
+        cells = g ∙ sets-eq (take k run) y 0 (omega arith) ∙ rw (rest, all, append-assoc (take k run) (take n l) (drop (k + length (take n l)) l));
       })
 
   pub append-full : (run : List ℕ) (k : ℕ) → k ≤ length run → length l - n < k → Makes l (movedTo (length l) k run (take n l)) n l
@@ -98,7 +102,7 @@ module _ (l : List ℕ) (n : ℕ) (h : n ≤ length l) where
       rw (lt-leb (length (take n l) + length (take k run)) (length l) (omega (arith, view-length))) (make-same l n h)
 
   pub append-room : (run y : List ℕ) (k : ℕ) → k ≤ length run → k ≤ length l - n → y ≡ sets l n (take k run)
-    → Makes l (movedTo (length l) k run (take n l)) (n + k) y
+      → Makes l (movedTo (length l) k run (take n l)) (n + k) y
   append-room run y k p q d =
       let e : length (take k run) ≡ k = length-take-le k run p in
       rw (le-leb (length (take n l) + length (take k run)) (length l) (omega (arith, view-length)), d)

@@ -22,20 +22,20 @@ clear m (x ∷ xs) = both (not (isMarked m x)) (clear m xs)
 pub set-mark : (m : List ℕ) (x y : ℕ) → x < length m → isMarked (set m x 1) y ≡ pick (eqb y x) true (isMarked m y)
 set-mark m x y h = go (eqb y x) refl
   where
-  go : (b : Bool) → eqb y x ≡ b → isMarked (set m x 1) y ≡ pick b true (isMarked m y)
-  go true e =
-      let q : y ≡ x = eqb-true y x e in
-      rw (q, getD-set-same m x 1 0 h)
-  go false e = rw (getD-set-other m x y 1 0 (eqb-false y x e))
+    go : (b : Bool) → eqb y x ≡ b → isMarked (set m x 1) y ≡ pick b true (isMarked m y)
+    go true e =
+        let q : y ≡ x = eqb-true y x e in
+        rw (q, getD-set-same m x 1 0 h)
+    go false e = rw (getD-set-other m x y 1 0 (eqb-false y x e))
 
 set-mark-past : (m : List ℕ) (x y : ℕ) → y < length m → isMarked (set m x 1) y ≡ pick (eqb x y) true (isMarked m y)
 set-mark-past m x y h = go (eqb x y) refl
   where
-  go : (b : Bool) → eqb x y ≡ b → isMarked (set m x 1) y ≡ pick b true (isMarked m y)
-  go true e =
-      let q : x ≡ y = eqb-true x y e in
-      rw (q, getD-set-same m y 1 0 h)
-  go false e = rw (getD-set-other m x y 1 0 (λ q. eqb-false x y e (sym q)))
+    go : (b : Bool) → eqb x y ≡ b → isMarked (set m x 1) y ≡ pick b true (isMarked m y)
+    go true e =
+        let q : x ≡ y = eqb-true x y e in
+        rw (q, getD-set-same m y 1 0 h)
+    go false e = rw (getD-set-other m x y 1 0 (λ q. eqb-false x y e (sym q)))
 
 shuffle : (e k h c : Bool) → both (not (pick e true k)) (both (not h) c) ≡ both (not (pick e true h)) (both (not k) c)
 shuffle true k h c = refl
@@ -51,7 +51,7 @@ clear-set m x (y ∷ ys) h = rw (clear-set m x ys h, set-mark m x y h) (shuffle 
 
 -- one step of the theorem, at Bools
 step : (t k h E O C : Bool) (s : Scanned) (m : List ℕ) → (t ≡ true → s .ok ≡ both E (both O (both (not h) C)))
-  → pick (both t (not k)) s (record { ok = false; marks = m }) .ok ≡ both (both t E) (both (both (not h) O) (both (not k) C))
+    → pick (both t (not k)) s (record { ok = false; marks = m }) .ok ≡ both (both t E) (both (both (not h) O) (both (not k) C))
 step false k h E O C s m f = refl
 step true true h false O C s m f = refl
 step true true true true O C s m f = refl
@@ -59,12 +59,12 @@ step true true false true true C s m f = refl
 step true true false true false C s m f = refl
 step true false h E O C s m f = f refl ∙ last h E O C
   where
-  last : (h E O C : Bool) → both E (both O (both (not h) C)) ≡ both E (both (both (not h) O) C)
-  last h false O C = refl
-  last true true true C = refl
-  last true true false C = refl
-  last false true true C = refl
-  last false true false C = refl
+    last : (h E O C : Bool) → both E (both O (both (not h) C)) ≡ both E (both (both (not h) O) C)
+    last h false O C = refl
+    last true true true C = refl
+    last true true false C = refl
+    last false true true C = refl
+    last false true false C = refl
 
 scan-ok : (n : ℕ) (m xs : List ℕ) → length m ≡ n → scanned m xs .ok ≡ both (exist n xs) (both (once xs) (clear m xs))
 unfolding scanned exist once clear
@@ -96,21 +96,21 @@ unfolding scanned
 scan-append m [] ys = refl
 scan-append m (x ∷ xs) ys = turn (both (ltb x (length m)) (not (isMarked m x))) (scan-append (set m x 1) xs ys)
   where
-  turn : (b : Bool) → scanned (set m x 1) (xs ++ ys) ≡ pick (scanned (set m x 1) xs .ok) (scanned (scanned (set m x 1) xs .marks) ys) (scanned (set m x 1) xs)
-    → pick b (scanned (set m x 1) (xs ++ ys)) (record { ok = false; marks = m })
-    ≡ pick (pick b (scanned (set m x 1) xs) (record { ok = false; marks = m }) .ok)
-      (scanned (pick b (scanned (set m x 1) xs) (record { ok = false; marks = m }) .marks) ys)
-      (pick b (scanned (set m x 1) xs) (record { ok = false; marks = m }))
-  turn true f = f
-  turn false f = refl
+    turn : (b : Bool) → scanned (set m x 1) (xs ++ ys) ≡ pick (scanned (set m x 1) xs .ok) (scanned (scanned (set m x 1) xs .marks) ys) (scanned (set m x 1) xs)
+        → pick b (scanned (set m x 1) (xs ++ ys)) (record { ok = false; marks = m })
+        ≡ pick (pick b (scanned (set m x 1) xs) (record { ok = false; marks = m }) .ok)
+        (scanned (pick b (scanned (set m x 1) xs) (record { ok = false; marks = m }) .marks) ys)
+        (pick b (scanned (set m x 1) xs) (record { ok = false; marks = m }))
+    turn true f = f
+    turn false f = refl
 
 -- so the two walks one after the other answer what the one over both does
 pub scan-append-ok : (m xs ys : List ℕ) → scanned m (xs ++ ys) .ok ≡ both (scanned m xs .ok) (scanned (scanned m xs .marks) ys .ok)
 scan-append-ok m xs ys = rw (scan-append m xs ys) (at (scanned m xs .ok) refl)
   where
-  at : (b : Bool) → scanned m xs .ok ≡ b → pick b (scanned (scanned m xs .marks) ys) (scanned m xs) .ok ≡ both b (scanned (scanned m xs .marks) ys .ok)
-  at true e = refl
-  at false e = e
+    at : (b : Bool) → scanned m xs .ok ≡ b → pick b (scanned (scanned m xs .marks) ys) (scanned m xs) .ok ≡ both b (scanned (scanned m xs .marks) ys .ok)
+    at true e = refl
+    at false e = e
 
 pub scan-append-marks : (m xs ys : List ℕ) → scanned m xs .ok ≡ true → scanned m (xs ++ ys) .marks ≡ scanned (scanned m xs .marks) ys .marks
 scan-append-marks m xs ys e = rw (scan-append m xs ys, e)
@@ -121,10 +121,10 @@ unfolding scanned
 length-scanned m [] = refl
 length-scanned m (x ∷ xs) = go (both (ltb x (length m)) (not (isMarked m x))) (length-scanned (set m x 1) xs ∙ length-set m x 1)
   where
-  go : (b : Bool) → length (scanned (set m x 1) xs .marks) ≡ length m
-    → length (pick b (scanned (set m x 1) xs) (record { ok = false; marks = m }) .marks) ≡ length m
-  go true e = e
-  go false e = refl
+    go : (b : Bool) → length (scanned (set m x 1) xs .marks) ≡ length m
+        → length (pick b (scanned (set m x 1) xs) (record { ok = false; marks = m }) .marks) ≡ length m
+    go true e = e
+    go false e = refl
 
 or-swap : (a b v : Bool) → pick a true (pick b true v) ≡ pick (pick b true a) true v
 or-swap true true v = refl
@@ -134,17 +134,17 @@ or-swap false false v = refl
 
 -- after a walk that was ok, marked are those that were and those that the list names
 pub scan-marks : (m xs : List ℕ) (k : ℕ) → k < length m → scanned m xs .ok ≡ true
-  → isMarked (scanned m xs .marks) k ≡ pick (has xs k) true (isMarked m k)
+    → isMarked (scanned m xs .marks) k ≡ pick (has xs k) true (isMarked m k)
 unfolding scanned
 scan-marks m [] k h ok = refl
 scan-marks m (x ∷ xs) k h ok =
     go (scan-marks (set m x 1) xs k (rw (length-set m x 1) h)) (both (ltb x (length m)) (not (isMarked m x))) ok
   where
-  go : (scanned (set m x 1) xs .ok ≡ true → isMarked (scanned (set m x 1) xs .marks) k ≡ pick (has xs k) true (isMarked (set m x 1) k))
-    → (b : Bool) → pick b (scanned (set m x 1) xs) (record { ok = false; marks = m }) .ok ≡ true
-    → isMarked (pick b (scanned (set m x 1) xs) (record { ok = false; marks = m }) .marks) k ≡ pick (pick (eqb x k) true (has xs k)) true (isMarked m k)
-  go rest true e = rest e ∙ rw (set-mark-past m x k h, or-swap)
-  go rest false e = let z : _≡_ {A = ℕ} 0 1 = cc in absurd (omega arith)
+    go : (scanned (set m x 1) xs .ok ≡ true → isMarked (scanned (set m x 1) xs .marks) k ≡ pick (has xs k) true (isMarked (set m x 1) k))
+        → (b : Bool) → pick b (scanned (set m x 1) xs) (record { ok = false; marks = m }) .ok ≡ true
+        → isMarked (pick b (scanned (set m x 1) xs) (record { ok = false; marks = m }) .marks) k ≡ pick (pick (eqb x k) true (has xs k)) true (isMarked m k)
+    go rest true e = rest e ∙ rw (set-mark-past m x k h, or-swap)
+    go rest false e = let z : _≡_ {A = ℕ} 0 1 = cc in absurd (omega arith)
 
 off : (b : Bool) → pick b true false ≡ b
 off true = refl

@@ -43,7 +43,7 @@ module _ (m xs : List ℕ) (n k : ℕ) (e : n ≤ length xs) (h : k < n) where
   scan-twice q t = rw (view-step xs n k, lt-ltb (getD xs k 0) (length m) q, t)
 
   pub scan-turn : getD xs k 0 < length m → (getD m (getD xs k 0) 0 ≡ 1 → ⊥)
-    → scanned m (drop k (take n xs)) ≡ scanned (set m (getD xs k 0) 1) (drop (k + 1) (take n xs))
+      → scanned m (drop k (take n xs)) ≡ scanned (set m (getD xs k 0) 1) (drop (k + 1) (take n xs))
   unfolding scanned
   scan-turn q t = rw (view-step xs n k, lt-ltb (getD xs k 0) (length m) q, ne-eqb (getD m (getD xs k 0) 0) 1 t)
 

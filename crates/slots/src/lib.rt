@@ -1,7 +1,7 @@
 // Lists of slot numbers, one type for each pool: the linked lists of the source.
 mod cells;
-pub mod marks;
 pub mod incoming;
+pub mod marks;
 pub mod outgoing;
 
 // The pools' sizes, in this one place.

@@ -4,7 +4,9 @@ ghost use Prim.Native.Nat.{_≤_};
 ghost use lib.ListN.{length, take};
 ghost use Rattle.slots.specs.Free.{Scans, isMarked, firstFrom, countFrom};
 ghost use Rattle.slots.specs.Lists.{outgoing, incoming};
-use crate::{Free, INCOMING, OUTGOING};
+use crate::Free;
+use crate::INCOMING;
+use crate::OUTGOING;
 
 // Walks the first n cells: false at one that names no slot or a marked one, with the marks so far.
 pub(crate) fn scan(marks: &mut [u8], cells: &[u16], n: usize) -> bool

@@ -1,9 +1,14 @@
 //! Writes call scripts (SCRIPT.md) with the lines that the oracle gives for them, and compares line files.
 
+mod build;
+mod damage;
 mod frame;
 mod lines;
+mod model;
 mod ops;
+mod output;
 mod random;
+mod records;
 mod script;
 
 use std::{env, fs, io, process::ExitCode};
@@ -14,6 +19,8 @@ fn main() -> ExitCode {
     let done = match words.as_slice() {
         ["script", seed, count, script, lines] => write(seed, count, script, lines, None),
         ["script", seed, count, script, lines, ops] => write(seed, count, script, lines, Some(ops)),
+        ["records", seed, count, script, lines] => write_records(seed, count, script, lines),
+        ["damage", script, lines] => write_damage(script, lines),
         ["lines", expected, got] => compare(expected, got),
         _ => Err(usage()),
     };
@@ -25,12 +32,17 @@ fn main() -> ExitCode {
 
 fn usage() -> String {
     let names: Vec<&str> = script::names().collect();
+    let more: Vec<&str> = script::more().collect();
     format!(
         "usage:
   compare script SEED COUNT SCRIPT_FILE LINES_FILE [OPS]
-      OPS: names with commas between, all of them if left out: {}
+      OPS: names with commas between; if left out: {}
+      further names: {}
+  compare records SEED COUNT SCRIPT_FILE LINES_FILE
+  compare damage SCRIPT_FILE LINES_FILE
   compare lines EXPECTED GOT",
-        names.join(",")
+        names.join(","),
+        more.join(",")
     )
 }
 
@@ -47,6 +59,17 @@ fn write(
         choice: script::Choice::named(ops)?,
     };
     plan.write(create(script)?, create(lines)?).map_err(|why| why.to_string())?;
+    Ok(ExitCode::SUCCESS)
+}
+
+fn write_records(seed: &str, count: &str, script: &str, lines: &str) -> Result<ExitCode, String> {
+    let (seed, count) = (number(seed)?, number(count)?);
+    records::write(seed, count, create(script)?, create(lines)?).map_err(|why| why.to_string())?;
+    Ok(ExitCode::SUCCESS)
+}
+
+fn write_damage(script: &str, lines: &str) -> Result<ExitCode, String> {
+    records::write_damage(create(script)?, create(lines)?).map_err(|why| why.to_string())?;
     Ok(ExitCode::SUCCESS)
 }
 

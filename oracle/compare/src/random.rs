@@ -42,6 +42,25 @@ impl Random {
         }
     }
 
+    /// A number up to the limit, or now and then one above it, if there is any.
+    pub fn about(&mut self, limit: u32) -> u32 {
+        let above = u32::MAX - limit;
+        if above > 0 && self.once_in(8) {
+            limit + 1 + self.up_to(above - 1)
+        } else {
+            self.up_to(limit)
+        }
+    }
+
+    /// The numbers below a bound, in any order.
+    pub fn shuffled(&mut self, bound: usize) -> Vec<usize> {
+        let mut numbers: Vec<usize> = (0..bound).collect();
+        for place in (1..bound).rev() {
+            numbers.swap(place, self.below(place as u64 + 1) as usize);
+        }
+        numbers
+    }
+
     pub fn bytes(&mut self, length: usize) -> Vec<u8> {
         (0..length).map(|_| self.next() as u8).collect()
     }

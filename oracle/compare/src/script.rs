@@ -2,20 +2,25 @@
 
 use std::io::{self, Write};
 
-use enet::Bench;
-
 use crate::{
     frame::Frame,
-    ops::{Group, GROUPS},
+    model::Model,
+    ops::{self, cell, outgoing, Group, GROUPS, MORE},
+    output::Output,
     random::Random,
 };
 
 /// The name that asks for a last frame that is cut.
 const SHORT: &str = "short";
 
-/// All names that a choice may have.
+/// The names of what takes part if none is given.
 pub fn names() -> impl Iterator<Item = &'static str> {
     GROUPS.iter().map(|group| group.name).chain([SHORT])
+}
+
+/// The names of what takes part only if it is asked for.
+pub fn more() -> impl Iterator<Item = &'static str> {
+    MORE.iter().map(|group| group.name)
 }
 
 /// Which groups take part, and whether the script ends inside a frame.
@@ -25,14 +30,14 @@ pub struct Choice {
 }
 
 impl Choice {
-    /// The groups of these names, or everything.
+    /// The groups of these names, or those that need no name.
     pub fn named(names: Option<&str>) -> Result<Self, String> {
         let Some(names) = names else {
             return Ok(Choice { groups: GROUPS.iter().collect(), short: true });
         };
         let mut choice = Choice { groups: Vec::new(), short: false };
         for name in names.split(',') {
-            match GROUPS.iter().find(|group| group.name == name) {
+            match ops::named(name) {
                 Some(group) => choice.groups.push(group),
                 None if name == SHORT => choice.short = true,
                 None => return Err(format!("there are no ops {name}")),
@@ -52,29 +57,25 @@ pub struct Plan {
 }
 
 impl Plan {
-    pub fn write(&self, mut script: impl Write, mut lines: impl Write) -> io::Result<()> {
+    pub fn write(&self, script: impl Write, lines: impl Write) -> io::Result<()> {
         let mut random = Random::new(self.seed);
-        let mut bench = Bench::new();
+        let mut output = Output::new(script, lines);
         let mut turns = vec![0; self.choice.groups.len()];
         for _ in 0..self.count {
-            let (frame, line) = self.next(&mut random, &mut bench, &mut turns);
-            script.write_all(&frame.encode())?;
-            writeln!(lines, "{line}")?;
+            let frame = self.next(&mut random, &output.model, &mut turns);
+            output.put(&frame)?;
         }
         if self.choice.short {
-            let (frame, _) = self.next(&mut random, &mut bench, &mut turns);
-            let whole = frame.encode();
+            let whole = self.next(&mut random, &output.model, &mut turns).encode();
             // At least one byte, or it would be no frame at all; at least one too few.
             let kept = 1 + random.below(whole.len() as u64 - 1) as usize;
-            script.write_all(&whole[..kept])?;
-            writeln!(lines, "{SHORT}")?;
+            output.raw(&whole[..kept], SHORT)?;
         }
-        script.flush()?;
-        lines.flush()
+        output.finish()
     }
 
-    /// A frame of some group, and its line; each group counts its own turns, to sweep its edges.
-    fn next(&self, random: &mut Random, bench: &mut Bench, turns: &mut [u64]) -> (Frame, String) {
+    /// A frame of some group; each group counts its own turns, to sweep its edges.
+    fn next(&self, random: &mut Random, model: &Model, turns: &mut [u64]) -> Frame {
         let chosen = self.draw(random);
         let group = self.choice.groups[chosen];
         let mut frame = (group.frame)(random, turns[chosen]);
@@ -82,8 +83,10 @@ impl Plan {
         if random.once_in(12) {
             miscount(&mut frame, random);
         }
-        let line = (group.line)(bench, &frame);
-        (frame, line)
+        match cell::shown(&model.record, &frame) {
+            Some(slot) => outgoing::set(random, slot),
+            None => frame,
+        }
     }
 
     /// The place of a group, drawn by the weights.

@@ -7,6 +7,7 @@ include!(concat!(env!("ENET_TREE"), "/root.rs"));
 
 mod bench;
 mod door;
+pub mod record;
 mod silent;
 
 pub use bench::Bench;

@@ -1,9 +1,7 @@
 //! Op 32: the distance of two times.
 
-use enet::Bench;
-
 use super::Group;
-use crate::{frame::Frame, random::Random};
+use crate::{frame::Frame, model::Model, random::Random};
 
 const DAY: u32 = 86_400_000;
 const HALF: u32 = 1 << 31;
@@ -32,6 +30,6 @@ fn time(random: &mut Random) -> u32 {
     }
 }
 
-fn line(bench: &mut Bench, frame: &Frame) -> String {
-    frame.line(&[bench.distance(frame.number(0), frame.number(1))])
+fn line(model: &mut Model, frame: &Frame) -> String {
+    frame.line(&[model.bench.distance(frame.number(0), frame.number(1))])
 }

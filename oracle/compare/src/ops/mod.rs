@@ -1,25 +1,61 @@
 //! The ops of SCRIPT.md in groups: each makes frames and says what the oracle answers.
 
+mod begin;
+pub mod cell;
+mod channel;
 mod distance;
+mod incoming;
+mod number;
+pub mod outgoing;
 mod read;
+pub mod reset;
+mod row;
 mod settings;
+mod state;
+mod store;
 mod unknown;
 mod write;
 
-use enet::Bench;
-
-use crate::{frame::Frame, random::Random};
+use crate::{frame::Frame, model::Model, random::Random};
 
 pub struct Group {
-    /// The name on the command line.
+    /// The name on the command line: the op, where it is a single one.
     pub name: &'static str,
     /// How often it is drawn, against the others.
     pub weight: u64,
     /// The group's frame for this turn.
     pub frame: fn(&mut Random, turn: u64) -> Frame,
     /// The line that must answer the frame.
-    pub line: fn(&mut Bench, &Frame) -> String,
+    pub line: fn(&mut Model, &Frame) -> String,
 }
 
+/// The groups that take part if none is named: stored scripts rely on them and on their order.
 pub const GROUPS: &[Group] =
     &[settings::GROUP, read::GROUP, write::GROUP, distance::GROUP, unknown::GROUP];
+
+/// The groups that take part only if they are named.
+pub const MORE: &[Group] = &[
+    reset::GROUP,
+    begin::GROUP,
+    state::GROUP,
+    row::GROUP,
+    store::GROUP,
+    number::GROUP,
+    cell::GROUP,
+    channel::GROUP,
+    outgoing::GROUP,
+    incoming::GROUP,
+];
+
+/// The group of this name.
+pub fn named(name: &str) -> Option<&'static Group> {
+    GROUPS.iter().chain(MORE).find(|group| group.name == name)
+}
+
+/// Makes the frame's call on the model and answers its line.
+pub fn answer(model: &mut Model, frame: &Frame) -> String {
+    match named(&frame.op.to_string()) {
+        Some(group) => (group.line)(model, frame),
+        None => frame.unknown(),
+    }
+}

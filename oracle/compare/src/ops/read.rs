@@ -1,9 +1,9 @@
 //! Op 30: reading a command.
 
-use enet::{size, Bench};
+use enet::size;
 
 use super::Group;
-use crate::{frame::Frame, random::Random};
+use crate::{frame::Frame, model::Model, random::Random};
 
 /// The reply's number of document 01 for a refused command.
 const REFUSED: u32 = 9;
@@ -66,8 +66,8 @@ fn anywhere(random: &mut Random) -> (u32, Vec<u8>) {
     (place, random.bytes(length as usize))
 }
 
-fn line(bench: &mut Bench, frame: &Frame) -> String {
-    match bench.read(&frame.bytes, frame.number(0) as usize) {
+fn line(model: &mut Model, frame: &Frame) -> String {
+    match model.bench.read(&frame.bytes, frame.number(0) as usize) {
         None => frame.line(&[REFUSED]),
         Some(read) => {
             let header = [read.byte.into(), read.channel.into(), read.number.into()];

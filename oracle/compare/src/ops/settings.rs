@@ -1,11 +1,13 @@
 //! Op 0: the settings. Only the checksum and the store's length have numbers that do not fit.
 
-use enet::Bench;
-
 use super::Group;
-use crate::{frame::Frame, random::Random};
+use crate::{
+    frame::Frame,
+    model::{self, Model, Settings},
+    random::Random,
+};
 
-const STORE: u32 = 49_152;
+const STORE: u32 = model::STORE as u32;
 
 pub const GROUP: Group = Group { name: "0", weight: 1, frame, line };
 
@@ -27,9 +29,10 @@ fn frame(random: &mut Random, _: u64) -> Frame {
     Frame { op: 0, numbers: vec![mtu, packet, waiting, checksum, store], ..Frame::default() }
 }
 
-fn line(_: &mut Bench, frame: &Frame) -> String {
+fn line(model: &mut Model, frame: &Frame) -> String {
     if frame.number(3) > 1 || frame.number(4) > STORE {
         return frame.bad();
     }
+    model.settings = Settings { mtu: frame.number(0), packet: frame.number(1) };
     frame.line(&[])
 }

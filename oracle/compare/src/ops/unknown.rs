@@ -1,9 +1,7 @@
 //! Ops that SCRIPT.md does not list.
 
-use enet::Bench;
-
 use super::Group;
-use crate::{frame::Frame, random::Random};
+use crate::{frame::Frame, model::Model, random::Random};
 
 const OPS: &[u8] = &[17, 19, 25, 29, 33, 200, 255];
 
@@ -19,6 +17,6 @@ fn frame(random: &mut Random, _: u64) -> Frame {
     }
 }
 
-fn line(_: &mut Bench, frame: &Frame) -> String {
+fn line(_: &mut Model, frame: &Frame) -> String {
     frame.unknown()
 }

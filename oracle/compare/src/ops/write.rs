@@ -1,9 +1,9 @@
 //! Op 31: writing a command. The refusals are document 01's, since the source has no writer of its own.
 
-use enet::{limits, size, write, Bench};
+use enet::{limits, size, write};
 
 use super::Group;
-use crate::{frame::Frame, random::Random};
+use crate::{frame::Frame, model::Model, random::Random};
 
 const REFUSED: u32 = 9;
 const ROOM: u32 = 64;
@@ -57,7 +57,7 @@ fn all_limits(kind: u8) -> Vec<u32> {
     all
 }
 
-fn line(_: &mut Bench, frame: &Frame) -> String {
+fn line(_: &mut Model, frame: &Frame) -> String {
     let kind = frame.number(KIND);
     if !(1..=12).contains(&kind) {
         return frame.bad();

@@ -2,6 +2,10 @@
 
 pub(crate) mod command;
 mod distance;
+mod dump;
 mod fields;
+mod load;
+mod numbers;
+mod reset;
 pub(crate) mod throttle;
 pub(crate) mod window;

@@ -57,14 +57,15 @@ loop-again c =
     let a = m .before .args in
     let e : length (a .t2) ≡ 8 = search needs in
     let w = c .before .before .walk-in in
-    let ok = not-false (w .result .ok) (c .if1 .left) in
-    ( omega arith
-    , m .loop .inv .1
-      ∙ held-turn (a .slots) (a .count) (a .t2) (a .count) (m .loop .k) (m .loop .walk .marks) _ _ (omega arith) (omega arith)
-        (sym ok ∙ w .ensures .0 .is) (w .ensures .0 .marks ok)
-    , m .loop .inv .2
-      ∙ held-sum (a .slots) (a .t2) (a .count) (m .loop .k) _ (m .loop .walk .total) _ (omega arith) (omega arith) (w .ensures .1 .is ok)
-    , omega (arith, w .ensures .1 .low) )
+    let ok = not-false (w .result .ok) (c .if1 .left) in (
+      omega arith,
+      m .loop .inv .1
+          ∙ held-turn (a .slots) (a .count) (a .t2) (a .count) (m .loop .k) (m .loop .walk .marks) _ _ (omega arith) (omega arith)
+          (sym ok ∙ w .ensures .0 .is) (w .ensures .0 .marks ok),
+      m .loop .inv .2
+          ∙ held-sum (a .slots) (a .t2) (a .count) (m .loop .k) _ (m .loop .walk .total) _ (omega arith) (omega arith) (w .ensures .1 .is ok),
+      omega (arith, w .ensures .1 .low),
+    )
 
 returns-2 : tie.Need-returns-2 Inv-loop μ-loop
 returns-2 c =

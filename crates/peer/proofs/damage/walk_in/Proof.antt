@@ -47,9 +47,10 @@ returns c =
     let xs = a .l .slots in
     let e : length xs ≡ 12 = search needs in
     let f = inPasses (a .t1) (a .count) (a .own) (a .k) in
-    rw (← m .before .before .before .count .ensures .same)
-    ( walks-stop _ _ _ _ (m .loop .inv .2 ∙ pass-past f (m .loop .marks) xs n (m .loop .j) (omega arith) (omega arith) (omega arith))
-    , sums-stop _ _ _ _ refl (omega arith) )
+    rw (← m .before .before .before .count .ensures .same) (
+      walks-stop _ _ _ _ (m .loop .inv .2 ∙ pass-past f (m .loop .marks) xs n (m .loop .j) (omega arith) (omega arith) (omega arith)),
+      sums-stop _ _ _ _ refl (omega arith),
+    )
 
 array-read-if2 : tie.Need-array-read-if2 Inv-loop μ-loop
 array-read-if2 c = search needs
@@ -62,9 +63,10 @@ returns-2 c =
     let xs = a .l .slots in
     let e : length xs ≡ 12 = search needs in
     let f = inPasses (a .t1) (a .count) (a .own) (a .k) in
-    rw (← m .before .before .before .count .ensures .same)
-    ( walks-stop _ _ _ _ (m .loop .inv .2 ∙ pass-twice f (m .loop .marks) xs n (m .loop .j) (omega arith) (omega arith) (omega arith) (c .if2 .taken))
-    , sums-stop _ _ _ _ refl (omega arith) )
+    rw (← m .before .before .before .count .ensures .same) (
+      walks-stop _ _ _ _ (m .loop .inv .2 ∙ pass-twice f (m .loop .marks) xs n (m .loop .j) (omega arith) (omega arith) (omega arith) (c .if2 .taken)),
+      sums-stop _ _ _ _ refl (omega arith),
+    )
 
 mul-slot : tie.Need-mul-slot Inv-loop μ-loop
 mul-slot c = search needs
@@ -85,9 +87,10 @@ returns-3 c =
     let e : length xs ≡ 12 = search needs in
     let f = inPasses (a .t1) (a .count) (a .own) (a .k) in
     let bad = sym (c .before .in-passes .ensures) ∙ not-true (c .before .in-passes .result) (c .if3 .taken) in
-    rw (← m .before .before .before .count .ensures .same)
-    ( walks-stop _ _ _ _ (m .loop .inv .2 ∙ pass-unfit f (m .loop .marks) xs n (m .loop .j) (omega arith) (omega arith) (omega arith) (c .before .before .before .if2 .left) bad)
-    , sums-stop _ _ _ _ refl (omega arith) )
+    rw (← m .before .before .before .count .ensures .same) (
+      walks-stop _ _ _ _ (m .loop .inv .2 ∙ pass-unfit f (m .loop .marks) xs n (m .loop .j) (omega arith) (omega arith) (omega arith) (c .before .before .before .if2 .left) bad),
+      sums-stop _ _ _ _ refl (omega arith),
+    )
 
 add-total : tie.Need-add-total Inv-loop μ-loop
 unfolding noIncoming
@@ -120,13 +123,14 @@ loop-again c =
     let f = inPasses (a .t1) (a .count) (a .own) (a .k) in
     let good = sym (c .before .before .in-passes .ensures) ∙ not-false (c .before .before .in-passes .result) (c .before .if3 .left) in
     let short = pass-short (a .count) (a .own) (a .k) (getD (a .t1) (getD xs (m .loop .j) 0) noIncoming) good in
-    let turn = sum-turn (a .t1) xs n (m .loop .j) (omega arith) (omega arith) in
-    ( omega arith
-    , simp length-set (m .loop .inv .1)
-    , m .loop .inv .2 ∙ pass-turn f (m .loop .marks) xs n (m .loop .j) (omega arith) (omega arith) (omega arith) (c .before .before .before .before .if2 .left) good
-    , m .loop .inv .3 ∙ mark-turn f (m .loop .marks) xs n (m .loop .j) (omega arith) (omega arith)
-    , omega arith
-    , omega arith )
+    let turn = sum-turn (a .t1) xs n (m .loop .j) (omega arith) (omega arith) in (
+      omega arith,
+      simp length-set (m .loop .inv .1),
+      m .loop .inv .2 ∙ pass-turn f (m .loop .marks) xs n (m .loop .j) (omega arith) (omega arith) (omega arith) (c .before .before .before .before .if2 .left) good,
+      m .loop .inv .3 ∙ mark-turn f (m .loop .marks) xs n (m .loop .j) (omega arith) (omega arith),
+      omega arith,
+      omega arith,
+    )
 
 returns-4 : tie.Need-returns-4 Inv-loop μ-loop
 returns-4 c =
@@ -137,10 +141,11 @@ returns-4 c =
     let e : length xs ≡ 12 = search needs in
     let f = inPasses (a .t1) (a .count) (a .own) (a .k) in
     let end = sum-end (a .t1) xs n (m .loop .j) (omega arith) in
-    rw (← m .before .before .before .count .ensures .same)
-    ( walks-end _ _ _ _ (m .loop .inv .2 ∙ pass-end f (m .loop .marks) xs n (m .loop .j) (omega arith))
-      (m .loop .inv .3 ∙ mark-end (m .loop .marks) xs n (m .loop .j) (omega arith))
-    , record { is = λ q. omega arith; low = omega arith } )
+    rw (← m .before .before .before .count .ensures .same) (
+      walks-end _ _ _ _ (m .loop .inv .2 ∙ pass-end f (m .loop .marks) xs n (m .loop .j) (omega arith))
+          (m .loop .inv .3 ∙ mark-end (m .loop .marks) xs n (m .loop .j) (omega arith)),
+      record { is = λ q. omega arith; low = omega arith },
+    )
 
 pub walk-in-spec : {M : Type 1} → statement M
 walk-in-spec =

@@ -100,11 +100,12 @@ loop-again c =
     let xs = a .l .slots in
     let e : length xs ≡ 32 = search needs in
     let f = outPasses (a .t1) (a .count) (a .sent) in
-    let good = sym (c .before .out-passes .ensures) ∙ not-false (c .before .out-passes .result) (c .if3 .left) in
-    ( omega arith
-    , simp length-set (m .loop .inv .1)
-    , m .loop .inv .2 ∙ pass-turn f (m .loop .marks) xs n (m .loop .j) (omega arith) (omega arith) (omega arith) (c .before .before .before .if2 .left) good
-    , m .loop .inv .3 ∙ mark-turn f (m .loop .marks) xs n (m .loop .j) (omega arith) (omega arith) )
+    let good = sym (c .before .out-passes .ensures) ∙ not-false (c .before .out-passes .result) (c .if3 .left) in (
+      omega arith,
+      simp length-set (m .loop .inv .1),
+      m .loop .inv .2 ∙ pass-turn f (m .loop .marks) xs n (m .loop .j) (omega arith) (omega arith) (omega arith) (c .before .before .before .if2 .left) good,
+      m .loop .inv .3 ∙ mark-turn f (m .loop .marks) xs n (m .loop .j) (omega arith) (omega arith),
+    )
 
 returns-4 : tie.Need-returns-4 Inv-loop μ-loop
 returns-4 c =

@@ -42,10 +42,11 @@ loop-less c = search needs
 loop-again : tie.Need-loop-again Inv-loop μ-loop
 loop-again c =
     let m = c .before .before in
-    let a = m .before .args in
-    ( omega arith
-    , simp length-set (m .loop .inv .1)
-    , lay-turn (a .cells .now) (a .run .now) (m .loop .cells) (a .at) (m .loop .j) (omega arith) (m .loop .inv .2) )
+    let a = m .before .args in (
+      omega arith,
+      simp length-set (m .loop .inv .1),
+      lay-turn (a .cells .now) (a .run .now) (m .loop .cells) (a .at) (m .loop .j) (omega arith) (m .loop .inv .2),
+    )
 
 same-length : tie.Need-same-length Inv-loop μ-loop
 same-length c = search needs

@@ -45,11 +45,12 @@ loop-less c = search needs
 loop-again : tie.Need-loop-again Inv-loop μ-loop
 loop-again c =
     let m = c .before .before in
-    let a = m .before .args in
-    ( omega arith
-    , omega arith
-    , simp length-set (m .loop .inv .2)
-    , lower-turn (a .cells .now) (m .loop .cells) (a .from) (a .k) (m .loop .j) (omega arith) (omega arith) (omega arith) (m .loop .inv .3) )
+    let a = m .before .args in (
+      omega arith,
+      omega arith,
+      simp length-set (m .loop .inv .2),
+      lower-turn (a .cells .now) (m .loop .cells) (a .from) (a .k) (m .loop .j) (omega arith) (omega arith) (omega arith) (m .loop .inv .3),
+    )
 
 same-length : tie.Need-same-length Inv-loop μ-loop
 same-length c = search needs

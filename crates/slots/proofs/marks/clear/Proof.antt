@@ -39,14 +39,16 @@ loop-again c =
     let x = m .before .args .marks .now in
     let h : m .loop .j < length x = omega arith in
     ⊎-elim
-    (λ w.
-    ( omega arith
-    , omega arith
-    , omega (arith, m .loop .inv .2, count-hit (isMarked x) (length x) (m .loop .j) h (ne-eqb (getD x (m .loop .j) 0) 1 (w .0 .taken))) ))
-    (λ w.
-    ( omega arith
-    , omega arith
-    , omega (arith, m .loop .inv .2, count-miss (isMarked x) (length x) (m .loop .j) h (eq-eqb (getD x (m .loop .j) 0) 1 (w .0 .left))) ))
+    (λ w. (
+      omega arith,
+      omega arith,
+      omega (arith, m .loop .inv .2, count-hit (isMarked x) (length x) (m .loop .j) h (ne-eqb (getD x (m .loop .j) 0) 1 (w .0 .taken))),
+    ))
+    (λ w. (
+      omega arith,
+      omega arith,
+      omega (arith, m .loop .inv .2, count-miss (isMarked x) (length x) (m .loop .j) h (eq-eqb (getD x (m .loop .j) 0) 1 (w .0 .left))),
+    ))
     (c .if1 .came)
 
 returns : tie.Need-returns Inv-loop μ-loop

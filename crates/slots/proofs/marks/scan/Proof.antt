@@ -63,10 +63,11 @@ loop-less c = search needs
 loop-again : tie.Need-loop-again Inv-loop μ-loop
 loop-again c =
     let m = c .before .before .before .before .before in
-    let a = m .before .args in
-    ( omega arith
-    , simp length-set (m .loop .inv .1)
-    , m .loop .inv .2 ∙ scan-turn (m .loop .marks) (a .cells .now) (a .n) (m .loop .j) (omega arith) (omega arith) (omega arith) (c .if2 .left) )
+    let a = m .before .args in (
+      omega arith,
+      simp length-set (m .loop .inv .1),
+      m .loop .inv .2 ∙ scan-turn (m .loop .marks) (a .cells .now) (a .n) (m .loop .j) (omega arith) (omega arith) (omega arith) (c .if2 .left),
+    )
 
 same-length-3 : tie.Need-same-length-3 Inv-loop μ-loop
 same-length-3 c = search needs

@@ -57,10 +57,11 @@ cut-requires c κs =
     let p = c .before .before .before .before .before .before .count2 in
     let least = c .before .before .before .before .least in
     let put = c .before .before .before .append in
-    let e : length (a .self .slots) ≡ 12 = search needs in
-    ( omega (arith, n .ensures .low)
-    , moved-high (a .self .slots) (a .to .slots) (inItems (a .self)) (inItems (a .to)) (put .last .0) 12 (n .result) (p .result) (a .k) (least .result) (put .result)
-      f (n .ensures .same) (p .ensures .same) (least .ensures) (put .ensures) (c .count3 .result) (c .count3 .ensures .is) (n .ensures .is) )
+    let e : length (a .self .slots) ≡ 12 = search needs in (
+      omega (arith, n .ensures .low),
+      moved-high (a .self .slots) (a .to .slots) (inItems (a .self)) (inItems (a .to)) (put .last .0) 12 (n .result) (p .result) (a .k) (least .result) (put .result)
+          f (n .ensures .same) (p .ensures .same) (least .ensures) (put .ensures) (c .count3 .result) (c .count3 .ensures .is) (n .ensures .is),
+    )
 
 cast-t17 : tie.Need-cast-t17
 cast-t17 c = search needs
@@ -76,17 +77,17 @@ returns c =
     let p = c .before .before .before .before .before .before .before .before .count2 in
     let least = c .before .before .before .before .before .before .least in
     let put = c .before .before .before .before .before .append in
-    record
-    { from =
-      in-made (a .self) (drop (put .result - c .before .before .count3 .result) (take (n .result) (a .self .slots)))
-      (movedFrom incoming (a .k) (inItems (a .self)) (inItems (a .to))) (c .before .cut .last .0) (c .before .cut .result) (c .before .cut .ensures)
-      (moved-left (a .self .slots) (a .to .slots) (inItems (a .self)) (inItems (a .to)) (put .last .0) 12 (n .result) (p .result) (a .k) (least .result) (put .result)
-      f (n .ensures .same) (p .ensures .same) (least .ensures) (put .ensures) (c .before .before .count3 .result) (c .before .before .count3 .ensures .is))
-    ; to =
-      in-made (a .to) (movedTo (length (a .to .slots)) (least .result) (a .self .slots) (take (p .result) (a .to .slots)))
-      (movedTo incoming (a .k) (inItems (a .self)) (inItems (a .to))) (put .last .0) (put .result) (put .ensures)
-      (moved-same (a .self .slots) (a .to .slots) (inItems (a .self)) (inItems (a .to)) (put .last .0) 12 (n .result) (p .result) (a .k) (least .result) (put .result)
-      f (n .ensures .same) (p .ensures .same) (least .ensures) (put .ensures))
+    record {
+      from =
+          in-made (a .self) (drop (put .result - c .before .before .count3 .result) (take (n .result) (a .self .slots)))
+          (movedFrom incoming (a .k) (inItems (a .self)) (inItems (a .to))) (c .before .cut .last .0) (c .before .cut .result) (c .before .cut .ensures)
+          (moved-left (a .self .slots) (a .to .slots) (inItems (a .self)) (inItems (a .to)) (put .last .0) 12 (n .result) (p .result) (a .k) (least .result) (put .result)
+          f (n .ensures .same) (p .ensures .same) (least .ensures) (put .ensures) (c .before .before .count3 .result) (c .before .before .count3 .ensures .is));
+      to =
+          in-made (a .to) (movedTo (length (a .to .slots)) (least .result) (a .self .slots) (take (p .result) (a .to .slots)))
+          (movedTo incoming (a .k) (inItems (a .self)) (inItems (a .to))) (put .last .0) (put .result) (put .ensures)
+          (moved-same (a .self .slots) (a .to .slots) (inItems (a .self)) (inItems (a .to)) (put .last .0) 12 (n .result) (p .result) (a .k) (least .result) (put .result)
+          f (n .ensures .same) (p .ensures .same) (least .ensures) (put .ensures));
     }
 
 pub shift-spec : {M : Type 1} → statement M

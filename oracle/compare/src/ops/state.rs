@@ -1,0 +1,34 @@
+//! Op 3: set state, which the port adds: document 01's rule.
+
+use enet::record::place;
+
+use super::Group;
+use crate::{damage::damaged, frame::Frame, model::Model, random::Random};
+
+/// The last state, a zombie.
+const LAST: u32 = 9;
+
+pub const GROUP: Group = Group { name: "3", weight: 1, frame, line };
+
+fn frame(random: &mut Random, _: u64) -> Frame {
+    let state = match random.below(6) {
+        0 => random.pick(&[LAST + 1, 256, u32::MAX]),
+        _ => random.up_to(LAST),
+    };
+    Frame { op: 3, numbers: vec![state], ..Frame::default() }
+}
+
+fn line(model: &mut Model, frame: &Frame) -> String {
+    let state = frame.number(0);
+    if !model.settings.fit() {
+        return model.reply(frame, 11);
+    }
+    if damaged(&model.record) {
+        return model.reply(frame, 13);
+    }
+    if state > LAST {
+        return model.reply(frame, 11);
+    }
+    model.record.numbers[place::STATE] = state;
+    model.reply(frame, 0)
+}

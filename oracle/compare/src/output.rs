@@ -1,0 +1,34 @@
+//! The two files that are written side by side: the script and its lines.
+
+use std::io::{self, Write};
+
+use crate::{frame::Frame, model::Model, ops};
+
+pub struct Output<S, L> {
+    script: S,
+    lines: L,
+    pub model: Model,
+}
+
+impl<S: Write, L: Write> Output<S, L> {
+    pub fn new(script: S, lines: L) -> Self {
+        Output { script, lines, model: Model::new() }
+    }
+
+    /// Writes the frame and the line that answers it.
+    pub fn put(&mut self, frame: &Frame) -> io::Result<()> {
+        let line = ops::answer(&mut self.model, frame);
+        self.raw(&frame.encode(), &line)
+    }
+
+    /// Writes these bytes and this line.
+    pub fn raw(&mut self, bytes: &[u8], line: &str) -> io::Result<()> {
+        self.script.write_all(bytes)?;
+        writeln!(self.lines, "{line}")
+    }
+
+    pub fn finish(mut self) -> io::Result<()> {
+        self.script.flush()?;
+        self.lines.flush()
+    }
+}

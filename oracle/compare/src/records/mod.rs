@@ -1,0 +1,154 @@
+//! Scripts about whole records: random ones to reset, and each kind of damage.
+
+pub mod harm;
+pub mod odd;
+pub mod sound;
+
+use std::io::{self, Write};
+
+use enet::record::Record;
+
+use crate::{build, frame::Frame, ops, output::Output, random::Random};
+
+/// The seed of the records of damage, which take no seed from outside.
+const SEED: u64 = 1;
+
+/// The settings of the start, after the MTU: the maximum packet; then waiting, checksum, store length.
+const PACKET: u32 = 33_554_432;
+const OTHERS: [u32; 3] = [33_554_432, 0, 49_152];
+
+/// A script in which so many records are built and reset, with other calls around.
+pub fn write(seed: u64, count: u64, script: impl Write, lines: impl Write) -> io::Result<()> {
+    let mut random = Random::new(seed);
+    let mut output = Output::new(script, lines);
+    for _ in 0..count {
+        let record = match random.below(4) {
+            0 => harm::any(&mut random),
+            _ => sound::any(&mut random),
+        };
+        make(&mut output, &record)?;
+        look(&mut output, &mut random)?;
+        for _ in 0..random.below(3) {
+            call(&mut output, &mut random)?;
+        }
+        if random.once_in(8) {
+            refused(&mut output, &mut random)?;
+        }
+        let mtu = 576 + random.up_to(4_096 - 576);
+        let packet = 1 + random.up_to(1_073_741_823);
+        output.put(&settings(mtu, packet))?;
+        output.put(&frame(1, vec![]))?;
+        look(&mut output, &mut random)?;
+        for _ in 0..random.below(4) {
+            call(&mut output, &mut random)?;
+        }
+    }
+    output.finish()
+}
+
+/// A script with every kind of damage, one at a time, and then with what only looks like damage.
+pub fn write_damage(script: impl Write, lines: impl Write) -> io::Result<()> {
+    let mut random = Random::new(SEED);
+    let mut output = Output::new(script, lines);
+    for (_, record) in harm::HARMS.iter().chain(odd::ODDS) {
+        make(&mut output, &record(&mut random))?;
+        output.put(&frame(15, vec![]))?;
+        for (mtu, packet) in [(1_392, PACKET), (575, PACKET), (1_392, 0), (1_392, PACKET)] {
+            output.put(&settings(mtu, packet))?;
+            output.put(&frame(3, vec![random.up_to(9)]))?;
+        }
+        output.put(&frame(2, vec![1_392, 8]))?;
+        output.put(&frame(1, vec![]))?;
+    }
+    output.finish()
+}
+
+fn frame(op: u8, numbers: Vec<u32>) -> Frame {
+    Frame { op, numbers, ..Frame::default() }
+}
+
+fn settings(mtu: u32, packet: u32) -> Frame {
+    frame(0, [&[mtu, packet][..], &OTHERS].concat())
+}
+
+/// Turns the model's record into this one.
+fn make<S: Write, L: Write>(output: &mut Output<S, L>, record: &Record) -> io::Result<()> {
+    for frame in build::frames(&output.model.record, record) {
+        output.put(&frame)?;
+    }
+    Ok(())
+}
+
+/// Now and then the whole record, and the store's hash.
+fn look<S: Write, L: Write>(output: &mut Output<S, L>, random: &mut Random) -> io::Result<()> {
+    if random.once_in(4) {
+        output.put(&frame(15, vec![]))?;
+    }
+    if random.once_in(8) {
+        output.put(&drawn("16", random))?;
+    }
+    Ok(())
+}
+
+/// Begin or set state.
+fn call<S: Write, L: Write>(output: &mut Output<S, L>, random: &mut Random) -> io::Result<()> {
+    let name = random.pick(&["2", "3"]);
+    output.put(&drawn(name, random))
+}
+
+/// Calls that a bad setting refuses, be the record sound or damaged.
+fn refused<S: Write, L: Write>(output: &mut Output<S, L>, random: &mut Random) -> io::Result<()> {
+    let bad = [(575, PACKET), (4_097, PACKET), (1_392, 0), (1_392, 1_073_741_825)];
+    let (mtu, packet) = random.pick(&bad);
+    output.put(&settings(mtu, packet))?;
+    output.put(&frame(1, vec![]))?;
+    call(output, random)
+}
+
+/// A frame of the group of this name.
+fn drawn(name: &str, random: &mut Random) -> Frame {
+    let group = ops::named(name).expect("the group is known");
+    (group.frame)(random, 0)
+}
+
+#[cfg(test)]
+mod tests {
+    use super::*;
+
+    /// The number that each call of this op replied.
+    fn replies(lines: &[u8], op: &str) -> Vec<String> {
+        let lines = String::from_utf8(lines.to_vec()).unwrap();
+        lines
+            .lines()
+            .filter_map(|line| line.strip_prefix(op)?.strip_prefix(' '))
+            .map(|rest| rest.split(' ').next().unwrap().to_string())
+            .collect()
+    }
+
+    fn count(replies: &[String], number: &str) -> usize {
+        replies.iter().filter(|reply| *reply == number).count()
+    }
+
+    #[test]
+    fn so_many_records_are_reset_and_every_reply_is_met() {
+        let mut lines = Vec::new();
+        write(1, 200, io::sink(), &mut lines).unwrap();
+        assert_eq!(count(&replies(&lines, "1"), "0"), 200);
+        for op in ["2", "3"] {
+            for number in ["0", "11", "13"] {
+                assert!(count(&replies(&lines, op), number) >= 10, "op {op}, reply {number}");
+            }
+        }
+    }
+
+    #[test]
+    fn damage_answers_13_and_a_bad_setting_before_it_11() {
+        let mut lines = Vec::new();
+        write_damage(io::sink(), &mut lines).unwrap();
+        let states = replies(&lines, "3");
+        let (harmed, odd) = states.split_at(4 * harm::HARMS.len());
+        assert!(harmed.chunks(4).all(|four| four == ["13", "11", "11", "13"]));
+        assert!(odd.chunks(4).all(|four| four == ["0", "11", "11", "0"]));
+        assert_eq!(odd.len(), 4 * odd::ODDS.len());
+    }
+}

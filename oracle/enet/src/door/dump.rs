@@ -1,0 +1,125 @@
+//! Reads a record back out of the source's structs.
+
+use std::ptr::{addr_of_mut, null_mut};
+
+use super::{fields::fields, load::Nodes, numbers::numbers};
+use crate::{
+    record::{Incoming, List, Outgoing, Record},
+    Bench, ENetIncomingCommand, ENetList, ENetListIterator, ENetOutgoingCommand,
+    ENET_PROTOCOL_COMMAND_MASK,
+};
+
+impl Bench {
+    /// The peer as it is; what was loaded keeps its slot, and a new node takes the lowest free one.
+    pub(crate) unsafe fn dump(&self, nodes: &Nodes) -> Record {
+        let (host, peer) = (self.host, self.peer);
+        let mut record = Record::zero();
+        for (number, value) in numbers(host, peer).iter().zip(&mut record.numbers) {
+            *value = number.get();
+        }
+        record.words = (*peer).unsequenced_window;
+
+        let lists = [
+            addr_of_mut!((*peer).sent_reliable_commands),
+            addr_of_mut!((*peer).outgoing_send_reliable_commands),
+            addr_of_mut!((*peer).outgoing_commands),
+        ];
+        let into = vec![&mut record.sent, &mut record.send_reliable, &mut record.outgoing];
+        for (slot, node) in copy(&lists, into, &nodes.outgoing) {
+            record.outgoing_slots[slot] = outgoing(node.cast());
+        }
+
+        let mut lists = vec![addr_of_mut!((*peer).dispatched_commands)];
+        let mut into = vec![&mut record.dispatched];
+        for (place, channel) in record.channels.iter_mut().enumerate().take((*peer).channel_count) {
+            let from = (*peer).channels.add(place);
+            channel.numbers = [
+                (*from).outgoing_reliable_sequence_number,
+                (*from).outgoing_unreliable_sequence_number,
+                (*from).incoming_reliable_sequence_number,
+                (*from).incoming_unreliable_sequence_number,
+            ];
+            lists.push(addr_of_mut!((*from).incoming_reliable_commands));
+            into.push(&mut channel.list);
+        }
+        for (slot, node) in copy(&lists, into, &nodes.incoming) {
+            record.incoming_slots[slot] = incoming(node.cast());
+        }
+        record
+    }
+}
+
+/// Fills the lists with the slots of the source's nodes, and answers every used slot and its node.
+unsafe fn copy(
+    from: &[*mut ENetList],
+    into: Vec<&mut List>,
+    known: &[ENetListIterator],
+) -> Vec<(usize, ENetListIterator)> {
+    let lists: Vec<Vec<ENetListIterator>> = from.iter().map(|list| walk(*list)).collect();
+    let mut held = known.to_vec();
+    for node in &mut held {
+        if !lists.iter().flatten().any(|there| there == node) {
+            *node = null_mut();
+        }
+    }
+    for (list, nodes) in into.into_iter().zip(lists) {
+        for node in nodes {
+            list.push(slot(node, &mut held));
+        }
+    }
+    held.into_iter().enumerate().filter(|(_, node)| !node.is_null()).collect()
+}
+
+/// The slot that holds the node, the lowest free one if none does yet.
+fn slot(node: ENetListIterator, held: &mut [ENetListIterator]) -> usize {
+    let slot = held.iter().position(|there| *there == node).unwrap_or_else(|| {
+        held.iter().position(|there| there.is_null()).expect("the slots suffice")
+    });
+    held[slot] = node;
+    slot
+}
+
+/// The nodes of a list from its head.
+unsafe fn walk(list: *mut ENetList) -> Vec<ENetListIterator> {
+    let mut nodes = Vec::new();
+    let mut node = (*list).sentinel.next;
+    while node != addr_of_mut!((*list).sentinel) {
+        nodes.push(node);
+        node = (*node).next;
+    }
+    nodes
+}
+
+unsafe fn outgoing(node: *mut ENetOutgoingCommand) -> Outgoing {
+    let header = (*node).command.header;
+    let kind = header.command & ENET_PROTOCOL_COMMAND_MASK as u8;
+    let fields = fields(addr_of_mut!((*node).command), kind);
+    Outgoing {
+        reliable: (*node).reliable_sequence_number,
+        unreliable: (*node).unreliable_sequence_number,
+        sent_time: (*node).sent_time,
+        timeout: (*node).round_trip_timeout,
+        queue_time: (*node).queue_time,
+        offset: (*node).fragment_offset,
+        length: (*node).fragment_length,
+        attempts: (*node).send_attempts,
+        packet: !(*node).packet.is_null(),
+        byte: header.command,
+        channel: header.channel_id,
+        number: u16::from_be(header.reliable_sequence_number),
+        kind,
+        fields: fields.iter().map(|field| field.get()).collect(),
+    }
+}
+
+unsafe fn incoming(node: *mut ENetIncomingCommand) -> Incoming {
+    let header = (*node).command.header;
+    Incoming {
+        byte: header.command,
+        channel: header.channel_id,
+        number: (*node).reliable_sequence_number,
+        fragments: (*node).fragment_count,
+        remaining: (*node).fragments_remaining,
+        length: (*(*node).packet).data_length as u32,
+    }
+}
