@@ -21,13 +21,13 @@ use slots::incoming::InList;
 use slots::outgoing::OutList;
 
 // Where a walk ended: whether every slot passed, and the marks there.
-pub struct OutWalk {
+struct OutWalk {
     pub ok: bool,
     pub marks: [u8; OUTGOING],
 }
 
 // And the lengths on the way.
-pub struct InWalk {
+struct InWalk {
     pub ok: bool,
     pub marks: [u8; INCOMING],
     pub total: u32,
