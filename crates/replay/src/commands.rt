@@ -57,24 +57,33 @@ fn row(out: &mut [u8], used: usize, kind: u8, numbers: [u32; 16]) -> usize {
 pub(crate) fn write(frame: &[u8], out: &mut [u8], used: usize) -> usize {
     let kind = frame::number(frame, 3);
     let room = frame::number(frame, 4);
-    if KINDS < kind || ROOM < room {
+    if ROOM < room {
         return line::worded(out, used, 31, b"bad");
     }
-    match rows::build(kind as u8, asked(frame)) {
+    match built(kind, asked(frame, 0, 5)) {
         Built::Done(c) => written(out, used, c, room as usize),
         Built::Refused => line::worded(out, used, 31, b"bad"),
     }
 }
 
-// Byte, channel and number; kind and room stand between them and the fields.
-fn asked(frame: &[u8]) -> [u32; 16] {
+pub(crate) fn built(kind: u32, row: [u32; 16]) -> Built {
+    if KINDS < kind {
+        return Built::Refused;
+    }
+    rows::build(kind as u8, row)
+}
+
+// A command's row: byte, channel and number from place head on, the fields from place fields on.
+pub(crate) fn asked(frame: &[u8], head: usize, fields: usize) -> [u32; 16]
+    requires { ⌜ (head ≤ 64) × (fields ≤ 64) ⌝ }
+{
     let mut row = [0u32; 16];
-    row[0] = frame::number(frame, 0);
-    row[1] = frame::number(frame, 1);
-    row[2] = frame::number(frame, 2);
+    row[0] = frame::number(frame, head);
+    row[1] = frame::number(frame, head + 1);
+    row[2] = frame::number(frame, head + 2);
     let mut j = 3;
     while j < 16 {
-        row[j] = frame::number(frame, j + 2);
+        row[j] = frame::number(frame, fields + j - 3);
         j += 1;
     }
     row

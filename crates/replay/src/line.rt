@@ -54,6 +54,11 @@ pub(crate) fn value(out: &mut [u8], used: usize, n: u64) -> usize {
     decimal(out, count, n)
 }
 
+pub(crate) fn word(out: &mut [u8], used: usize, word: &[u8]) -> usize {
+    let count = byte(out, used, b' ');
+    text(out, count, word)
+}
+
 pub(crate) fn end(out: &mut [u8], used: usize) -> usize {
     byte(out, used, b'\n')
 }
@@ -67,8 +72,7 @@ pub(crate) fn plain(out: &mut [u8], used: usize, op: u8) -> usize {
 // The line of the op and a word.
 pub(crate) fn worded(out: &mut [u8], used: usize, op: u8, word: &[u8]) -> usize {
     let begun = begin(out, used, op);
-    let spaced = byte(out, begun, b' ');
-    let said = text(out, spaced, word);
+    let said = self::word(out, begun, word);
     end(out, said)
 }
 

@@ -3,14 +3,29 @@ ghost use Prim.Native.Nat.{_≤_};
 ghost use lib.ListN.{length};
 
 mod bench;
+mod calls;
+mod changes;
 mod clock;
 mod commands;
 mod frame;
 mod line;
+mod record;
+mod setters;
 mod settings;
+mod sink;
+mod store;
+mod used;
 
 use bench::Bench;
 use frame::Held;
+use peer::record::Peer;
+
+// The buffers after a read.
+struct Filled {
+    held: Held,
+    used: usize,
+    is_over: bool,
+}
 
 // A run of a script, between two frames.
 struct Run {
@@ -32,43 +47,71 @@ fn first() -> Run
 }
 
 // The line of a whole frame; each group of ops has its module and its arms.
-fn answer(frame: &[u8], out: &mut [u8], bench: Bench) -> Bench {
+fn answer(frame: &[u8], out: &mut [u8], store: &mut [u8], bench: Bench) -> Bench {
     let op = frame::op(frame);
-    let used = bench.used;
-    let mut after = bench;
     match op {
-        0 => return settings::set(frame, out, bench),
-        30 => after.used = commands::read(frame, out, used),
-        31 => after.used = commands::write(frame, out, used),
-        32 => after.used = clock::distance(frame, out, used),
-        _ => after.used = line::worded(out, used, op, b"unknown"),
+        0 => settings::set(frame, out, bench),
+        1..=3 => calls::call(op, frame, out, bench),
+        20..=24 => setters::set(op, frame, out, bench),
+        _ => told(op, frame, out, store, bench),
     }
+}
+
+// The ops that change nothing but what waits in the output buffer.
+fn told(op: u8, frame: &[u8], out: &mut [u8], store: &[u8], bench: Bench) -> Bench {
+    let mut after = bench;
+    after.used = said(op, frame, out, store, bench.used, bench.peer);
     after
 }
 
+fn said(op: u8, frame: &[u8], out: &mut [u8], store: &[u8], used: usize, peer: Peer) -> usize {
+    match op {
+        15 => record::written(out, used, peer),
+        16 => store::hash(frame, out, store, used),
+        30 => commands::read(frame, out, used),
+        31 => commands::write(frame, out, used),
+        32 => clock::distance(frame, out, used),
+        _ => line::worded(out, used, op, b"unknown"),
+    }
+}
+
 // Whoever waits for a line has it before more is read; an input that ends is the end of the run.
-fn refill(input: &mut [u8], out: &mut [u8], run: Run) -> Run
-    requires { ⌜ (run .held .start ≤ run .held .end) × (run .held .end ≤ length (now input)) ⌝ }
+fn fill(input: &mut [u8], out: &mut [u8], before: Held, waiting: usize) -> Filled
+    requires { ⌜ (before .start ≤ before .end) × (before .end ≤ length (now input)) ⌝ }
     ensures { λ r. ⌜ (r .held .start ≤ r .held .end) × (r .held .end ≤ length (now (input .exit))) ⌝ }
 {
-    let mut bench = run.bench;
-    bench.used = line::flush(out, bench.used);
-    let held = frame::fetch(input, run.held);
+    let mut used = line::flush(out, waiting);
+    let held = frame::fetch(input, before);
     let start = held.start;
     let end = held.end;
     let is_over = end - start < frame::size(&input[start..end]);
     if is_over && start < end {
-        bench.used = line::short(out, bench.used);
+        used = line::short(out, used);
     }
-    Run {
+    Filled {
         held,
-        bench,
+        used,
         is_over,
     }
 }
 
+fn refill(input: &mut [u8], out: &mut [u8], run: Run) -> Run
+    requires { ⌜ (run .held .start ≤ run .held .end) × (run .held .end ≤ length (now input)) ⌝ }
+    ensures { λ r. ⌜ (r .held .start ≤ r .held .end) × (r .held .end ≤ length (now (input .exit))) ⌝ }
+{
+    let filled = fill(input, out, run.held, run.bench.used);
+    let held = filled.held;
+    let mut bench = run.bench;
+    bench.used = filled.used;
+    Run {
+        held,
+        bench,
+        is_over: filled.is_over,
+    }
+}
+
 // One frame is answered, or more is read.
-fn turn(input: &mut [u8], out: &mut [u8], run: Run) -> Run
+fn turn(input: &mut [u8], out: &mut [u8], store: &mut [u8], run: Run) -> Run
     requires { ⌜ (run .held .start ≤ run .held .end) × (run .held .end ≤ length (now input)) ⌝ }
     ensures { λ r. ⌜ (r .held .start ≤ r .held .end) × (r .held .end ≤ length (now (input .exit))) ⌝ }
 {
@@ -79,7 +122,7 @@ fn turn(input: &mut [u8], out: &mut [u8], run: Run) -> Run
         return refill(input, out, run);
     }
     let next = start + size;
-    let bench = answer(&input[start..next], out, run.bench);
+    let bench = answer(&input[start..next], out, store, run.bench);
     let held = Held { start: next, end };
     Run {
         held,
@@ -89,11 +132,11 @@ fn turn(input: &mut [u8], out: &mut [u8], run: Run) -> Run
 }
 
 // A proved loop has to end, and nothing says that a script does: so turns are counted down, from more than any run has.
-fn play(input: &mut [u8], out: &mut [u8]) {
+fn play(input: &mut [u8], out: &mut [u8], store: &mut [u8]) {
     let mut turns = u64::MAX;
     let mut run = first();
     while turns > 0 && !run.is_over {
-        run = turn(input, out, run);
+        run = turn(input, out, store, run);
         turns -= 1;
     }
     line::flush(out, run.bench.used);
@@ -103,5 +146,6 @@ fn play(input: &mut [u8], out: &mut [u8]) {
 fn main() {
     let mut input = [0u8; 131072];
     let mut out = [0u8; 16384];
-    play(&mut input, &mut out);
+    let mut store = [0u8; 49152];
+    play(&mut input, &mut out, &mut store);
 }

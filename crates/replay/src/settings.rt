@@ -2,20 +2,13 @@
 use crate::bench::Bench;
 use crate::frame;
 use crate::line;
+use peer::settings::Settings;
 
 // The store's length; a larger one does not fit.
-const STORE: u32 = 49152;
-
-pub struct Settings {
-    pub mtu: u32,
-    pub packet: u32,
-    pub waiting: u32,
-    pub is_checked: bool,
-    pub store: u32,
-}
+pub const STORE: u32 = 49152;
 
 enum Asked {
-    Fit(Settings),
+    Fit { settings: Settings, store: u32 },
     Bad,
 }
 
@@ -24,8 +17,7 @@ pub(crate) fn first() -> Settings {
         mtu: numbers::consts::HOST_DEFAULT_MTU,
         packet: numbers::consts::HOST_DEFAULT_MAXIMUM_PACKET_SIZE,
         waiting: numbers::consts::HOST_DEFAULT_MAXIMUM_WAITING_DATA,
-        is_checked: false,
-        store: STORE,
+        checksum: false,
     }
 }
 
@@ -41,21 +33,21 @@ fn of(frame: &[u8]) -> Asked {
     let mtu = frame::number(frame, 0);
     let packet = frame::number(frame, 1);
     let waiting = frame::number(frame, 2);
-    let is_checked = checksum == 1;
-    Asked::Fit(Settings {
+    let settings = Settings {
         mtu,
         packet,
         waiting,
-        is_checked,
-        store,
-    })
+        checksum: checksum == 1,
+    };
+    Asked::Fit { settings, store }
 }
 
 pub(crate) fn set(frame: &[u8], out: &mut [u8], bench: Bench) -> Bench {
     let mut after = bench;
     match of(frame) {
-        Asked::Fit(s) => {
-            after.settings = s;
+        Asked::Fit { settings, store } => {
+            after.settings = settings;
+            after.store = store;
             after.used = line::plain(out, bench.used, 0);
         }
         Asked::Bad => {

@@ -13,6 +13,8 @@ mod script;
 
 use std::{env, fs, io, process::ExitCode};
 
+use output::Output;
+
 fn main() -> ExitCode {
     let words: Vec<String> = env::args().skip(1).collect();
     let words: Vec<&str> = words.iter().map(String::as_str).collect();
@@ -21,6 +23,7 @@ fn main() -> ExitCode {
         ["script", seed, count, script, lines, ops] => write(seed, count, script, lines, Some(ops)),
         ["records", seed, count, script, lines] => write_records(seed, count, script, lines),
         ["damage", script, lines] => write_damage(script, lines),
+        ["vectors", script, lines] => write_vectors(script, lines),
         ["lines", expected, got] => compare(expected, got),
         _ => Err(usage()),
     };
@@ -40,6 +43,7 @@ fn usage() -> String {
       further names: {}
   compare records SEED COUNT SCRIPT_FILE LINES_FILE
   compare damage SCRIPT_FILE LINES_FILE
+  compare vectors SCRIPT_FILE LINES_FILE
   compare lines EXPECTED GOT",
         names.join(","),
         more.join(",")
@@ -58,18 +62,38 @@ fn write(
         count: number(count)?,
         choice: script::Choice::named(ops)?,
     };
-    plan.write(create(script)?, create(lines)?).map_err(|why| why.to_string())?;
-    Ok(ExitCode::SUCCESS)
+    written(script, lines, |output| plan.write(output))
 }
 
 fn write_records(seed: &str, count: &str, script: &str, lines: &str) -> Result<ExitCode, String> {
     let (seed, count) = (number(seed)?, number(count)?);
-    records::write(seed, count, create(script)?, create(lines)?).map_err(|why| why.to_string())?;
-    Ok(ExitCode::SUCCESS)
+    written(script, lines, |output| records::write(output, seed, count))
 }
 
 fn write_damage(script: &str, lines: &str) -> Result<ExitCode, String> {
-    records::write_damage(create(script)?, create(lines)?).map_err(|why| why.to_string())?;
+    written(script, lines, records::write_damage)
+}
+
+/// What the repository stores for replay: each kind of damage, random records, then every other op.
+fn write_vectors(script: &str, lines: &str) -> Result<ExitCode, String> {
+    let plan = script::Plan { seed: 1, count: 3_000, choice: script::Choice::named(None)? };
+    written(script, lines, |output| {
+        records::write_damage(output)?;
+        records::write(output, 3, 150)?;
+        plan.write(output)
+    })
+}
+
+type Files = Output<io::BufWriter<fs::File>, io::BufWriter<fs::File>>;
+
+/// Both files, filled side by side.
+fn written(
+    script: &str,
+    lines: &str,
+    fill: impl FnOnce(&mut Files) -> io::Result<()>,
+) -> Result<ExitCode, String> {
+    let mut output = Output::new(create(script)?, create(lines)?);
+    fill(&mut output).and_then(|()| output.finish()).map_err(|why| why.to_string())?;
     Ok(ExitCode::SUCCESS)
 }
 

@@ -57,9 +57,8 @@ pub struct Plan {
 }
 
 impl Plan {
-    pub fn write(&self, script: impl Write, lines: impl Write) -> io::Result<()> {
+    pub fn write(&self, output: &mut Output<impl Write, impl Write>) -> io::Result<()> {
         let mut random = Random::new(self.seed);
-        let mut output = Output::new(script, lines);
         let mut turns = vec![0; self.choice.groups.len()];
         for _ in 0..self.count {
             let frame = self.next(&mut random, &output.model, &mut turns);
@@ -71,7 +70,7 @@ impl Plan {
             let kept = 1 + random.below(whole.len() as u64 - 1) as usize;
             output.raw(&whole[..kept], SHORT)?;
         }
-        output.finish()
+        Ok(())
     }
 
     /// A frame of some group; each group counts its own turns, to sweep its edges.
@@ -127,7 +126,7 @@ mod tests {
     fn written(seed: u64, count: u64, names: Option<&str>) -> (Vec<u8>, String) {
         let (mut script, mut lines) = (Vec::new(), Vec::new());
         let plan = Plan { seed, count, choice: Choice::named(names).unwrap() };
-        plan.write(&mut script, &mut lines).unwrap();
+        plan.write(&mut Output::new(&mut script, &mut lines)).unwrap();
         (script, String::from_utf8(lines).unwrap())
     }
 

@@ -1,4 +1,4 @@
--- `play` is safe and ends: what is held stays within the buffer, and both lengths stay; the measure is the turns that are left.
+-- `play` is safe and ends: what is held stays within the buffer, and the lengths stay; the measure is the turns that are left.
 use Prim.Native.Nat.{_≤_}
 use mathlib.Core.Path.{_≡_}
 use lib.ListN.{length}
@@ -7,10 +7,10 @@ use Rattle.replay.proofs.play.Statement.{statement}
 use Rattle.replay.proofs.play.Tie as tie
 
 abbrev Inv-loop : tie.InvT-loop
-Inv-loop input₀ out₀ turns₀ run₀ input out turns run = (run .held .start ≤ run .held .end) × (run .held .end ≤ length input) × (length input ≡ length input₀) × (length out ≡ length out₀)
+Inv-loop input₀ out₀ store₀ turns₀ run₀ input out store turns run = (run .held .start ≤ run .held .end) × (run .held .end ≤ length input) × (length input ≡ length input₀) × (length out ≡ length out₀) × (length store ≡ length store₀)
 
 abbrev μ-loop : tie.MeasureT-loop
-μ-loop input₀ out₀ turns₀ run₀ input out turns run = turns
+μ-loop input₀ out₀ store₀ turns₀ run₀ input out store turns run = turns
 
 first-requires : tie.Need-first-requires Inv-loop μ-loop
 first-requires c κs = search needs
@@ -39,6 +39,9 @@ same-length c = search needs
 same-length-2 : tie.Need-same-length-2 Inv-loop μ-loop
 same-length-2 c = search needs
 
+same-length-3 : tie.Need-same-length-3 Inv-loop μ-loop
+same-length-3 c = search needs
+
 returns : tie.Need-returns Inv-loop μ-loop
 returns c = search needs
 
@@ -57,4 +60,5 @@ play-spec =
     flush-requires
     same-length
     same-length-2
+    same-length-3
     returns)

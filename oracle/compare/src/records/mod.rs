@@ -18,40 +18,43 @@ const PACKET: u32 = 33_554_432;
 const OTHERS: [u32; 3] = [33_554_432, 0, 49_152];
 
 /// A script in which so many records are built and reset, with other calls around.
-pub fn write(seed: u64, count: u64, script: impl Write, lines: impl Write) -> io::Result<()> {
+pub fn write<S: Write, L: Write>(
+    output: &mut Output<S, L>,
+    seed: u64,
+    count: u64,
+) -> io::Result<()> {
     let mut random = Random::new(seed);
-    let mut output = Output::new(script, lines);
     for _ in 0..count {
-        let record = match random.below(4) {
+        let record = match random.below(32) {
             0 => harm::any(&mut random),
-            _ => sound::any(&mut random),
+            1..=3 => sound::any(&mut random),
+            _ => sound::light(&mut random, &output.model.record),
         };
-        make(&mut output, &record)?;
-        look(&mut output, &mut random)?;
+        make(output, &record)?;
+        look(output, &mut random)?;
         for _ in 0..random.below(3) {
-            call(&mut output, &mut random)?;
+            call(output, &mut random)?;
         }
         if random.once_in(8) {
-            refused(&mut output, &mut random)?;
+            refused(output, &mut random)?;
         }
         let mtu = 576 + random.up_to(4_096 - 576);
         let packet = 1 + random.up_to(1_073_741_823);
         output.put(&settings(mtu, packet))?;
         output.put(&frame(1, vec![]))?;
-        look(&mut output, &mut random)?;
+        look(output, &mut random)?;
         for _ in 0..random.below(4) {
-            call(&mut output, &mut random)?;
+            call(output, &mut random)?;
         }
     }
-    output.finish()
+    Ok(())
 }
 
 /// A script with every kind of damage, one at a time, and then with what only looks like damage.
-pub fn write_damage(script: impl Write, lines: impl Write) -> io::Result<()> {
+pub fn write_damage<S: Write, L: Write>(output: &mut Output<S, L>) -> io::Result<()> {
     let mut random = Random::new(SEED);
-    let mut output = Output::new(script, lines);
     for (_, record) in harm::HARMS.iter().chain(odd::ODDS) {
-        make(&mut output, &record(&mut random))?;
+        make(output, &record(&mut random))?;
         output.put(&frame(15, vec![]))?;
         for (mtu, packet) in [(1_392, PACKET), (575, PACKET), (1_392, 0), (1_392, PACKET)] {
             output.put(&settings(mtu, packet))?;
@@ -60,7 +63,7 @@ pub fn write_damage(script: impl Write, lines: impl Write) -> io::Result<()> {
         output.put(&frame(2, vec![1_392, 8]))?;
         output.put(&frame(1, vec![]))?;
     }
-    output.finish()
+    Ok(())
 }
 
 fn frame(op: u8, numbers: Vec<u32>) -> Frame {
@@ -132,8 +135,8 @@ mod tests {
     #[test]
     fn so_many_records_are_reset_and_every_reply_is_met() {
         let mut lines = Vec::new();
-        write(1, 200, io::sink(), &mut lines).unwrap();
-        assert_eq!(count(&replies(&lines, "1"), "0"), 200);
+        write(&mut Output::new(io::sink(), &mut lines), 1, 2_000).unwrap();
+        assert_eq!(count(&replies(&lines, "1"), "0"), 2_000);
         for op in ["2", "3"] {
             for number in ["0", "11", "13"] {
                 assert!(count(&replies(&lines, op), number) >= 10, "op {op}, reply {number}");
@@ -144,7 +147,7 @@ mod tests {
     #[test]
     fn damage_answers_13_and_a_bad_setting_before_it_11() {
         let mut lines = Vec::new();
-        write_damage(io::sink(), &mut lines).unwrap();
+        write_damage(&mut Output::new(io::sink(), &mut lines)).unwrap();
         let states = replies(&lines, "3");
         let (harmed, odd) = states.split_at(4 * harm::HARMS.len());
         assert!(harmed.chunks(4).all(|four| four == ["13", "11", "11", "13"]));

@@ -29,6 +29,28 @@ pub fn any(random: &mut Random) -> Record {
     record
 }
 
+/// A small record that shares most numbers with another, so that few frames make it of that one.
+pub fn light(random: &mut Random, other: &Record) -> Record {
+    let mut length = || random.below(3) as usize / 2;
+    let (sent, send_reliable, outgoing) = (length(), length(), length());
+    let channels: Vec<usize> = (0..length()).map(|_| length()).collect();
+    let dispatched = if channels.is_empty() { 0 } else { length() };
+    let shape = Shape { sent, send_reliable, outgoing, dispatched, channels };
+    let mut record = shaped(random, &shape);
+    for place in 0..record.numbers.len() {
+        let decided = [place::MTU, place::CHANNEL_COUNT, place::WAITING].contains(&place);
+        if !decided && !random.once_in(6) {
+            record.numbers[place] = other.numbers[place];
+        }
+    }
+    for (word, was) in zip(&mut record.words, &other.words) {
+        if !random.once_in(12) {
+            *word = *was;
+        }
+    }
+    record
+}
+
 /// A record with at least two in each list, room in each pool, and a channel too few.
 pub fn rich(random: &mut Random) -> Record {
     let count = 2 + random.below(3) as usize;
@@ -191,7 +213,9 @@ mod tests {
         let mut random = Random::new(1);
         for _ in 0..500 {
             assert!(!damaged(&any(&mut random)));
-            assert!(!damaged(&rich(&mut random)));
+            let rich = rich(&mut random);
+            assert!(!damaged(&rich));
+            assert!(!damaged(&light(&mut random, &rich)));
         }
     }
 }
