@@ -3,7 +3,8 @@ use crate::bench::Bench;
 use crate::frame;
 use crate::line;
 use crate::record;
-use peer::calls::{Called, Reply};
+use peer::calls::Called;
+use peer::calls::Reply;
 use peer::record::Peer;
 use peer::settings::Settings;
 

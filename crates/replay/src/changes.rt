@@ -3,15 +3,34 @@ use crate::commands;
 use crate::frame;
 use command::fields::Command;
 use command::rows::Built;
-use numbers::counters::{Reliable, Unreliable};
-use peer::record::{Incoming, Outgoing};
+use numbers::counters::Reliable;
+use numbers::counters::Unreliable;
+use peer::record::Incoming;
+use peer::record::Outgoing;
 
 pub enum Change {
-    Number { which: u32, value: u32 },
-    Cell { list: u32, which: u32, value: u16 },
-    Counter { channel: u32, which: u32, value: u16 },
-    Outgoing { slot: u32, to: Outgoing },
-    Incoming { slot: u32, to: Incoming },
+    Number {
+        which: u32,
+        value: u32,
+    },
+    Cell {
+        list: u32,
+        which: u32,
+        value: u16,
+    },
+    Counter {
+        channel: u32,
+        which: u32,
+        value: u16,
+    },
+    Outgoing {
+        slot: u32,
+        to: Outgoing,
+    },
+    Incoming {
+        slot: u32,
+        to: Incoming,
+    },
     Bad,
 }
 
@@ -74,7 +93,11 @@ fn counter(frame: &[u8]) -> Change {
     let which = frame::number(frame, 1);
     if channel < 8 && which < 4 && is_short(frame, 2) {
         let value = short(frame, 2);
-        return Change::Counter { channel, which, value };
+        return Change::Counter {
+            channel,
+            which,
+            value,
+        };
     }
     Change::Bad
 }
@@ -96,7 +119,11 @@ fn outgoing(frame: &[u8]) -> Change {
 
 // Reliable and unreliable number, piece length, attempts and packet fit; the command's own numbers are its builder's.
 fn is_outgoing(frame: &[u8]) -> bool {
-    is_short(frame, 1) && is_short(frame, 2) && is_short(frame, 7) && is_short(frame, 8) && frame::number(frame, 9) < 2
+    is_short(frame, 1)
+        && is_short(frame, 2)
+        && is_short(frame, 7)
+        && is_short(frame, 8)
+        && frame::number(frame, 9) < 2
 }
 
 fn sending(frame: &[u8], command: Command) -> Outgoing {

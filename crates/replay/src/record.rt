@@ -3,8 +3,26 @@ use crate::line;
 use crate::sink;
 use crate::sink::Sink;
 use crate::used;
-use peer::record::{Bandwidth, Channel, Flow, Groups, Ids, Incoming, Limits, Lists, Loss, Outgoing, Peer, Standing, Throttling, Times, Totals, Trips, Waiting, CHANNELS};
-use slots::{INCOMING, OUTGOING};
+use peer::record::Bandwidth;
+use peer::record::CHANNELS;
+use peer::record::Channel;
+use peer::record::Flow;
+use peer::record::Groups;
+use peer::record::Ids;
+use peer::record::Incoming;
+use peer::record::Limits;
+use peer::record::Lists;
+use peer::record::Loss;
+use peer::record::Outgoing;
+use peer::record::Peer;
+use peer::record::Standing;
+use peer::record::Throttling;
+use peer::record::Times;
+use peer::record::Totals;
+use peer::record::Trips;
+use peer::record::Waiting;
+use slots::INCOMING;
+use slots::OUTGOING;
 
 // Op 15.
 pub(crate) fn written(out: &mut [u8], used: usize, p: Peer) -> usize {
@@ -51,7 +69,15 @@ fn slots(out: &mut [u8], sink: Sink, p: Peer) -> Sink {
     incoming(out, sent, in_pool, in_marks)
 }
 
-fn standing(out: &mut [u8], sink: Sink, i: Ids, s: Standing, b: Bandwidth, t: Totals, w: Times) -> Sink {
+fn standing(
+    out: &mut [u8],
+    sink: Sink,
+    i: Ids,
+    s: Standing,
+    b: Bandwidth,
+    t: Totals,
+    w: Times,
+) -> Sink {
     let numbers = [
         sink::wide(i.outgoing_peer),
         sink::wide(i.incoming_peer),
@@ -76,14 +102,36 @@ fn standing(out: &mut [u8], sink: Sink, i: Ids, s: Standing, b: Bandwidth, t: To
 
 fn pace(out: &mut [u8], sink: Sink, l: Loss, t: Throttling, m: Limits, r: Trips, f: Flow) -> Sink {
     let losses = [
-        l.epoch, l.sent, l.lost, l.loss, l.variance, t.value, t.limit, t.counter, t.epoch, t.acceleration,
-        t.deceleration, t.interval,
+        l.epoch,
+        l.sent,
+        l.lost,
+        l.loss,
+        l.variance,
+        t.value,
+        t.limit,
+        t.counter,
+        t.epoch,
+        t.acceleration,
+        t.deceleration,
+        t.interval,
     ];
     let throttled = sink::put_all(out, sink, &losses);
     let next = f.reliable;
     let limits = [
-        m.ping, m.timeout, m.minimum, m.maximum, r.last, r.lowest, r.last_variance, r.highest_variance, r.now,
-        r.variance, f.mtu, f.window, f.transit, sink::wide(next.0),
+        m.ping,
+        m.timeout,
+        m.minimum,
+        m.maximum,
+        r.last,
+        r.lowest,
+        r.last_variance,
+        r.highest_variance,
+        r.now,
+        r.variance,
+        f.mtu,
+        f.window,
+        f.transit,
+        sink::wide(next.0),
     ];
     sink::put_all(out, throttled, &limits)
 }
@@ -102,7 +150,12 @@ fn lists(out: &mut [u8], sink: Sink, l: Lists) -> Sink {
 fn groups(out: &mut [u8], sink: Sink, g: Groups, w: Waiting) -> Sink {
     let a = g.incoming;
     let b = g.outgoing;
-    let numbers = [sink::wide(g.flags), sink::wide(g.reserved), sink::wide(a.0), sink::wide(b.0)];
+    let numbers = [
+        sink::wide(g.flags),
+        sink::wide(g.reserved),
+        sink::wide(a.0),
+        sink::wide(b.0),
+    ];
     let flagged = sink::put_all(out, sink, &numbers);
     let words = g.words;
     let worded = sink::put_all(out, flagged, &words);
@@ -127,7 +180,12 @@ fn channel(out: &mut [u8], sink: Sink, c: Channel) -> Sink {
     let b = c.outgoing_unreliable;
     let d = c.incoming_reliable;
     let e = c.incoming_unreliable;
-    let numbers = [sink::wide(a.0), sink::wide(b.0), sink::wide(d.0), sink::wide(e.0)];
+    let numbers = [
+        sink::wide(a.0),
+        sink::wide(b.0),
+        sink::wide(d.0),
+        sink::wide(e.0),
+    ];
     let counted = sink::put_all(out, sink, &numbers);
     let held = c.held;
     sink::put_list(out, counted, held.len, &held.slots)
@@ -181,6 +239,13 @@ fn arrived(out: &mut [u8], sink: Sink, s: Incoming, mark: u8) -> Sink {
         return sink;
     }
     let n = s.number;
-    let numbers = [s.byte as u32, s.channel as u32, sink::wide(n.0), s.fragments, s.remaining, s.length];
+    let numbers = [
+        s.byte as u32,
+        s.channel as u32,
+        sink::wide(n.0),
+        s.fragments,
+        s.remaining,
+        s.length,
+    ];
     sink::put_all(out, sink, &numbers)
 }

@@ -3,11 +3,31 @@ use crate::bench::Bench;
 use crate::changes;
 use crate::changes::Change;
 use crate::line;
-use numbers::counters::{Group, Reliable, Unreliable};
-use peer::record::{Bandwidth, Channel, Flow, Groups, Ids, Incoming, Limits, Lists, Loss, Outgoing, Peer, Standing, Throttling, Times, Totals, Trips, Waiting, CHANNELS};
+use numbers::counters::Group;
+use numbers::counters::Reliable;
+use numbers::counters::Unreliable;
+use peer::record::Bandwidth;
+use peer::record::CHANNELS;
+use peer::record::Channel;
+use peer::record::Flow;
+use peer::record::Groups;
+use peer::record::Ids;
+use peer::record::Incoming;
+use peer::record::Limits;
+use peer::record::Lists;
+use peer::record::Loss;
+use peer::record::Outgoing;
+use peer::record::Peer;
+use peer::record::Standing;
+use peer::record::Throttling;
+use peer::record::Times;
+use peer::record::Totals;
+use peer::record::Trips;
+use peer::record::Waiting;
+use slots::INCOMING;
+use slots::OUTGOING;
 use slots::incoming::InList;
 use slots::outgoing::OutList;
-use slots::{INCOMING, OUTGOING};
 
 pub(crate) fn set(op: u8, frame: &[u8], out: &mut [u8], bench: Bench) -> Bench {
     let change = changes::asked(op, frame);
@@ -38,7 +58,11 @@ fn changed(p: Peer, change: Change) -> Peer {
             q.lists = lists;
             q.channels = channels;
         }
-        Change::Counter { channel, which, value } => {
+        Change::Counter {
+            channel,
+            which,
+            value,
+        } => {
             let channels = counter(channels, channel, which, value);
             q.channels = channels;
         }

@@ -1,7 +1,10 @@
 // Which slots of a pool a record uses: those that a list names, as far as they exist.
 use crate::sink;
-use peer::record::{Channel, Lists, CHANNELS};
-use slots::{INCOMING, OUTGOING};
+use peer::record::CHANNELS;
+use peer::record::Channel;
+use peer::record::Lists;
+use slots::INCOMING;
+use slots::OUTGOING;
 
 // A 1 for each outgoing slot in use.
 pub(crate) fn outgoing(l: Lists) -> [u8; OUTGOING] {
