@@ -4,6 +4,7 @@
 
 #![no_main] // the ordinary runtime may crash at exit under the emulator
 
+mod clock;
 mod ours;
 #[path = "../../oracle/compare/src/random.rs"]
 mod random;

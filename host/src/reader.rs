@@ -3,9 +3,10 @@
 use enet::Bench;
 
 use crate::{
+    clock::time,
     ours,
     random::Random,
-    tally::{time, Tally},
+    tally::Tally,
 };
 
 /// Size, kind and row of the command at a place, or the refusal.

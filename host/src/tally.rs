@@ -1,6 +1,6 @@
 //! Counts of what was compared, and the line that says so.
 
-use std::{fmt::Debug, time::Instant};
+use std::fmt::Debug;
 
 #[derive(Default)]
 pub struct Tally {
@@ -30,13 +30,4 @@ impl Tally {
         );
         self.differences
     }
-}
-
-/// Nanoseconds a call, over all inputs.
-pub fn time<I, O>(inputs: &[I], mut call: impl FnMut(&I) -> O) -> f64 {
-    let start = Instant::now();
-    for input in inputs {
-        std::hint::black_box(call(std::hint::black_box(input)));
-    }
-    start.elapsed().as_nanos() as f64 / inputs.len() as f64
 }

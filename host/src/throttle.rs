@@ -3,9 +3,10 @@
 use enet::{Bench, Throttle};
 
 use crate::{
+    clock::time,
     ours,
     random::Random,
-    tally::{time, Tally},
+    tally::Tally,
 };
 
 const EDGES: [u32; 9] = [0, 1, 2, 32, 100, 0x7fff_ffff, 0x8000_0000, u32::MAX - 1, u32::MAX];

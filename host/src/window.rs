@@ -3,9 +3,10 @@
 use enet::{Bench, Verdict};
 
 use crate::{
+    clock::time,
     ours,
     random::Random,
-    tally::{time, Tally},
+    tally::Tally,
 };
 
 const CONNECTED: u32 = 5;

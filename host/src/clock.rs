@@ -1,0 +1,12 @@
+//! The time of a call.
+
+use std::time::Instant;
+
+/// Nanoseconds a call, over all inputs.
+pub fn time<I, O>(inputs: &[I], mut call: impl FnMut(&I) -> O) -> f64 {
+    let start = Instant::now();
+    for input in inputs {
+        std::hint::black_box(call(std::hint::black_box(input)));
+    }
+    start.elapsed().as_nanos() as f64 / inputs.len() as f64
+}

@@ -1,0 +1,54 @@
+# Sourced by host/run and host/weigh, with $top set: where results go, and the compiler, linker and emulator for x86-64.
+out=$top/target/host
+target=x86_64-unknown-linux-gnu
+machine=$(uname -m)
+
+say() { printf 'host: %s\n' "$*" >&2; }
+has_std() { [ -d "$("$1" --print target-libdir --target "$target" 2>/dev/null)" ]; }
+
+# a compiler with a standard library for the target, and a linker
+find_rustc() {
+    rustc=''
+    for r in $(type -ap rustc); do
+        if has_std "$r"; then rustc=$r && return; fi
+    done
+    return 1
+}
+find_tools() {
+    if [ "$machine" = x86_64 ]; then
+        linker=cc emulator=()
+    else
+        linker=x86_64-linux-gnu-gcc
+        kit=$(cd "$(dirname "$(readlink -f "$(command -v rt)")")/.." && pwd)
+        tools=$kit/on/$machine/toolchain
+        emulator=("$tools/bin/qemu-x86_64" "$tools/lib/ld-linux-x86-64.so.2" --library-path "$tools/lib")
+    fi
+    find_rustc && command -v "$linker" >/dev/null
+}
+install() {
+    say "installing a Rust compiler and a linker for x86-64"
+    if [ "$machine" != x86_64 ]; then dpkg --add-architecture amd64; fi
+    apt-get update -qq
+    if [ "$machine" = x86_64 ]; then
+        apt-get install -yqq --no-install-recommends rustc-web gcc libc6-dev
+    else
+        apt-get install -yqq --no-install-recommends rustc-web libstd-rust-web-dev:amd64 gcc-x86-64-linux-gnu libc6-dev-amd64-cross
+    fi
+}
+
+# installs what is missing, or names it
+need_tools() {
+    command -v rt >/dev/null || { say "rt is not on the PATH"; exit 2; }
+    mkdir -p "$out"
+    find_tools || install >"$out/install.log" 2>&1 || true
+    find_tools || { say "no rustc with $target, or no $linker; what was tried is in target/host/install.log"; exit 2; }
+}
+
+# need_library CRATE: its static library, proved anew
+need_library() {
+    (cd "$top" && rt staticlib "$1") >"$out/staticlib.log" 2>&1 || { cat "$out/staticlib.log"; exit 1; }
+}
+
+flags=(--edition 2021 -O)
+# cross WORD..: rustc for the target
+cross() { "$rustc" "${flags[@]}" --target "$target" -C "linker=$linker" "$@"; }
