@@ -15,7 +15,7 @@ pub record Case : Type 0 where
   pub given : List ℤ
   pub stated : List ℤ
 
--- a group at a base: passed over 0, delivered 1
+-- a group at a base: passed over 0, taken 1. The paper's "delivered" is taken and then stored; storing comes with the arrivals
 abbrev verdict : ℕ → List ℕ → ℕ → List ℤ
 verdict base words g = map pos (take 1 (answerAfter base words g .values))
 
