@@ -8,20 +8,14 @@ use lib.ListN.{getD, drop}
 use Rattle.numbers.specs.Answers.{Answer}
 use Rattle.command.specs.Rows.{kindOf, fieldsRow, rowOf}
 use Rattle.command.specs.Rows as rows
-use Rattle.command.specs.Reading as reading
-use Rattle.command.specs.Writing as writing
 use Rattle.command.specs.Shapes.{shapedBy, connectBy, fragmentBy}
 use Rattle.command.specs.declared.fields.Command.{Command}
 use Rattle.command.specs.declared.fields.Fields.{Fields}
 use Rattle.command.specs.declared.fields.Fields.the-variants as vr
 use Rattle.command.specs.declared.rows.Built.{Built}
 use Rattle.command.specs.declared.rows.Built.the-variants as built
-use Rattle.command.specs.declared.reader.Reading.{Reading}
-use Rattle.command.specs.declared.reader.Reading.the-variants as read
-use Rattle.command.specs.declared.writer.Writing.{Writing}
-use Rattle.command.specs.declared.writer.Writing.the-variants as written
 
-abbrev same : ℕ → ℕ
+abbrev pub same : ℕ → ℕ
 same x = x
 
 fields-back : (f : Fields) (a b n : ℕ) → shapedBy same same (kindOf f) (a ∷ b ∷ n ∷ fieldsRow f) ≡ f
@@ -40,7 +34,7 @@ fields-back (vr.ThrottleConfigure i x d) a b n = refl
 fields-back (vr.SendUnreliableFragment m g) a b n = refl
 
 -- the command of a kind and a row, one after the other
-abbrev commandFrom : List ℕ → Command
+abbrev pub commandFrom : List ℕ → Command
 commandFrom ys =
     record {
       byte = getD ys 1 0;
@@ -49,13 +43,13 @@ commandFrom ys =
       fields = shapedBy same same (getD ys 0 0) (drop 1 ys);
     }
 
-command-back : (c : Command) → commandFrom (kindOf (c .fields) ∷ rowOf c) ≡ c
+pub command-back : (c : Command) → commandFrom (kindOf (c .fields) ∷ rowOf c) ≡ c
 command-back c =
     ap (λ (f : Fields). record { byte = c .byte; channel = c .channel; number = c .number; fields = f })
     (fields-back (c .fields) (c .byte) (c .channel) (c .number .0))
 
 -- 0 and 9 are told apart
-apart : (a b : Answer) → a ≡ b → a .number ≡ 0 → b .number ≡ 9 → ⊥
+pub apart : (a b : Answer) → a ≡ b → a .number ≡ 0 → b .number ≡ 9 → ⊥
 apart a b e p q = let z : a .number ≡ b .number = ap (λ (x : Answer). x .number) e in omega arith
 
 pub built-same : (a b : Built) → rows.answerOf a ≡ rows.answerOf b → a ≡ b
@@ -64,18 +58,3 @@ built-same (built.Done c) (built.Done d) e =
 built-same (built.Done c) built.Refused e = absurd (apart _ _ e refl refl)
 built-same built.Refused (built.Done d) e = absurd (apart _ _ (sym e) refl refl)
 built-same built.Refused built.Refused e = refl
-
-pub reading-same : (a b : Reading) → reading.answerOf a ≡ reading.answerOf b → a ≡ b
-reading-same (read.Found c n) (read.Found d m) e =
-    ap (λ (x : Command). read.Found x n) (sym (command-back c))
-    ∙ ap (λ (a : Answer). read.Found (commandFrom (drop 1 (a .values))) (getD (a .values) 0 0)) e
-    ∙ ap (λ (x : Command). read.Found x m) (command-back d)
-reading-same (read.Found c n) read.Refused e = absurd (apart _ _ e refl refl)
-reading-same read.Refused (read.Found d m) e = absurd (apart _ _ (sym e) refl refl)
-reading-same read.Refused read.Refused e = refl
-
-pub writing-same : (a b : Writing) → writing.answerOf a ≡ writing.answerOf b → a ≡ b
-writing-same (written.Done n) (written.Done m) e = ap (λ (a : Answer). written.Done (getD (a .values) 0 0)) e
-writing-same (written.Done n) written.Refused e = absurd (apart _ _ e refl refl)
-writing-same written.Refused (written.Done m) e = absurd (apart _ _ (sym e) refl refl)
-writing-same written.Refused written.Refused e = refl

@@ -3,7 +3,4 @@ pub mod LayoutLaws
 pub mod ByteLaws
 pub mod RowLaws
 pub mod ShapeLaws
-pub mod ReadLaws
-pub mod WriteLaws
-pub mod RoundTrip
 pub mod Answers

@@ -1,7 +1,4 @@
-// Commands and their bytes: what the twelve commands hold, the reader and the writer.
-mod bytes;
+// What the twelve commands hold, and each as a row of numbers.
 pub mod fields;
 pub mod layout;
-pub mod reader;
 pub mod rows;
-pub mod writer;

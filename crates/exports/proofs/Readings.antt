@@ -13,10 +13,10 @@ use Rattle.numbers.specs.Answers.{Answer, done, refused}
 use Rattle.command.specs.Layout.{layout, total, sizeOf}
 use Rattle.command.specs.Bytes.{rowAt}
 use Rattle.command.specs.Rows.{kindOf, rowOf, pad}
-use Rattle.command.specs.Reading.{answerOf, kindAt, readable, readAt}
+use Rattle.wire.specs.Reading.{answerOf, kindAt, readable, readAt}
 use Rattle.command.specs.declared.fields.Command.{Command}
-use Rattle.command.specs.declared.reader.Reading.{Reading}
-use Rattle.command.specs.declared.reader.Reading.the-variants.{Found, Refused}
+use Rattle.wire.specs.declared.reader.Reading.{Reading}
+use Rattle.wire.specs.declared.reader.Reading.the-variants.{Found, Refused}
 use Rattle.command.proofs.LayoutLaws.{each-layout}
 use Rattle.exports.specs.Buffers.{readNumbers}
 

@@ -13,7 +13,7 @@ use Rattle.window.specs.Window as window
 use Rattle.command.specs.Layout.{layout, sizeOf}
 use Rattle.command.specs.Bytes.{rowAt, putRow}
 use Rattle.command.specs.Rows.{pad}
-use Rattle.command.specs.Reading.{kindAt, readable}
+use Rattle.wire.specs.Reading.{kindAt, readable}
 
 -- the first n numbers of a buffer, and the buffer with them
 abbrev pub numbersIn : ℕ → List ℕ → List ℕ

@@ -8,7 +8,7 @@ ghost use Rattle.command.specs.Rows.{kindOf, pad, rowOf};
 ghost use Rattle.exports.specs.Buffers.{MarkCall, ReadCall, WindowCall, numbersIn, throttleOf, throttleReply, withNumbers};
 ghost use Rattle.exports.specs.Codes.{turnCode, verdictCode};
 use command::fields::Command;
-use command::reader::Reading;
+use wire::reader::Reading;
 use numbers::counters::Group;
 use throttle::Throttle;
 use throttle::Turn;
@@ -105,7 +105,7 @@ pub extern "C" fn lyn_read(bytes: &[u8], place: usize, row: &mut [u8]) -> u32
     if row.len() != 72 {
         return BUFFER;
     }
-    let Reading::Found { command, next } = command::reader::read(bytes, place) else {
+    let Reading::Found { command, next } = wire::reader::read(bytes, place) else {
         return REFUSED;
     };
     put_command(row, next - place, command);

@@ -4,12 +4,12 @@ use crate::frame;
 use crate::line;
 use command::fields::Command;
 use command::layout;
-use command::reader;
-use command::reader::Reading;
+use wire::reader;
+use wire::reader::Reading;
 use command::rows;
 use command::rows::Built;
-use command::writer;
-use command::writer::Writing;
+use wire::writer;
+use wire::writer::Writing;
 
 // The reply's number of a refused command.
 const REFUSED: u64 = 9;

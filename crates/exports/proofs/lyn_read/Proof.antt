@@ -3,7 +3,7 @@ use mathlib.Core.Path.{_∙_}
 use native.Mathlib.Omega.{arith}
 use borrow.Author.Needs.{needs}
 use borrow.Author.Tests.{eq-eqb, ne-eqb}
-use Rattle.command.specs.Reading.{kindAt}
+use Rattle.wire.specs.Reading.{kindAt}
 use Rattle.exports.proofs.Readings.{nothing, something, next-is, numbers-are, size-small}
 use Rattle.exports.proofs.lyn_read.Statement.{statement}
 use Rattle.exports.proofs.lyn_read.Tie as tie

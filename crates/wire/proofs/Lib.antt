@@ -1,0 +1,4 @@
+pub mod ReadLaws
+pub mod WriteLaws
+pub mod RoundTrip
+pub mod Answers

@@ -1,0 +1,78 @@
+-- What the writer answers and leaves in the buffer, where its tests fail and where they hold.
+-- The argument: a layout is as long as its command's row, so the zeros past the row are never put.
+use mathlib.Core.Path.{_≡_, refl, ap, _∙_, sym}
+use mathlib.Core.Bool.{Bool, true, false}
+use mathlib.Core.List.{List, [], _∷_}
+use Prim.Native.Nat.{ℕ, _+_, _%_, _≤_, _<_}
+use native.Mathlib.Omega.{arith}
+use lib.Dec.{leb}
+use lib.ListN.{length}
+use borrow.Author.Tests.{lt-leb, le-leb, eqb-true}
+use Rattle.numbers.specs.Pick.{pick, both}
+use Rattle.numbers.specs.Answers.{done, refused}
+use Rattle.command.specs.Layout.{layout, sizeOf}
+use Rattle.command.specs.Bytes.{putRow}
+use Rattle.command.specs.Rows.{kindOf, fieldsRow, rowOf, namesFields, pad}
+use Rattle.wire.specs.Writing.{writable, writeAnswer, writeBytes, Written}
+use Rattle.command.specs.declared.fields.Command.{Command}
+use Rattle.command.specs.declared.fields.Fields.{Fields}
+use Rattle.command.specs.declared.fields.Fields.the-variants as vr
+use Rattle.wire.specs.declared.writer.Writing.the-variants as writing
+use Rattle.numbers.proofs.BoolLaws.{both-true, both-false}
+use Rattle.command.proofs.LayoutLaws.{layout-length}
+use Rattle.command.proofs.RowLaws.{put-pad}
+
+fields-length : (f : Fields) → length (layout (kindOf f)) ≡ 3 + length (fieldsRow f)
+unfolding layout
+fields-length (vr.Acknowledge n t) = refl
+fields-length (vr.Connect c d) = refl
+fields-length (vr.VerifyConnect c) = refl
+fields-length (vr.Disconnect d) = refl
+fields-length vr.Ping = refl
+fields-length (vr.SendReliable l) = refl
+fields-length (vr.SendUnreliable n l) = refl
+fields-length (vr.SendFragment n g) = refl
+fields-length (vr.SendUnsequenced g l) = refl
+fields-length (vr.BandwidthLimit i o) = refl
+fields-length (vr.ThrottleConfigure i a d) = refl
+fields-length (vr.SendUnreliableFragment n g) = refl
+
+pub row-of-length : (c : Command) → length (layout (kindOf (c .fields))) ≡ length (rowOf c)
+row-of-length c = fields-length (c .fields) ∙ (omega arith)
+
+module _ (s : List ℕ) (i : ℕ) (c : Command) where
+  abbrev kind : ℕ
+  kind = kindOf (c .fields)
+
+  answered : (b : Bool) → writable s i c ≡ b → writeAnswer s i c ≡ pick b (done ((i + sizeOf kind) ∷ [])) (refused 9)
+  answered b e = ap (λ (t : Bool). pick t (done ((i + sizeOf kind) ∷ [])) (refused 9)) e
+
+  pub left : (b : Bool) → writable s i c ≡ b → writeBytes s i c ≡ pick b (putRow s i (layout kind) (rowOf c)) s
+  left b e = ap (λ (t : Bool). pick t (putRow s i (layout kind) (rowOf c)) s) e
+
+  none : writable s i c ≡ false → Written s i c writing.Refused s
+  none e = record { answer = sym (answered false e); buffer = sym (left false e) }
+
+  pub write-unnamed : namesFields c ≡ false → Written s i c writing.Refused s
+  write-unnamed e = none (ap (λ (b : Bool). both b (leb (i + sizeOf kind) (length s))) e)
+
+  pub write-short : length s < i + sizeOf kind → Written s i c writing.Refused s
+  write-short h =
+      none (both-false (namesFields c) (leb (i + sizeOf kind) (length s)) (lt-leb (i + sizeOf kind) (length s) h))
+
+  pub named-kind : namesFields c ≡ true → c .byte % 16 ≡ kind
+  named-kind e = eqb-true (c .byte % 16) kind e
+
+  pub write-done :
+      (n : ℕ) (t : List ℕ) → namesFields c ≡ true → i + sizeOf kind ≤ length s → n ≡ sizeOf (c .byte % 16)
+      → t ≡ putRow s i (layout (c .byte % 16)) (pad 16 (rowOf c)) → Written s i c (writing.Done (i + n)) t
+  write-done n t named room m e =
+      let k = named-kind named in
+      let w = both-true (namesFields c) (leb (i + sizeOf kind) (length s)) named (le-leb (i + sizeOf kind) (length s) room) in
+      let p : putRow s i (layout kind) (pad 16 (rowOf c)) ≡ putRow s i (layout kind) (rowOf c) =
+      put-pad s (layout kind) (rowOf c) i 16 (omega (arith, row-of-length c)) (layout-length kind)
+      in
+      record {
+        answer = ap (λ (x : ℕ). done ((i + x) ∷ [])) (m ∙ ap sizeOf k) ∙ sym (answered true w);
+        buffer = e ∙ ap (λ (x : ℕ). putRow s i (layout x) (pad 16 (rowOf c))) k ∙ p ∙ sym (left true w);
+      }
