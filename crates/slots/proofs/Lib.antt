@@ -4,6 +4,7 @@ pub mod WalkLaws
 pub mod ListLaws
 pub mod Views
 pub mod Scans
+pub mod Marked
 pub mod Lowest
 pub mod Keeps
 pub mod Lengths

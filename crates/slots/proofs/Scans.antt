@@ -28,7 +28,7 @@ set-mark m x y h = go (eqb y x) refl
         rw (q, getD-set-same m x 1 0 h)
     go false e = rw (getD-set-other m x y 1 0 (eqb-false y x e))
 
-set-mark-past : (m : List ℕ) (x y : ℕ) → y < length m → isMarked (set m x 1) y ≡ pick (eqb x y) true (isMarked m y)
+pub set-mark-past : (m : List ℕ) (x y : ℕ) → y < length m → isMarked (set m x 1) y ≡ pick (eqb x y) true (isMarked m y)
 set-mark-past m x y h = go (eqb x y) refl
   where
     go : (b : Bool) → eqb x y ≡ b → isMarked (set m x 1) y ≡ pick b true (isMarked m y)
@@ -76,7 +76,7 @@ scan-ok n m (x ∷ xs) e =
     let h : x < length m = omega (arith, ltb-true x n t) in
     scan-ok n (set m x 1) xs (length-set m x 1 ∙ e) ∙ rw (clear-set m x xs h)))
 
-unmarked : (n x : ℕ) → isMarked (replicate n 0) x ≡ false
+pub unmarked : (n x : ℕ) → isMarked (replicate n 0) x ≡ false
 unmarked zero x = refl
 unmarked (suc n) zero = refl
 unmarked (suc n) (suc x) = unmarked n x
@@ -126,7 +126,7 @@ length-scanned m (x ∷ xs) = go (both (ltb x (length m)) (not (isMarked m x))) 
     go true e = e
     go false e = refl
 
-or-swap : (a b v : Bool) → pick a true (pick b true v) ≡ pick (pick b true a) true v
+pub or-swap : (a b v : Bool) → pick a true (pick b true v) ≡ pick (pick b true a) true v
 or-swap true true v = refl
 or-swap true false v = refl
 or-swap false true v = refl
@@ -146,7 +146,7 @@ scan-marks m (x ∷ xs) k h ok =
     go rest true e = rest e ∙ rw (set-mark-past m x k h, or-swap)
     go rest false e = let z : _≡_ {A = ℕ} 0 1 = cc in absurd (omega arith)
 
-off : (b : Bool) → pick b true false ≡ b
+pub off : (b : Bool) → pick b true false ≡ b
 off true = refl
 off false = refl
 

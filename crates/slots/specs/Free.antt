@@ -41,6 +41,11 @@ once (x ∷ xs) = both (not (has xs x)) (once xs)
 abbrev pub isMarked : List ℕ → ℕ → Bool
 isMarked m k = eqb (getD m k 0) 1
 
+-- the marks, and one more for each slot of a list that exists
+unfoldable pub markedAll : List ℕ → List ℕ → List ℕ
+markedAll m [] = m
+markedAll m (x ∷ xs) = markedAll (set m x 1) xs
+
 -- walking a list over marks: each slot exists and was not marked before; the marks then, or where the walk stopped
 pub record Scanned : Type 0 where
   pub ok : Bool

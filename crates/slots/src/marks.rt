@@ -2,7 +2,7 @@
 ghost use mathlib.Core.Path.{_≡_};
 ghost use Prim.Native.Nat.{_≤_};
 ghost use lib.ListN.{length, take};
-ghost use Rattle.slots.specs.Free.{Scans, isMarked, firstFrom, countFrom};
+ghost use Rattle.slots.specs.Free.{Scans, isMarked, markedAll, firstFrom, countFrom};
 ghost use Rattle.slots.specs.Lists.{outgoing, incoming};
 use crate::Free;
 use crate::INCOMING;
@@ -26,6 +26,21 @@ pub(crate) fn scan(marks: &mut [u8], cells: &[u16], n: usize) -> bool
         j = j + 1;
     }
     true
+}
+
+// Marks each slot that the first n cells name and that exists.
+pub(crate) fn mark(marks: &mut [u8], cells: &[u16], n: usize)
+    requires { ⌜ n ≤ length (now cells) ⌝ }
+    ensures { λ r. ⌜ now (marks .exit) ≡ markedAll (now (marks .entry)) (take n (now (cells .entry))) ⌝ }
+{
+    let mut j: usize = 0;
+    while j < n {
+        let s = cells[j] as usize;
+        if s < marks.len() {
+            marks[s] = 1;
+        }
+        j = j + 1;
+    }
 }
 
 // The lowest slot without a mark.

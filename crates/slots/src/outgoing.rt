@@ -2,7 +2,7 @@
 ghost use mathlib.Core.Path.{_≡_};
 ghost use Rattle.slots.specs.Runs.{pushed, inserted, without, prepended, has, findFrom};
 ghost use Rattle.slots.specs.Lists.{outgoing, outItems, outKeep, OutTaken, OutMoved, OutCounted};
-ghost use Rattle.slots.specs.Free.{Scans};
+ghost use Rattle.slots.specs.Free.{Scans, markedAll};
 use crate::First;
 use crate::Found;
 use crate::OUTGOING;
@@ -151,5 +151,13 @@ impl OutList {
     {
         let slots = self.slots;
         marks::scan(marks, &slots, self.count())
+    }
+
+    // Marks each slot that the list names and that exists.
+    pub fn mark(self, marks: &mut [u8])
+        ensures { λ r. ⌜ now (marks .exit) ≡ markedAll (now (marks .entry)) (outItems self) ⌝ }
+    {
+        let slots = self.slots;
+        marks::mark(marks, &slots, self.count());
     }
 }
