@@ -38,15 +38,33 @@ module _ (s : Settings) (p : Peer) (rest : Outcome) where
   by-open true false e = absurd (omega (arith, ap number e))
   by-open false w e = absurd (omega (arith, ap number e))
 
+  by-sound : (f w : Bool) → done [] ≡ pick f (pick w (done []) (refused 13)) (refused 11) → w ≡ true
+  by-sound true true e = refl
+  by-sound true false e = absurd (omega (arith, ap number e))
+  by-sound false w e = absurd (omega (arith, ap number e))
+
   module _ (g : Reply) (e : answerOf g ≡ gateAnswer s p) where
+    pub gated-range : g ≡ OutOfRange → gated s p rest ≡ unchanged 11 p
+    gated-range q = by-range (fitSettings s) (sound p) (ap answerOf (sym q) ∙ e)
+
+    pub gated-damage : g ≡ Damaged → gated s p rest ≡ unchanged 13 p
+    gated-damage q = by-damage (fitSettings s) (sound p) (ap answerOf (sym q) ∙ e)
+
+    pub gated-open : g ≡ Done → gated s p rest ≡ rest
+    gated-open q = by-open (fitSettings s) (sound p) (ap answerOf (sym q) ∙ e)
+
+    -- an open gate's record is sound
+    pub open-sound : g ≡ Done → sound p ≡ true
+    open-sound q = by-sound (fitSettings s) (sound p) (ap answerOf (sym q) ∙ e)
+
     pub gate-range : g ≡ OutOfRange → Came (gated s p rest) (record { reply = OutOfRange; peer = p })
-    gate-range q = rw (by-range (fitSettings s) (sound p) (ap answerOf (sym q) ∙ e)) (record { answer = refl; peer = refl })
+    gate-range q = rw (gated-range q) (record { answer = refl; peer = refl })
 
     pub gate-damage : g ≡ Damaged → Came (gated s p rest) (record { reply = Damaged; peer = p })
-    gate-damage q = rw (by-damage (fitSettings s) (sound p) (ap answerOf (sym q) ∙ e)) (record { answer = refl; peer = refl })
+    gate-damage q = rw (gated-damage q) (record { answer = refl; peer = refl })
 
     pub gate-open : g ≡ Done → (r : Called) → Came rest r → Came (gated s p rest) r
-    gate-open q r h = rw (by-open (fitSettings s) (sound p) (ap answerOf (sym q) ∙ e)) h
+    gate-open q r h = rw (gated-open q) h
 
 pub replies-apart : (a b : Reply) → answerOf a ≡ answerOf b → a ≡ b
 replies-apart Done Done e = refl
