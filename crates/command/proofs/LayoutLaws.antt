@@ -1,4 +1,4 @@
--- What holds of every layout: at most sixteen widths, each from 1 to 4, and none where the number names no command.
+-- What holds of every layout: at most sixteen widths, each from 1 to 4, at most 48 bytes, and none where the number names no command.
 -- The argument: a computed test at each of the numbers below 13, and an empty layout at every other.
 use mathlib.Core.Path.{_≡_, refl, ap}
 use mathlib.Core.Bool.{Bool, true, false}
@@ -61,6 +61,10 @@ narrow-le (w ∷ ws) (suc j) n = narrow-le ws j (both-right (both (leb 1 w) (leb
 
 pub width-le : (k j : ℕ) → widthOf k j ≤ 4
 width-le k j = narrow-le (layout k) j (layout-narrow k)
+
+pub size-le : (k : ℕ) → sizeOf k ≤ 48
+unfolding layout total
+size-le k = leb-true (sizeOf k) 48 (each-layout (λ ws. leb (total ws) 48) refl refl k)
 
 pub size-none : (k : ℕ) → known k ≡ false → sizeOf k ≡ 0
 unfolding total

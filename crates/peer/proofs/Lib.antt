@@ -5,3 +5,4 @@ pub mod PoolLaws
 pub mod Gates
 pub mod Sound
 pub mod Views
+pub mod Parts

@@ -7,7 +7,7 @@ use mathlib.Core.List.{List, [], _∷_, _++_}
 use Prim.Native.Nat.{ℕ, zero, suc, _+_, _≤_, _<_}
 use native.Mathlib.Omega.{arith}
 use lib.Dec.{leb, ltb, eqb}
-use lib.ListN.{length, getD, take, replicate}
+use lib.ListN.{getD, take, replicate, length-replicate}
 use borrow.Author.Tests.{le-leb, leb-true, ltb-true, eqb-true, le-ltb}
 use Rattle.numbers.specs.Pick.{pick, both}
 use Rattle.numbers.proofs.BoolLaws.{both-left, both-right, both-true}
@@ -18,7 +18,7 @@ use Rattle.slots.specs.Free.{exist, once}
 use Rattle.peer.specs.Settings.{fitSettings}
 use Rattle.peer.specs.Fresh.{channels, noLists, noChannel, noOutgoing, noIncoming, freshPeer}
 use Rattle.peer.specs.Damage.{sound, ranged, listsFit, heldFit, held, below, all, own, lengths, outFit, inFit, tried, outSound, inSound, usedOut, usedIn}
-use Rattle.peer.specs.Calls.{Outcome, Sounds, gated, unchanged, finished, kept, resets, begins, beginsSound, begun, beginFits, setsState, setsStateSound, stated}
+use Rattle.peer.specs.Calls.{Outcome, Whole, Sounds, gated, unchanged, finished, kept, resets, begins, beginsSound, begun, beginFits, setsState, setsStateSound, stated}
 use Rattle.peer.specs.declared.settings.Settings.{Settings}
 use Rattle.peer.specs.declared.record.Peer.{Peer}
 use Rattle.peer.specs.declared.record.Channel.{Channel}
@@ -27,25 +27,32 @@ use Rattle.peer.specs.declared.record.Incoming.{Incoming}
 use Rattle.peer.specs.declared.defaults.Kept.{Kept}
 
 -- behind the gate a record is sound, so a call need only keep it so
-module _ (s : Settings) (rest : Peer → Outcome) (keep : (p : Peer) → sound p ≡ true → sound (rest p .peer) ≡ true) where
-  gate-keeps : (p : Peer) (f w : Bool) → sound p ≡ w → sound p ≡ true
-      → sound (pick f (pick w (rest p) (unchanged 13 p)) (unchanged 11 p) .peer) ≡ true
-  gate-keeps p true true e h = keep p h
-  gate-keeps p true false e h = h
-  gate-keeps p false w e h = h
+module _ (s : Settings) (rest : Peer → Outcome) (keep : (p : Peer) → Whole p → sound p ≡ true → sound (rest p .peer) ≡ true)
+    (stay : (p : Peer) → Whole p → Whole (rest p .peer)) where
+  abbrev gate : Peer → Bool → Bool → Outcome
+  gate p f w = pick f (pick w (rest p) (unchanged 13 p)) (unchanged 11 p)
 
-  gate-after : (p : Peer) (f w : Bool) → sound p ≡ w
-      → pick f (pick w (rest p) (unchanged 13 p)) (unchanged 11 p) .answer .number ≡ 0
-      → sound (pick f (pick w (rest p) (unchanged 13 p)) (unchanged 11 p) .peer) ≡ true
-  gate-after p true true e n = keep p e
-  gate-after p true false e n = absurd (omega arith)
-  gate-after p false w e n = absurd (omega arith)
+  gate-keeps : (p : Peer) → Whole p → (f w : Bool) → sound p ≡ w → sound p ≡ true → sound (gate p f w .peer) ≡ true
+  gate-keeps p l true true e h = keep p l h
+  gate-keeps p l true false e h = h
+  gate-keeps p l false w e h = h
+
+  gate-after : (p : Peer) → Whole p → (f w : Bool) → sound p ≡ w → gate p f w .answer .number ≡ 0 → sound (gate p f w .peer) ≡ true
+  gate-after p l true true e n = keep p l e
+  gate-after p l true false e n = absurd (omega arith)
+  gate-after p l false w e n = absurd (omega arith)
+
+  gate-whole : (p : Peer) → Whole p → (f w : Bool) → Whole (gate p f w .peer)
+  gate-whole p l true true = stay p l
+  gate-whole p l true false = l
+  gate-whole p l false w = l
 
   pub gated-sounds : Sounds (λ (p : Peer). gated s p (rest p))
   gated-sounds =
       record {
-        after = λ p n. gate-after p (fitSettings s) (sound p) refl n;
-        keeps = λ p h. gate-keeps p (fitSettings s) (sound p) refl h;
+        after = λ p l n. gate-after p l (fitSettings s) (sound p) refl n;
+        keeps = λ p l h. gate-keeps p l (fitSettings s) (sound p) refl h;
+        whole = λ p l. gate-whole p l (fitSettings s) (sound p);
       }
 
 -- set state: soundness does not look at the state
@@ -53,20 +60,31 @@ state-same : (state : ℕ) (p : Peer) → sound (stated state p) ≡ sound p
 unfolding sound
 state-same state p = refl
 
-state-keeps : (state : ℕ) (p : Peer) → sound p ≡ true → sound (setsStateSound state p .peer) ≡ true
-state-keeps state p h = go (leb state 9)
+state-keeps : (state : ℕ) (p : Peer) → Whole p → sound p ≡ true → sound (setsStateSound state p .peer) ≡ true
+state-keeps state p l h = go (leb state 9)
   where
     go : (b : Bool) → sound (pick b (finished (stated state p)) (unchanged 11 p) .peer) ≡ true
     go true = state-same state p ∙ h
     go false = h
 
+state-whole : (state : ℕ) (p : Peer) → Whole p → Whole (setsStateSound state p .peer)
+state-whole state p l = go (leb state 9)
+  where
+    go : (b : Bool) → Whole (pick b (finished (stated state p)) (unchanged 11 p) .peer)
+    go true = l
+    go false = l
+
 pub state-sounds : (s : Settings) (state : ℕ) → Sounds (setsState s state)
-state-sounds s state = gated-sounds s (setsStateSound state) (state-keeps state)
+state-sounds s state = gated-sounds s (setsStateSound state) (state-keeps state) (state-whole state)
 
 -- reset: nothing is held
 fresh-sound : (mtu : ℕ) (k : Kept) → leb 576 mtu ≡ true → leb mtu 4096 ≡ true → sound (freshPeer mtu k) ≡ true
 unfolding sound freshPeer noLists heldFit held all own lengths exist once
 fresh-sound mtu k low high = rw (low, high)
+
+fresh-whole : (mtu : ℕ) (k : Kept) → Whole (freshPeer mtu k)
+unfolding freshPeer
+fresh-whole mtu k = length-replicate outgoing noOutgoing
 
 fit-low : (s : Settings) → fitSettings s ≡ true → leb 576 (s .mtu) ≡ true
 fit-low s e = both-left _ _ e
@@ -75,7 +93,12 @@ fit-high : (s : Settings) → fitSettings s ≡ true → leb (s .mtu) 4096 ≡ t
 fit-high s e = both-left _ _ (both-right (leb 576 (s .mtu)) _ e)
 
 pub reset-sounds : (s : Settings) → Sounds (resets s)
-reset-sounds s = record { after = λ p n. after p (fitSettings s) refl n; keeps = λ p h. keeps p (fitSettings s) refl h }
+reset-sounds s =
+    record {
+      after = λ p l n. after p (fitSettings s) refl n;
+      keeps = λ p l h. keeps p (fitSettings s) refl h;
+      whole = λ p l. whole p l (fitSettings s);
+    }
   where
     after : (p : Peer) (f : Bool) → fitSettings s ≡ f
         → pick f (finished (freshPeer (s .mtu) (kept p))) (unchanged 11 p) .answer .number ≡ 0
@@ -87,6 +110,10 @@ reset-sounds s = record { after = λ p n. after p (fitSettings s) refl n; keeps 
         → sound (pick f (finished (freshPeer (s .mtu) (kept p))) (unchanged 11 p) .peer) ≡ true
     keeps p true e h = fresh-sound (s .mtu) (kept p) (fit-low s e) (fit-high s e)
     keeps p false e h = h
+
+    whole : (p : Peer) → Whole p → (f : Bool) → Whole (pick f (finished (freshPeer (s .mtu) (kept p))) (unchanged 11 p) .peer)
+    whole p l true = fresh-whole (s .mtu) (kept p)
+    whole p l false = l
 
 -- begin: with no channel nothing is held, and every outgoing command is the peer's own
 all-more : (f g : ℕ → Bool) (xs : List ℕ) → ((x : ℕ) → f x ≡ true → g x ≡ true) → all f xs ≡ true → all g xs ≡ true
@@ -191,8 +218,8 @@ module _ (mtu count : ℕ) (p : Peer) (h : sound p ≡ true) (none : p .standing
       (both-true (both (listsFit (p .lists)) (heldFit now-held)) _ (both-true (listsFit (p .lists)) (heldFit now-held) lists (fit-none (p .incoming) channels count))
       (both-true (outSound (p .outgoing) (p .lists) count) (inSound (p .incoming) (p .lists) now-held count (p .waiting .total)) out inn))
 
-begin-keeps : (mtu count : ℕ) (p : Peer) → sound p ≡ true → sound (beginsSound mtu count p .peer) ≡ true
-begin-keeps mtu count p h = go (beginFits mtu count (p .standing .count)) refl
+begin-keeps : (mtu count : ℕ) (p : Peer) → Whole p → sound p ≡ true → sound (beginsSound mtu count p .peer) ≡ true
+begin-keeps mtu count p l h = go (beginFits mtu count (p .standing .count)) refl
   where
     go : (b : Bool) → beginFits mtu count (p .standing .count) ≡ b → sound (pick b (finished (begun mtu count p)) (unchanged 11 p) .peer) ≡ true
     go true e =
@@ -203,5 +230,12 @@ begin-keeps mtu count p h = go (beginFits mtu count (p .standing .count)) refl
         (both-left (leb mtu 4096) _ e₁) (both-left (leb count channels) _ e₃)
     go false e = h
 
+begin-whole : (mtu count : ℕ) (p : Peer) → Whole p → Whole (beginsSound mtu count p .peer)
+begin-whole mtu count p l = go (beginFits mtu count (p .standing .count))
+  where
+    go : (b : Bool) → Whole (pick b (finished (begun mtu count p)) (unchanged 11 p) .peer)
+    go true = l
+    go false = l
+
 pub begin-sounds : (s : Settings) (mtu count : ℕ) → Sounds (begins s mtu count)
-begin-sounds s mtu count = gated-sounds s (beginsSound mtu count) (begin-keeps mtu count)
+begin-sounds s mtu count = gated-sounds s (beginsSound mtu count) (begin-keeps mtu count) (begin-whole mtu count)

@@ -4,9 +4,10 @@ use mathlib.Core.Path.{_≡_}
 use mathlib.Core.Bool.{Bool, true}
 use mathlib.Core.List.{[]}
 use lib.Dec.{leb, eqb}
-use lib.ListN.{replicate}
+use lib.ListN.{length, replicate}
 use Rattle.numbers.specs.Pick.{pick, both}
 use Rattle.numbers.specs.Answers.{Answer, done, refused}
+use Rattle.slots.specs.Lists.{outgoing}
 use Rattle.peer.specs.Settings.{fitSettings}
 use Rattle.peer.specs.Fresh.{channels, noChannel, freshPeer}
 use Rattle.peer.specs.Damage.{sound}
@@ -114,7 +115,12 @@ pub record Came (o : Outcome) (r : Called) : Type 0 where
   pub answer : answerOf (r .reply) ≡ o .answer
   pub peer : r .peer ≡ o .peer
 
--- What every call promises of the record: done, it is sound; and a sound one stays so, whatever the answer.
+-- the outgoing pool has all its slots, as in every record of the program: an array is a list here, and a list may be short
+abbrev pub Whole : Peer → Type 0
+Whole p = length (p .outgoing) ≡ outgoing
+
+-- What every call promises of a whole record: done, it is sound; a sound one stays so, whatever the answer; and it stays whole.
 pub record Sounds (call : Peer → Outcome) : Type 0 where
-  pub after : (p : Peer) → call p .answer .number ≡ 0 → sound (call p .peer) ≡ true
-  pub keeps : (p : Peer) → sound p ≡ true → sound (call p .peer) ≡ true
+  pub after : (p : Peer) → Whole p → call p .answer .number ≡ 0 → sound (call p .peer) ≡ true
+  pub keeps : (p : Peer) → Whole p → sound p ≡ true → sound (call p .peer) ≡ true
+  pub whole : (p : Peer) → Whole p → Whole (call p .peer)

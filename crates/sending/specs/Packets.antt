@@ -1,0 +1,88 @@
+-- Which command a packet goes out as, and how a long one is cut. "The command follows the source's tests in their order; flags are
+-- 1 reliable, 2 unsequenced, 8 unreliable fragment."
+use Prim.Native.Nat.{ℕ, suc, zero, _+_, _-_, _/_, min}
+use mathlib.Core.Bool.{Bool, true, false, not}
+use mathlib.Core.List.{List, [], _∷_}
+use lib.Dec.{leb, ltb}
+use Rattle.numbers.specs.Pick.{pick, both}
+use Rattle.numbers.specs.Bits.{bit}
+use Rattle.numbers.specs.Counters.{step}
+use Rattle.numbers.specs.declared.counters.Reliable.{Reliable}
+use Rattle.numbers.specs.declared.counters.Unreliable.{Unreliable}
+use Rattle.command.specs.declared.fields.Command.{Command}
+use Rattle.command.specs.declared.fields.Fragment.{Fragment}
+use Rattle.command.specs.declared.fields.Fields.{Fields}
+use Rattle.command.specs.declared.fields.Fields.the-variants.{SendReliable, SendUnreliable, SendFragment, SendUnsequenced, SendUnreliableFragment}
+use Rattle.peer.specs.declared.record.Channel.{Channel}
+use Rattle.stamps.specs.declared.pieces.Piece.{Piece}
+use Rattle.sending.specs.declared.packets.Start.{Start}
+use Rattle.sending.specs.declared.packets.Start.the-variants.{Acknowledged, Loose}
+use Rattle.sending.specs.declared.packets.Cut.{Cut}
+
+-- "Fragment length is MTU - 28, less 4 with a checksum; longer is cut."
+abbrev pub fragmentLength : ℕ → Bool → ℕ
+fragmentLength mtu checksum = mtu - 28 - pick checksum 4 0
+
+-- as many whole fragments as fit, and one for the rest
+abbrev pub pieceCount : ℕ → ℕ → ℕ
+pieceCount fragment length = (length + fragment - 1) / fragment
+
+abbrev pub isReliable : ℕ → Bool
+isReliable flags = bit flags 0
+
+abbrev pub isUnsequenced : ℕ → Bool
+isUnsequenced flags = bit flags 1
+
+abbrev pub isLoose : ℕ → Bool
+isLoose flags = bit flags 3
+
+-- the unreliable number has nowhere to go on to
+abbrev pub spent : Channel → Bool
+spent c = leb 65535 (c .«outgoing_unreliable» .0)
+
+-- a command before it is set up, which gives it its numbers
+abbrev pub blank : ℕ → ℕ → Fields → Command
+blank byte channel fields = record { byte = byte; channel = channel; number = record { 0 = 0 }; fields = fields }
+
+-- a packet that is not cut: flag 2 without flag 1 is unsequenced; then flag 1, or a spent number, reliable; the rest unreliable
+abbrev pub wholeCommand : ℕ → Channel → ℕ → ℕ → Command
+wholeCommand flags c channel length =
+    pick (both (isUnsequenced flags) (not (isReliable flags))) (blank (9 + 64) channel (SendUnsequenced (record { 0 = 0 }) length))
+    (pick (pick (isReliable flags) true (spent c)) (blank (6 + 128) channel (SendReliable length))
+    (blank 7 channel (SendUnreliable (record { 0 = 0 }) length)))
+
+abbrev pub whole : ℕ → Channel → ℕ → ℕ → Piece
+whole flags c channel length = record { command = wholeCommand flags c channel length; packet = true; offset = 0; length = length }
+
+-- a packet that is cut: flag 8 without flag 1 counts by the unreliable number, unless it is spent; else by the reliable one.
+-- The number after the channel's, taken once, before any piece.
+abbrev pub startOf : ℕ → Channel → Start
+startOf flags c =
+    pick (both (isLoose flags) (both (not (isReliable flags)) (not (spent c))))
+    (Loose (record { 0 = step (c .«outgoing_unreliable» .0) }))
+    (Acknowledged (record { 0 = step (c .«outgoing_reliable» .0) }))
+
+-- piece j of a cut packet, at an offset
+abbrev pub fragmentOf : Cut → ℕ → ℕ → ℕ → Fragment
+fragmentOf x j offset length = record { length = length; count = x .count; number = j; total = x .length; offset = offset }
+
+abbrev pub cutCommand : Start → ℕ → Fragment → Command
+cutCommand (Acknowledged n) channel f = blank (8 + 128) channel (SendFragment n f)
+cutCommand (Loose n) channel f = blank 12 channel (SendUnreliableFragment n f)
+
+-- a fragment length, or what is left
+abbrev pub lengthAt : Cut → ℕ → ℕ
+lengthAt x offset = min (x .fragment) (x .length - offset)
+
+abbrev pub cutPiece : Cut → ℕ → ℕ → Piece
+cutPiece x j offset =
+    let length = lengthAt x offset in
+    record { command = cutCommand (x .start) (x .channel) (fragmentOf x j offset length); packet = true; offset = offset; length = length }
+
+-- the pieces that are left, from piece j at its offset on: the next one begins where this one ends
+unfoldable pub cutFrom : Cut → ℕ → ℕ → ℕ → List Piece
+cutFrom x zero j offset = []
+cutFrom x (suc left) j offset = cutPiece x j offset ∷ cutFrom x left (j + 1) (offset + lengthAt x offset)
+
+abbrev pub pieces : Cut → List Piece
+pieces x = cutFrom x (x .count) 0 0

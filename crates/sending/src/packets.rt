@@ -1,0 +1,201 @@
+// Which command a packet goes out as, by the source's tests, and how a long one is cut.
+ghost use mathlib.Core.Path.{_≡_};
+ghost use mathlib.Core.Bool.{not};
+ghost use Prim.Native.Nat.{_≤_};
+ghost use Rattle.numbers.specs.Pick.{both};
+ghost use Rattle.setup.specs.Queueing.{queuedAll};
+ghost use Rattle.sending.specs.Packets.{fragmentLength, pieceCount, isReliable, isUnsequenced, startOf, blank, wholeCommand, whole, cutCommand, lengthAt, cutPiece, pieces};
+use command::fields::Command;
+use command::fields::Fields;
+use command::fields::Fragment;
+use numbers::bits;
+use numbers::counters::Group;
+use numbers::counters::Reliable;
+use numbers::counters::Unreliable;
+use peer::record::Channel;
+use peer::record::Peer;
+use stamps::pieces::Piece;
+use setup::queueing;
+
+// The number that a cut packet begins with, of the kind that its pieces count by.
+pub enum Start {
+    Acknowledged(Reliable),
+    Loose(Unreliable),
+}
+
+// A packet that is cut: its channel, its length, the fragment length, how many pieces, the start number.
+pub struct Cut {
+    pub channel: u8,
+    pub length: u32,
+    pub fragment: u32,
+    pub count: u32,
+    pub start: Start,
+}
+
+// MTU - 28, less 4 with a checksum.
+pub(crate) fn fragment_length(mtu: u32, checksum: bool) -> u32
+    requires { ⌜ 576 ≤ mtu ⌝ }
+    ensures { λ r. ⌜ r ≡ fragmentLength mtu checksum ⌝ }
+{
+    if checksum {
+        return mtu - 28 - 4;
+    }
+    mtu - 28
+}
+
+// How many pieces of the fragment length a packet makes, the last one perhaps shorter.
+pub(crate) fn piece_count(fragment: u32, length: u32) -> u32
+    requires { ⌜ 1 ≤ fragment ⌝ }
+    ensures { λ r. ⌜ r ≡ pieceCount fragment length ⌝ }
+{
+    let wide = (length as u64) + (fragment as u64) - 1;
+    (wide / (fragment as u64)) as u32
+}
+
+// A cut packet: flag 8 without flag 1 goes unreliable while that number is below 65,535. Flag 2 is not asked.
+pub(crate) fn starting(flags: u32, c: Channel) -> Start
+    ensures { λ r. ⌜ r ≡ startOf flags c ⌝ }
+{
+    let unreliable = c.outgoing_unreliable;
+    if bits::is_set(flags, 3) {
+        if !bits::is_set(flags, 0) {
+            if unreliable.0 < 65535 {
+                return Start::Loose(unreliable.next());
+            }
+        }
+    }
+    let reliable = c.outgoing_reliable;
+    Start::Acknowledged(reliable.next())
+}
+
+// Flag 2 without flag 1.
+fn unsequenced(flags: u32) -> bool
+    ensures { λ r. ⌜ r ≡ both (isUnsequenced flags) (not (isReliable flags)) ⌝ }
+{
+    if bits::is_set(flags, 1) {
+        return !bits::is_set(flags, 0);
+    }
+    false
+}
+
+// A packet that is not cut: flag 2 without flag 1, then flag 1 or a spent unreliable number, then the rest.
+fn whole_command(flags: u32, c: Channel, channel: u8, length: u16) -> Command
+    ensures { λ r. ⌜ r ≡ wholeCommand flags c channel length ⌝ }
+{
+    if unsequenced(flags) {
+        return blank(
+            73,
+            channel,
+            Fields::SendUnsequenced {
+                group: Group(0),
+                length,
+            },
+        );
+    }
+    if bits::is_set(flags, 0) {
+        return blank(134, channel, Fields::SendReliable { length });
+    }
+    let unreliable = c.outgoing_unreliable;
+    if 65535 <= unreliable.0 {
+        return blank(134, channel, Fields::SendReliable { length });
+    }
+    blank(
+        7,
+        channel,
+        Fields::SendUnreliable {
+            number: Unreliable(0),
+            length,
+        },
+    )
+}
+
+// A command before it is set up.
+pub(crate) fn blank(byte: u8, channel: u8, fields: Fields) -> Command
+    ensures { λ r. ⌜ r ≡ blank byte channel fields ⌝ }
+{
+    Command {
+        byte,
+        channel,
+        number: Reliable(0),
+        fields,
+    }
+}
+
+// The one piece of a packet that is not cut.
+pub(crate) fn whole(flags: u32, c: Channel, channel: u8, length: u16) -> Piece
+    ensures { λ r. ⌜ r ≡ whole flags c channel length ⌝ }
+{
+    let command = whole_command(flags, c, channel, length);
+    Piece {
+        command,
+        packet: true,
+        offset: 0,
+        length,
+    }
+}
+
+// The command of a piece.
+fn cut_command(start: Start, channel: u8, fragment: Fragment) -> Command
+    ensures { λ r. ⌜ r ≡ cutCommand start channel fragment ⌝ }
+{
+    match start {
+        Start::Acknowledged(start) => blank(136, channel, Fields::SendFragment { start, fragment }),
+        Start::Loose(start) => blank(
+            12,
+            channel,
+            Fields::SendUnreliableFragment { start, fragment },
+        ),
+    }
+}
+
+// A fragment length, or what is left.
+fn length_at(x: Cut, offset: u32) -> u32
+    requires { ⌜ offset ≤ x .length ⌝ }
+    ensures { λ r. ⌜ r ≡ lengthAt x offset ⌝ }
+{
+    let left = x.length - offset;
+    if left < x.fragment {
+        return left;
+    }
+    x.fragment
+}
+
+// Piece j, at its offset.
+fn piece(x: Cut, j: u32, offset: u32) -> Piece
+    requires { ⌜ offset ≤ x .length ⌝ }
+    requires { ⌜ x .fragment ≤ 65535 ⌝ }
+    ensures { λ r. ⌜ r ≡ cutPiece x j offset ⌝ }
+{
+    let length = length_at(x, offset) as u16;
+    let fragment = Fragment {
+        length,
+        count: x.count,
+        number: j,
+        total: x.length,
+        offset,
+    };
+    let start = x.start;
+    let command = cut_command(start, x.channel, fragment);
+    Piece {
+        command,
+        packet: true,
+        offset,
+        length,
+    }
+}
+
+// Every piece in its order.
+pub(crate) fn queue_all(peer: Peer, x: Cut) -> Peer
+    requires { ⌜ x .fragment ≤ 65535 ⌝ }
+    ensures { λ r. ⌜ r ≡ queuedAll (pieces x) peer ⌝ }
+{
+    let mut p = peer;
+    let mut j: u32 = 0;
+    let mut offset: u32 = 0;
+    while j < x.count {
+        p = queueing::queue(p, piece(x, j, offset));
+        offset = offset + length_at(x, offset);
+        j = j + 1;
+    }
+    p
+}

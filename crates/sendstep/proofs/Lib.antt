@@ -1,0 +1,4 @@
+pub mod Named
+pub mod Answers
+pub mod Freeing
+pub mod Stepping

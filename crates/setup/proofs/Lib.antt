@@ -1,0 +1,5 @@
+pub mod Joining
+pub mod Keeping
+pub mod Taking
+pub mod Opens
+pub mod Apart

@@ -1,0 +1,4 @@
+pub mod Queueing
+pub mod Replies
+pub mod Calls
+pub mod Taking

@@ -1,0 +1,4 @@
+// Setting up an outgoing command on the record.
+pub mod calls;
+pub mod queueing;
+pub mod replies;

@@ -1,0 +1,96 @@
+-- Which counters a command steps, and which numbers it gets: the source's tests in the source's order.
+use Prim.Native.Nat.{ℕ}
+use mathlib.Core.Bool.{Bool}
+use mathlib.Core.List.{List}
+use lib.Dec.{eqb}
+use lib.ListN.{getD, set}
+use Rattle.numbers.specs.Pick.{pick}
+use Rattle.numbers.specs.Bits.{bit}
+use Rattle.numbers.specs.Counters.{step}
+use Rattle.numbers.specs.declared.counters.Reliable.{Reliable}
+use Rattle.numbers.specs.declared.counters.Unreliable.{Unreliable}
+use Rattle.numbers.specs.declared.counters.Group.{Group}
+use Rattle.peer.specs.Fresh.{noChannel}
+use Rattle.peer.specs.declared.record.Channel.{Channel}
+use Rattle.stamps.specs.declared.counting.Counters.{Counters}
+use Rattle.stamps.specs.declared.counting.Stamped.{Stamped}
+
+-- "128 asks for acknowledgement, 64 says unsequenced"
+abbrev pub asks : ℕ → Bool
+asks byte = bit byte 7
+
+abbrev pub unsequenced : ℕ → Bool
+unsequenced byte = bit byte 6
+
+-- "channel 255 is the peer itself"
+abbrev pub itself : ℕ → Bool
+itself channel = eqb channel 255
+
+-- the counters, one of them a step on
+abbrev pub ownStep : Counters → Counters
+ownStep k = record { own = record { 0 = step (k .own .0) }; reliable = k .reliable; unreliable = k .unreliable; group = k .group }
+
+-- a step of the reliable number begins the unreliable one anew
+abbrev pub reliableStep : Counters → Counters
+reliableStep k = record { own = k .own; reliable = record { 0 = step (k .reliable .0) }; unreliable = record { 0 = 0 }; group = k .group }
+
+abbrev pub groupStep : Counters → Counters
+groupStep k = record { own = k .own; reliable = k .reliable; unreliable = k .unreliable; group = record { 0 = step (k .group .0) } }
+
+abbrev pub unreliableStep : Counters → Counters
+unreliableStep k = record { own = k .own; reliable = k .reliable; unreliable = record { 0 = step (k .unreliable .0) }; group = k .group }
+
+-- the rest: only offset 0, a packet's first piece, steps the unreliable number
+abbrev pub restStep : ℕ → Counters → Counters
+restStep offset k = pick (eqb offset 0) (unreliableStep k) k
+
+-- the counters after a command: channel 255 first, then flag 128, then flag 64, then the rest
+abbrev pub counted : ℕ → ℕ → ℕ → Counters → Counters
+counted byte channel offset k =
+    pick (itself channel) (ownStep k)
+    (pick (asks byte) (reliableStep k) (pick (unsequenced byte) (groupStep k) (restStep offset k)))
+
+-- the command's reliable number, off the counters as they then stand
+abbrev pub reliableOf : ℕ → ℕ → Counters → Reliable
+reliableOf byte channel k =
+    pick (itself channel) (k .own) (pick (asks byte) (k .reliable) (pick (unsequenced byte) (record { 0 = 0 }) (k .reliable)))
+
+-- and its unreliable number, 0 but for the rest
+abbrev pub unreliableOf : ℕ → ℕ → Counters → Unreliable
+unreliableOf byte channel k =
+    pick (itself channel) (record { 0 = 0 })
+    (pick (asks byte) (record { 0 = 0 }) (pick (unsequenced byte) (record { 0 = 0 }) (k .unreliable)))
+
+abbrev pub stampedBy : Counters → Reliable → Unreliable → Stamped
+stampedBy k reliable unreliable = record { counters = k; reliable = reliable; unreliable = unreliable }
+
+abbrev pub stamped : ℕ → ℕ → ℕ → Counters → Stamped
+stamped byte channel offset k =
+    let after = counted byte channel offset k in
+    stampedBy after (reliableOf byte channel after) (unreliableOf byte channel after)
+
+-- a channel of the record; one as made new where there is none
+abbrev pub channelAt : List Channel → ℕ → Channel
+channelAt cs channel = getD cs channel noChannel
+
+abbrev pub countersAt : Reliable → List Channel → ℕ → Group → Counters
+countersAt own cs channel group =
+    record {
+      own = own;
+      reliable = channelAt cs channel .«outgoing_reliable»;
+      unreliable = channelAt cs channel .«outgoing_unreliable»;
+      group = group;
+    }
+
+-- a channel's two outgoing numbers as counted; 255 has no place among the channels
+abbrev pub numbered : List Channel → ℕ → Counters → List Channel
+numbered cs channel k =
+    let c = channelAt cs channel in
+    set cs channel
+    (record {
+      «outgoing_reliable» = k .reliable;
+      «outgoing_unreliable» = k .unreliable;
+      «incoming_reliable» = c .«incoming_reliable»;
+      «incoming_unreliable» = c .«incoming_unreliable»;
+      held = c .held;
+    })

@@ -1,0 +1,3 @@
+pub mod Counting
+pub mod Pieces
+pub mod Room

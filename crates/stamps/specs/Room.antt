@@ -1,0 +1,9 @@
+-- "A slot is free when no list names it": the outgoing slots that none of the three lists names, counted.
+use Prim.Native.Nat.{ℕ}
+use Rattle.slots.specs.Lists.{outgoing}
+use Rattle.slots.specs.Free.{howMany}
+use Rattle.peer.specs.Damage.{usedOut}
+use Rattle.peer.specs.declared.record.Lists.{Lists}
+
+abbrev pub roomIn : Lists → ℕ
+roomIn l = howMany outgoing (usedOut l)

@@ -1,0 +1,4 @@
+// What setting up is made of: the counters that step, the slot that a piece fills, the slots that are free.
+pub mod counting;
+pub mod pieces;
+pub mod room;
