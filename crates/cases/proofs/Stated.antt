@@ -2,7 +2,14 @@
 use mathlib.Core.Path.{refl}
 use mathlib.Core.List.{List}
 use Prim.Native.Nat.{ℕ}
+use Rattle.command.specs.Layout.{layout, total}
+use Rattle.slots.specs.Free.{firstFrom, countFrom, exist, once}
+use Rattle.peer.specs.Fresh.{noLists, noChannel, noOutgoing, noIncoming, freshPeer}
+use Rattle.peer.specs.Damage.{sound, all, held, heldFit, own, lengths}
+use Rattle.setup.specs.Queueing.{queuedAt, queued, queuedAll}
+use Rattle.sending.specs.Packets.{cutFrom}
 use Rattle.cases.specs.Cases.{cases, Hold}
 
 pub stated : (words : List ℕ) → Hold (cases words)
+unfolding layout total firstFrom countFrom exist once noLists noChannel noOutgoing noIncoming freshPeer sound all held heldFit own lengths queuedAt queued queuedAll cutFrom
 stated words = refl

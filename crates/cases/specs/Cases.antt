@@ -2,14 +2,22 @@
 -- The window's cases hold whatever its words are, so the list takes them as given.
 use Prim.Native.Nat.{ℕ}
 use mathlib.Core.Path.{_≡_}
+use mathlib.Core.Bool.{false}
 use mathlib.Core.List.{List, [], _∷_, _++_, map}
 use lib.IntN.{ℤ, pos, negsuc}
-use lib.ListN.{take}
+use lib.ListN.{getD, take}
 use Rattle.numbers.specs.Clock.{sampled}
 use Rattle.throttle.specs.Throttling.{valueAfter}
 use Rattle.throttle.specs.Throttling.{answerAfter as turnAfter}
 use Rattle.throttle.specs.declared.Throttle.{Throttle}
 use Rattle.window.specs.Window.{answerAfter, baseAfter}
+use Rattle.slots.specs.Lists.{outItems}
+use Rattle.peer.specs.Fresh.{noOutgoing, freshPeer}
+use Rattle.peer.specs.Calls.{Outcome, begins, setsState}
+use Rattle.peer.specs.declared.settings.Settings.{Settings}
+use Rattle.peer.specs.declared.defaults.Kept.{Kept}
+use Rattle.peer.specs.declared.record.Peer.{Peer}
+use Rattle.sending.specs.Calls.{sends}
 
 pub record Case : Type 0 where
   pub given : List ℤ
@@ -32,6 +40,26 @@ rolled last variance value trip =
     let t : Throttle = record { value = value; limit = 32; acceleration = 2; deceleration = 2; last = last; variance = variance } in
     pos (valueAfter t trip) ∷ turnAfter t trip ∷ []
 
+abbrev settings : ℕ → Settings
+settings mtu = record { mtu = mtu; packet = 33554432; waiting = 33554432; checksum = false }
+
+abbrev nobody : Kept
+nobody = record { «incoming_peer» = 0; «outgoing_session» = 0; «incoming_session» = 0; reserved = 0; queued = 0 }
+
+-- a peer as after a reset, begun with one channel and connected
+abbrev opened : ℕ → Peer
+opened mtu = setsState (settings mtu) 5 (begins (settings mtu) mtu 1 (freshPeer mtu nobody) .peer) .peer
+
+-- the reply's number, then the lengths of what waits in send-reliable
+abbrev waiting : Outcome → List ℤ
+waiting o =
+    pos (o .answer .number)
+    ∷ map (λ (s : ℕ). pos (getD (o .peer .outgoing) s noOutgoing .length)) (outItems (o .peer .lists .reliable))
+
+-- a reliable send on channel 0, without a checksum
+abbrev queues : ℕ → ℕ → List ℤ
+queues mtu length = waiting (sends (settings mtu) 0 length 1 (opened mtu))
+
 abbrev pub cases : List ℕ → List Case
 cases words =
     record { given = verdictAndBase 0 words 32767; stated = pos 1 ∷ pos 31744 ∷ [] }  -- P1
@@ -42,6 +70,8 @@ cases words =
     ∷ record { given = sample 65541 5; stated = pos 1 ∷ pos 1 ∷ [] }  -- P6
     ∷ record { given = rolled 100 10 32 121; stated = pos 30 ∷ negsuc 0 ∷ [] }  -- P7
     ∷ record { given = rolled 100 10 32 120; stated = pos 32 ∷ pos 0 ∷ [] }
+    ∷ record { given = queues 576 548; stated = pos 0 ∷ pos 548 ∷ [] }  -- P8
+    ∷ record { given = queues 576 549; stated = pos 0 ∷ pos 548 ∷ pos 1 ∷ [] }
     ∷ []
 
 -- every case of a list gives what is stated

@@ -8,11 +8,11 @@ ghost use Rattle.command.specs.Rows.{kindOf, pad, rowOf};
 ghost use Rattle.exports.specs.Buffers.{MarkCall, ReadCall, WindowCall, numbersIn, throttleOf, throttleReply, withNumbers};
 ghost use Rattle.exports.specs.Codes.{turnCode, verdictCode};
 use command::fields::Command;
-use wire::reader::Reading;
 use numbers::counters::Group;
 use throttle::Throttle;
 use throttle::Turn;
 use window::Verdict;
+use wire::reader::Reading;
 
 // The refusal of a buffer of another length.
 const BUFFER: u32 = 11;

@@ -4,10 +4,10 @@ use crate::frame;
 use crate::line;
 use command::fields::Command;
 use command::layout;
-use wire::reader;
-use wire::reader::Reading;
 use command::rows;
 use command::rows::Built;
+use wire::reader;
+use wire::reader::Reading;
 use wire::writer;
 use wire::writer::Writing;
 

@@ -10,9 +10,11 @@ mod commands;
 mod frame;
 mod line;
 mod record;
+mod sends;
 mod setters;
 mod settings;
 mod sink;
+mod steps;
 mod store;
 mod used;
 
@@ -52,6 +54,8 @@ fn answer(frame: &[u8], out: &mut [u8], store: &mut [u8], bench: Bench) -> Bench
     match op {
         0 => settings::set(frame, out, bench),
         1..=3 => calls::call(op, frame, out, bench),
+        4..=6 => sends::call(op, frame, out, bench),
+        7 => steps::call(frame, out, bench),
         20..=24 => setters::set(op, frame, out, bench),
         _ => told(op, frame, out, store, bench),
     }

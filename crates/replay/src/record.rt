@@ -195,17 +195,32 @@ fn outgoing(out: &mut [u8], sink: Sink, pool: [Outgoing; OUTGOING], marks: [u8; 
     let mut after = sink;
     let mut i = 0;
     while i < OUTGOING {
-        after = sending(out, after, pool[i], marks[i]);
+        after = waiting(out, after, pool[i], marks[i]);
         i += 1;
     }
     after
 }
 
 // An outgoing slot, where it is used.
-fn sending(out: &mut [u8], sink: Sink, s: Outgoing, mark: u8) -> Sink {
+fn waiting(out: &mut [u8], sink: Sink, s: Outgoing, mark: u8) -> Sink {
     if mark == 0 {
         return sink;
     }
+    put(out, sink, s)
+}
+
+// The numbers of an outgoing slot, for a line.
+pub(crate) fn slot(out: &mut [u8], used: usize, s: Outgoing) -> usize {
+    let sink = Sink {
+        hash: 0,
+        used,
+        is_printed: true,
+    };
+    let said = put(out, sink, s);
+    said.used
+}
+
+fn put(out: &mut [u8], sink: Sink, s: Outgoing) -> Sink {
     let a = s.reliable;
     let b = s.unreliable;
     let numbers = [

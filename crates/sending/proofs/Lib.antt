@@ -1,3 +1,5 @@
-pub mod Turns
+pub mod Cuts
 pub mod Queues
 pub mod Ranges
+pub mod Numbers
+pub mod Sounding

@@ -17,10 +17,10 @@ use peer::record::CHANNELS;
 use peer::record::Channel;
 use peer::record::Peer;
 use peer::settings::Settings;
-use stamps::pieces::Piece;
 use setup::queueing;
 use setup::replies::Called;
 use setup::replies::Reply;
+use stamps::pieces::Piece;
 use stamps::room;
 
 fn refused(peer: Peer, reply: Reply) -> Called

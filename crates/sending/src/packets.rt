@@ -14,8 +14,8 @@ use numbers::counters::Reliable;
 use numbers::counters::Unreliable;
 use peer::record::Channel;
 use peer::record::Peer;
-use stamps::pieces::Piece;
 use setup::queueing;
+use stamps::pieces::Piece;
 
 // The number that a cut packet begins with, of the kind that its pieces count by.
 pub enum Start {

@@ -139,7 +139,7 @@ module _ (q : Queue) (l : Lists) (s : ℕ) (rest : List ℕ) (e : outItems (list
           arith,
           free-and-named outgoing (usedOut l) x o,
           free-and-named outgoing (usedOut (left q l)) (exist-less (usedOut l) (usedOut (left q l)) fewer outgoing x)
-          (once-less (usedOut l) (usedOut (left q l)) fewer o),
+              (once-less (usedOut l) (usedOut (left q l)) fewer o),
           left-sum length length-append q l s rest e,
         )
 

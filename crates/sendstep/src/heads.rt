@@ -11,8 +11,8 @@ use peer::record::Outgoing;
 use peer::record::Peer;
 use peer::record::Times;
 use peer::record::Trips;
-use stamps::counting;
 use slots::outgoing::OutList;
+use stamps::counting;
 
 // The two lists that a send step may name.
 pub enum Queue {

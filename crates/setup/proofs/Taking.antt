@@ -145,12 +145,12 @@ unfolding queued
 queued-full x p e = ap (λ (f : Free). queuedIn f x p) e
 
 -- one step of many: there is a free slot, and the rest can follow
-record Stepped (x : Piece) (xs : List Piece) (p : Peer) : Type 0 where
-  slot : ℕ
-  low : lowest outgoing (usedOut (p .lists)) ≡ Lowest slot
-  next : Ready xs (queued x p)
+pub record Stepped (x : Piece) (xs : List Piece) (p : Peer) : Type 0 where
+  pub slot : ℕ
+  pub low : lowest outgoing (usedOut (p .lists)) ≡ Lowest slot
+  pub next : Ready xs (queued x p)
 
-step : (x : Piece) (xs : List Piece) (p : Peer) → Ready (x ∷ xs) p → Stepped x xs p
+pub step : (x : Piece) (xs : List Piece) (p : Peer) → Ready (x ∷ xs) p → Stepped x xs p
 step x xs p r = go (lowest outgoing (usedOut (p .lists))) refl
   where
     go : (f : Free) → lowest outgoing (usedOut (p .lists)) ≡ f → Stepped x xs p

@@ -2,15 +2,15 @@
 ghost use mathlib.Core.Path.{_≡_};
 ghost use Rattle.setup.specs.Replies.{Came};
 ghost use Rattle.setup.specs.Calls.{setsUp, setsUpSound, onChannel};
-use stamps::pieces::Piece;
 use crate::queueing;
 use crate::replies::Called;
 use crate::replies::Reply;
-use stamps::room;
 use command::rows;
 use peer::calls;
 use peer::record::Peer;
 use peer::settings::Settings;
+use stamps::pieces::Piece;
+use stamps::room;
 
 // A channel below the count, or the peer itself.
 fn is_channel(channel: u8, count: u32) -> bool

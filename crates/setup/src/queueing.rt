@@ -2,16 +2,16 @@
 ghost use mathlib.Core.Path.{_≡_};
 ghost use lib.ListN.{set};
 ghost use Rattle.setup.specs.Queueing.{joined, queuedAt, queued, stampOf};
-use stamps::counting;
-use stamps::counting::Stamped;
-use stamps::pieces;
-use stamps::pieces::Piece;
-use stamps::room;
 use peer::record::Lists;
 use peer::record::Outgoing;
 use peer::record::Peer;
 use slots::Free;
 use slots::OUTGOING;
+use stamps::counting;
+use stamps::counting::Stamped;
+use stamps::pieces;
+use stamps::pieces::Piece;
+use stamps::room;
 
 // The counters of a piece's command, and its numbers.
 fn stamp(peer: Peer, x: Piece) -> Stamped

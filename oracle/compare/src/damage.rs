@@ -7,7 +7,7 @@ use enet::record::{place, List, Record, CHANNELS};
 use crate::model::mtu_fits;
 
 /// The channel that is the peer itself.
-const PEER: u8 = 255;
+pub const PEER: u8 = 255;
 /// The most bytes of a cell.
 const CELL: u32 = 4_096;
 

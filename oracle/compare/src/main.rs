@@ -7,13 +7,16 @@ mod lines;
 mod model;
 mod ops;
 mod output;
+mod packing;
 mod random;
 mod records;
 mod script;
+mod sending;
 
 use std::{env, fs, io, process::ExitCode};
 
 use output::Output;
+use sending::{rules, sets};
 
 fn main() -> ExitCode {
     let words: Vec<String> = env::args().skip(1).collect();
@@ -23,6 +26,9 @@ fn main() -> ExitCode {
         ["script", seed, count, script, lines, ops] => write(seed, count, script, lines, Some(ops)),
         ["records", seed, count, script, lines] => write_records(seed, count, script, lines),
         ["damage", script, lines] => write_damage(script, lines),
+        ["sending", seed, count, script, lines] => write_sending(seed, count, script, lines),
+        ["every", set, script, lines] => write_every(set, script, lines),
+        ["packing", seed, count] => pack(seed, count),
         ["vectors", script, lines] => write_vectors(script, lines),
         ["lines", expected, got] => compare(expected, got),
         _ => Err(usage()),
@@ -43,10 +49,15 @@ fn usage() -> String {
       further names: {}
   compare records SEED COUNT SCRIPT_FILE LINES_FILE
   compare damage SCRIPT_FILE LINES_FILE
+  compare sending SEED COUNT SCRIPT_FILE LINES_FILE
+  compare every SET SCRIPT_FILE LINES_FILE
+      SET: {}
+  compare packing SEED COUNT
   compare vectors SCRIPT_FILE LINES_FILE
   compare lines EXPECTED GOT",
         names.join(","),
-        more.join(",")
+        more.join(","),
+        sets::NAMES.join(", ")
     )
 }
 
@@ -74,12 +85,31 @@ fn write_damage(script: &str, lines: &str) -> Result<ExitCode, String> {
     written(script, lines, records::write_damage)
 }
 
-/// What the repository stores for replay: each kind of damage, random records, then every other op.
+fn write_sending(seed: &str, count: &str, script: &str, lines: &str) -> Result<ExitCode, String> {
+    let (seed, count) = (number(seed)?, number(count)?);
+    written(script, lines, |output| sending::write(output, seed, count))
+}
+
+fn write_every(set: &str, script: &str, lines: &str) -> Result<ExitCode, String> {
+    let write = sets::named(set).ok_or_else(|| format!("there is no set {set}\n{}", usage()))?;
+    written(script, lines, write)
+}
+
+/// The source's packing of datagrams beside the send step.
+fn pack(seed: &str, count: &str) -> Result<ExitCode, String> {
+    let same = packing::compare(number(seed)?, number(count)?);
+    Ok(if same { ExitCode::SUCCESS } else { ExitCode::FAILURE })
+}
+
+/// What the repository stores for replay: each kind of damage, random records, the rules of sending and some
+/// sequences, then every other op.
 fn write_vectors(script: &str, lines: &str) -> Result<ExitCode, String> {
     let plan = script::Plan { seed: 1, count: 3_000, choice: script::Choice::named(None)? };
     written(script, lines, |output| {
         records::write_damage(output)?;
         records::write(output, 3, 150)?;
+        rules::write(output)?;
+        sending::write(output, 5, 250)?;
         plan.write(output)
     })
 }

@@ -5,16 +5,20 @@ use enet::{
     Bench,
 };
 
-use crate::frame::Frame;
+use crate::{damage::damaged, frame::Frame};
 
 /// How many bytes the store has.
 pub const STORE: usize = 49_152;
 
-/// The settings that a call may refuse.
+/// The state in which a peer is connected.
+pub const CONNECTED: u32 = 5;
+
+/// The settings that a call may refuse, and the checksum.
 #[derive(Clone, Copy)]
 pub struct Settings {
     pub mtu: u32,
     pub packet: u32,
+    pub checksum: bool,
 }
 
 impl Settings {
@@ -39,7 +43,7 @@ pub struct Model {
 impl Model {
     /// As SCRIPT.md has it at the start.
     pub fn new() -> Self {
-        let settings = Settings { mtu: 1_392, packet: 33_554_432 };
+        let settings = Settings { mtu: 1_392, packet: 33_554_432, checksum: false };
         Model {
             bench: Bench::new(),
             settings,
@@ -48,8 +52,21 @@ impl Model {
         }
     }
 
+    /// What every call but reset refuses first: settings out of range, then a damaged record.
+    pub fn refusal(&self) -> Option<u32> {
+        if !self.settings.fit() {
+            return Some(11);
+        }
+        damaged(&self.record).then_some(13)
+    }
+
     /// The line of a call that replies this number and leaves the record as it is now.
     pub fn reply(&self, frame: &Frame, number: u32) -> String {
-        format!("{} # {}", frame.line(&[number]), hash(&self.record.row()))
+        self.replies(frame, &[number])
+    }
+
+    /// The same with the reply's values after its number.
+    pub fn replies(&self, frame: &Frame, numbers: &[u32]) -> String {
+        format!("{} # {}", frame.line(numbers), hash(&self.record.row()))
     }
 }

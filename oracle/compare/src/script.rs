@@ -106,7 +106,7 @@ impl Plan {
 }
 
 /// Takes numbers away, which then read as 0, or adds some, which are to be ignored.
-fn miscount(frame: &mut Frame, random: &mut Random) {
+pub fn miscount(frame: &mut Frame, random: &mut Random) {
     if random.once_in(2) {
         let kept = random.below(frame.numbers.len() as u64 + 1) as usize;
         frame.numbers.truncate(kept);

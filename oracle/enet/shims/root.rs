@@ -8,8 +8,6 @@ mod consts;
 
 mod address;
 mod compressor;
-// The oracle sends nothing, so no error of a send is ever looked at.
-#[allow(dead_code)]
 mod error;
 mod packet;
 mod socket;

@@ -13,6 +13,8 @@ mod silent;
 pub use bench::Bench;
 pub use door::{
     command::{limits, size, write, Read},
+    pack::Packed,
+    send::{Limits, Packet},
     throttle::Throttle,
     window::{Verdict, Window},
 };

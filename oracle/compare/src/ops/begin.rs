@@ -4,7 +4,6 @@ use enet::record::{place, Channel, CHANNELS};
 
 use super::Group;
 use crate::{
-    damage::damaged,
     frame::Frame,
     model::{mtu_fits, Model},
     random::Random,
@@ -25,11 +24,8 @@ fn frame(random: &mut Random, _: u64) -> Frame {
 }
 
 fn line(model: &mut Model, frame: &Frame) -> String {
-    if !model.settings.fit() {
-        return model.reply(frame, 11);
-    }
-    if damaged(&model.record) {
-        return model.reply(frame, 13);
+    if let Some(number) = model.refusal() {
+        return model.reply(frame, number);
     }
     let (mtu, channels) = (frame.number(0), frame.number(1));
     let fits = mtu_fits(mtu) && (1..=CHANNELS as u32).contains(&channels);

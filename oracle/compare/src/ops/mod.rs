@@ -7,11 +7,15 @@ mod distance;
 mod incoming;
 mod number;
 pub mod outgoing;
+mod ping;
 mod read;
 pub mod reset;
 mod row;
+pub mod send;
 mod settings;
+pub mod setup;
 mod state;
+pub mod step;
 mod store;
 mod unknown;
 mod write;
@@ -38,6 +42,10 @@ pub const MORE: &[Group] = &[
     reset::GROUP,
     begin::GROUP,
     state::GROUP,
+    ping::GROUP,
+    send::GROUP,
+    setup::GROUP,
+    step::GROUP,
     row::GROUP,
     store::GROUP,
     number::GROUP,

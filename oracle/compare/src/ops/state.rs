@@ -3,7 +3,7 @@
 use enet::record::place;
 
 use super::Group;
-use crate::{damage::damaged, frame::Frame, model::Model, random::Random};
+use crate::{frame::Frame, model::Model, random::Random};
 
 /// The last state, a zombie.
 const LAST: u32 = 9;
@@ -20,11 +20,8 @@ fn frame(random: &mut Random, _: u64) -> Frame {
 
 fn line(model: &mut Model, frame: &Frame) -> String {
     let state = frame.number(0);
-    if !model.settings.fit() {
-        return model.reply(frame, 11);
-    }
-    if damaged(&model.record) {
-        return model.reply(frame, 13);
+    if let Some(number) = model.refusal() {
+        return model.reply(frame, number);
     }
     if state > LAST {
         return model.reply(frame, 11);

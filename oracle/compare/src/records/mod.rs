@@ -14,7 +14,7 @@ use crate::{build, frame::Frame, ops, output::Output, random::Random};
 const SEED: u64 = 1;
 
 /// The settings of the start, after the MTU: the maximum packet; then waiting, checksum, store length.
-const PACKET: u32 = 33_554_432;
+pub const PACKET: u32 = 33_554_432;
 const OTHERS: [u32; 3] = [33_554_432, 0, 49_152];
 
 /// A script in which so many records are built and reset, with other calls around.
@@ -66,16 +66,16 @@ pub fn write_damage<S: Write, L: Write>(output: &mut Output<S, L>) -> io::Result
     Ok(())
 }
 
-fn frame(op: u8, numbers: Vec<u32>) -> Frame {
+pub fn frame(op: u8, numbers: Vec<u32>) -> Frame {
     Frame { op, numbers, ..Frame::default() }
 }
 
-fn settings(mtu: u32, packet: u32) -> Frame {
+pub fn settings(mtu: u32, packet: u32) -> Frame {
     frame(0, [&[mtu, packet][..], &OTHERS].concat())
 }
 
 /// Turns the model's record into this one.
-fn make<S: Write, L: Write>(output: &mut Output<S, L>, record: &Record) -> io::Result<()> {
+pub fn make<S: Write, L: Write>(output: &mut Output<S, L>, record: &Record) -> io::Result<()> {
     for frame in build::frames(&output.model.record, record) {
         output.put(&frame)?;
     }

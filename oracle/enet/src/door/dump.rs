@@ -1,6 +1,9 @@
 //! Reads a record back out of the source's structs.
 
-use std::ptr::{addr_of_mut, null_mut};
+use std::{
+    cmp::Reverse,
+    ptr::{addr_of_mut, null_mut},
+};
 
 use super::{fields::fields, load::Nodes, numbers::numbers};
 use crate::{
@@ -12,8 +15,12 @@ use crate::{
 impl Bench {
     /// The peer as it is; what was loaded keeps its slot, and a new node takes the lowest free one.
     pub(crate) unsafe fn dump(&self, nodes: &Nodes) -> Record {
+        self.dump_over(Record::zero(), nodes)
+    }
+
+    /// The peer as it is; what does not count stays as this record has it.
+    pub(crate) unsafe fn dump_over(&self, mut record: Record, nodes: &Nodes) -> Record {
         let (host, peer) = (self.host, self.peer);
-        let mut record = Record::zero();
         for (number, value) in numbers(host, peer).iter().zip(&mut record.numbers) {
             *value = number.get();
         }
@@ -25,7 +32,9 @@ impl Bench {
             addr_of_mut!((*peer).outgoing_commands),
         ];
         let into = vec![&mut record.sent, &mut record.send_reliable, &mut record.outgoing];
-        for (slot, node) in copy(&lists, into, &nodes.outgoing) {
+        // The commands of one call were queued in the order in which they were set up.
+        let age = |node: ENetListIterator| (*host).total_queued.wrapping_sub(queue_time(node));
+        for (slot, node) in copy(&lists, into, &nodes.outgoing, age) {
             record.outgoing_slots[slot] = outgoing(node.cast());
         }
 
@@ -42,7 +51,7 @@ impl Bench {
             lists.push(addr_of_mut!((*from).incoming_reliable_commands));
             into.push(&mut channel.list);
         }
-        for (slot, node) in copy(&lists, into, &nodes.incoming) {
+        for (slot, node) in copy(&lists, into, &nodes.incoming, |_| 0) {
             record.incoming_slots[slot] = incoming(node.cast());
         }
         record
@@ -54,6 +63,7 @@ unsafe fn copy(
     from: &[*mut ENetList],
     into: Vec<&mut List>,
     known: &[ENetListIterator],
+    age: impl Fn(ENetListIterator) -> u32,
 ) -> Vec<(usize, ENetListIterator)> {
     let lists: Vec<Vec<ENetListIterator>> = from.iter().map(|list| walk(*list)).collect();
     let mut held = known.to_vec();
@@ -62,25 +72,28 @@ unsafe fn copy(
             *node = null_mut();
         }
     }
+    let new = lists.iter().flatten().copied().filter(|node| !held.contains(node));
+    let mut new: Vec<ENetListIterator> = new.collect();
+    new.sort_by_key(|&node| Reverse(age(node)));
+    for node in new {
+        let free = held.iter().position(|there| there.is_null()).expect("the slots suffice");
+        held[free] = node;
+    }
     for (list, nodes) in into.into_iter().zip(lists) {
+        list.length = 0;
         for node in nodes {
-            list.push(slot(node, &mut held));
+            list.push(held.iter().position(|there| *there == node).expect("each has a slot"));
         }
     }
     held.into_iter().enumerate().filter(|(_, node)| !node.is_null()).collect()
 }
 
-/// The slot that holds the node, the lowest free one if none does yet.
-fn slot(node: ENetListIterator, held: &mut [ENetListIterator]) -> usize {
-    let slot = held.iter().position(|there| *there == node).unwrap_or_else(|| {
-        held.iter().position(|there| there.is_null()).expect("the slots suffice")
-    });
-    held[slot] = node;
-    slot
+unsafe fn queue_time(node: ENetListIterator) -> u32 {
+    (*node.cast::<ENetOutgoingCommand>()).queue_time
 }
 
 /// The nodes of a list from its head.
-unsafe fn walk(list: *mut ENetList) -> Vec<ENetListIterator> {
+pub(crate) unsafe fn walk(list: *mut ENetList) -> Vec<ENetListIterator> {
     let mut nodes = Vec::new();
     let mut node = (*list).sentinel.next;
     while node != addr_of_mut!((*list).sentinel) {
@@ -90,7 +103,7 @@ unsafe fn walk(list: *mut ENetList) -> Vec<ENetListIterator> {
     nodes
 }
 
-unsafe fn outgoing(node: *mut ENetOutgoingCommand) -> Outgoing {
+pub(crate) unsafe fn outgoing(node: *mut ENetOutgoingCommand) -> Outgoing {
     let header = (*node).command.header;
     let kind = header.command & ENET_PROTOCOL_COMMAND_MASK as u8;
     let fields = fields(addr_of_mut!((*node).command), kind);

@@ -21,6 +21,13 @@ pub(crate) struct Nodes {
     pub(crate) incoming: [ENetListIterator; INCOMING],
 }
 
+impl Nodes {
+    /// Every slot free.
+    pub(crate) fn none() -> Self {
+        Nodes { outgoing: [null_mut(); OUTGOING], incoming: [null_mut(); INCOMING] }
+    }
+}
+
 impl Bench {
     /// Makes the peer and the host's count those of a sound record.
     pub(crate) unsafe fn load(&mut self, record: &Record) -> Nodes {
@@ -40,8 +47,7 @@ impl Bench {
             enet_list_insert(queue, addr_of_mut!((*peer).dispatch_list).cast());
         }
 
-        let mut nodes =
-            Nodes { outgoing: [null_mut(); OUTGOING], incoming: [null_mut(); INCOMING] };
+        let mut nodes = Nodes::none();
         for (list, slots) in [
             (addr_of_mut!((*peer).sent_reliable_commands), &record.sent),
             (addr_of_mut!((*peer).outgoing_send_reliable_commands), &record.send_reliable),
@@ -74,10 +80,6 @@ unsafe fn fill<T>(
 }
 
 unsafe fn outgoing(slot: &Outgoing) -> *mut u8 {
-    let mut command = header(slot.byte, slot.channel, slot.number);
-    for (field, value) in fields(&mut command, slot.kind).iter().zip(&slot.fields) {
-        field.set(*value);
-    }
     let node = enet_malloc(Layout::new::<ENetOutgoingCommand>());
     node.cast::<ENetOutgoingCommand>().write(ENetOutgoingCommand {
         outgoing_command_list: zeroed(),
@@ -89,10 +91,19 @@ unsafe fn outgoing(slot: &Outgoing) -> *mut u8 {
         fragment_offset: slot.offset,
         fragment_length: slot.length,
         send_attempts: slot.attempts,
-        command,
+        command: command(slot),
         packet: if slot.packet { packet(slot.length.into()) } else { null_mut() },
     });
     node
+}
+
+/// The slot's command in the source's own layout.
+pub(crate) unsafe fn command(slot: &Outgoing) -> ENetProtocol {
+    let mut command = header(slot.byte, slot.channel, slot.number);
+    for (field, value) in fields(&mut command, slot.kind).iter().zip(&slot.fields) {
+        field.set(*value);
+    }
+    command
 }
 
 unsafe fn incoming(slot: &Incoming) -> *mut u8 {

@@ -1,11 +1,17 @@
 //! The doors, one file for each function or piece of the source that they lead to.
 
+mod call;
 pub(crate) mod command;
+mod disconnect;
 mod distance;
 mod dump;
 mod fields;
 mod load;
 mod numbers;
+pub(crate) mod pack;
+mod ping;
 mod reset;
+pub(crate) mod send;
+mod setup;
 pub(crate) mod throttle;
 pub(crate) mod window;

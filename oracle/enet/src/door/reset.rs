@@ -109,6 +109,27 @@ mod tests {
     }
 
     #[test]
+    fn new_nodes_take_slots_in_the_order_in_which_they_were_set_up() {
+        let mut record = Record::fresh(1_392);
+        record.numbers[place::STATE] = 5;
+        // So that the count turns between the two.
+        record.numbers[place::HOST_COUNT] = u32::MAX - 1;
+        let mut bench = Bench::new();
+        let dumped = unsafe {
+            let nodes = bench.load(&record);
+            crate::enet_peer_ping(bench.peer);
+            let packet = crate::enet_packet_create(std::ptr::null(), 0, 0);
+            let ping = Outgoing { byte: 133, channel: 255, kind: 5, ..Outgoing::default() };
+            let command = crate::door::load::command(&ping);
+            crate::enet_peer_queue_outgoing_command(bench.peer, &command, packet, 0, 0);
+            bench.dump(&nodes)
+        };
+        // The list of the second is walked first.
+        assert_eq!((dumped.outgoing.items(), dumped.send_reliable.items()), (&[0][..], &[1][..]));
+        assert_eq!([0, 1].map(|slot| dumped.outgoing_slots[slot].queue_time), [u32::MAX, 0]);
+    }
+
+    #[test]
     fn a_reset_keeps_five_numbers() {
         let mut expected = Record::fresh(576);
         for place in [

@@ -19,6 +19,14 @@ impl List {
         self.length += 1;
     }
 
+    /// Takes the head out of a list no longer than its pool; the cells past the new length stay.
+    pub fn take(&mut self) -> Option<usize> {
+        let slot = *self.items().first()?;
+        self.cells.copy_within(1..usize::from(self.length), 0);
+        self.length -= 1;
+        Some(slot.into())
+    }
+
     /// The cells that count: all there are, if the length is above the pool.
     pub fn items(&self) -> &[u16] {
         &self.cells[..self.cells.len().min(self.length.into())]

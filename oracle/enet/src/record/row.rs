@@ -2,7 +2,7 @@
 
 use std::collections::BTreeSet;
 
-use super::{place, List, Record};
+use super::{place, List, Record, OUTGOING};
 
 const FACTOR: u64 = 65_599;
 const MODULUS: u64 = 4_294_967_291;
@@ -34,6 +34,11 @@ impl Record {
     /// The outgoing slots that a list names, by rising number.
     pub fn used_outgoing(&self) -> BTreeSet<usize> {
         self.outgoing_lists().iter().flat_map(|list| list.slots()).collect()
+    }
+
+    /// How many outgoing slots no list names.
+    pub fn free_outgoing(&self) -> usize {
+        OUTGOING - self.used_outgoing().len()
     }
 
     /// The incoming slots that a list names, by rising number.

@@ -15,17 +15,17 @@ abbrev μ-loop : tie.MeasureT-loop
 loop-holds : tie.Need-loop-holds Inv-loop μ-loop
 loop-holds c = search needs
 
-mul-sending : tie.Need-mul-sending Inv-loop μ-loop
-mul-sending c = search needs
+mul-waiting : tie.Need-mul-waiting Inv-loop μ-loop
+mul-waiting c = search needs
 
-array-copy-out-sending : tie.Need-array-copy-out-sending Inv-loop μ-loop
-array-copy-out-sending c = search needs
+array-copy-out-waiting : tie.Need-array-copy-out-waiting Inv-loop μ-loop
+array-copy-out-waiting c = search needs
 
-array-read-sending : tie.Need-array-read-sending Inv-loop μ-loop
-array-read-sending c = search needs
+array-read-waiting : tie.Need-array-read-waiting Inv-loop μ-loop
+array-read-waiting c = search needs
 
-sending-requires : tie.Need-sending-requires Inv-loop μ-loop
-sending-requires c κs = search needs
+waiting-requires : tie.Need-waiting-requires Inv-loop μ-loop
+waiting-requires c κs = search needs
 
 add-i : tie.Need-add-i Inv-loop μ-loop
 add-i c = search needs
@@ -49,10 +49,10 @@ outgoing-spec =
     Inv-loop
     μ-loop
     loop-holds
-    mul-sending
-    array-copy-out-sending
-    array-read-sending
-    sending-requires
+    mul-waiting
+    array-copy-out-waiting
+    array-read-waiting
+    waiting-requires
     add-i
     loop-less
     loop-again

@@ -2,7 +2,7 @@
 use borrow.Author.Needs.{needs}
 use Rattle.sending.specs.Packets.{pieces}
 use Rattle.sending.specs.Calls.{cutBy}
-use Rattle.sending.proofs.Turns.{cut-length}
+use Rattle.sending.proofs.Cuts.{cut-length}
 use Rattle.sending.proofs.Queues.{full, enough, many, few}
 use Rattle.sending.proofs.calls.send_cut.Statement.{statement}
 use Rattle.sending.proofs.calls.send_cut.Tie as tie

@@ -1,7 +1,7 @@
 -- `piece_count` meets its contract: a packet has no more pieces than bytes, so their number fits.
 use native.Mathlib.Omega.{arith}
 use borrow.Author.Needs.{needs}
-use Rattle.sending.proofs.Turns.{count-fits}
+use Rattle.sending.proofs.Cuts.{count-fits}
 use Rattle.sending.proofs.packets.piece_count.Statement.{statement}
 use Rattle.sending.proofs.packets.piece_count.Tie as tie
 

@@ -6,7 +6,7 @@ use native.Mathlib.Omega.{arith}
 use borrow.Author.Needs.{needs}
 use Rattle.setup.specs.Queueing.{queuedAll}
 use Rattle.sending.specs.Packets.{cutFrom, pieces}
-use Rattle.sending.proofs.Turns.{cut-turn, cut-end}
+use Rattle.sending.proofs.Cuts.{cut-turn, cut-end}
 use Rattle.sending.proofs.packets.queue_all.Statement.{statement}
 use Rattle.sending.proofs.packets.queue_all.Tie as tie
 

@@ -33,3 +33,18 @@ pub(crate) unsafe fn check_timeouts<S: Socket>(
 ) -> i32 {
     enet_protocol_check_timeouts(host, peer, event)
 }
+
+pub(crate) unsafe fn check_outgoing_commands<S: Socket>(
+    host: *mut ENetHost<S>,
+    peer: *mut ENetPeer<S>,
+    sent_unreliable_commands: *mut ENetList,
+) -> i32 {
+    enet_protocol_check_outgoing_commands(host, peer, sent_unreliable_commands)
+}
+
+pub(crate) unsafe fn remove_sent_unreliable_commands<S: Socket>(
+    peer: *mut ENetPeer<S>,
+    sent_unreliable_commands: *mut ENetList,
+) {
+    enet_protocol_remove_sent_unreliable_commands(peer, sent_unreliable_commands);
+}

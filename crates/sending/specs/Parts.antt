@@ -1,0 +1,29 @@
+-- What the pieces of a cut packet are to it, one by one and together, and the numbers that setting up gives.
+use Prim.Native.Nat.{ℕ, _+_}
+use mathlib.Core.Path.{_≡_}
+use mathlib.Core.Bool.{true}
+use mathlib.Core.List.{List, [], _∷_}
+use lib.ListN.{take}
+use Rattle.peer.specs.declared.record.Outgoing.{Outgoing}
+use Rattle.stamps.specs.declared.pieces.Piece.{Piece}
+use Rattle.sending.specs.Packets.{cutCommand, pieces}
+use Rattle.sending.specs.declared.packets.Cut.{Cut}
+
+-- how many bytes pieces carry together
+unfoldable pub span : List Piece → ℕ
+span [] = 0
+span (y ∷ ys) = y .length + span ys
+
+-- piece i of a packet: it begins where the pieces before it end, and its command tells the packet, the piece's place and its bytes
+pub record Part (x : Cut) (i : ℕ) (y : Piece) : Type 0 where
+  pub packet : y .packet ≡ true
+  pub offset : y .offset ≡ span (take i (pieces x))
+  pub command :
+      y .command
+      ≡ cutCommand (x .start) (x .channel) (record { length = y .length; count = x .count; number = i; total = x .length; offset = y .offset })
+
+-- the numbers that a slot bears; the header's is the reliable one
+pub record Bears (o : Outgoing) (r u : ℕ) : Type 0 where
+  pub reliable : o .reliable .0 ≡ r
+  pub unreliable : o .unreliable .0 ≡ u
+  pub header : o .command .number .0 ≡ r
