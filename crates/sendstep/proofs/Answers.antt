@@ -13,16 +13,9 @@ use Rattle.command.specs.Rows.{namesFields, rowOf, kindOf}
 use Rattle.command.specs.declared.fields.Command.{Command}
 use Rattle.command.proofs.Answers.{commandFrom, command-back}
 use Rattle.peer.specs.declared.record.Outgoing.{Outgoing}
-use Rattle.sendstep.specs.Calls.{answerOf, slotRow}
+use Rattle.sendstep.specs.Calls.{answerOf, slotRow, Named}
 use Rattle.sendstep.specs.declared.calls.Reply.{Reply}
 use Rattle.sendstep.specs.declared.calls.Reply.the-variants as vr
-
--- a reply whose command, if it has one, is named
-abbrev pub Named : Reply → Type 0
-Named vr.Nothing = Unit {0}
-Named (vr.Head o) = namesFields (o .command) ≡ true
-Named vr.OutOfRange = Unit {0}
-Named vr.Damaged = Unit {0}
 
 abbrev slotFrom : List ℕ → Bool → Command → Outgoing
 slotFrom ys packet command =

@@ -1,10 +1,11 @@
 -- The send step: "the caller names outgoing or send-reliable, and the time. An empty one replies nothing to send. The head is the reply."
 use Prim.Native.Nat.{ℕ}
 use mathlib.Core.Path.{_≡_}
+use mathlib.Core.Bool.{true}
 use mathlib.Core.List.{List, [], _∷_}
 use Rattle.numbers.specs.Pick.{pick}
 use Rattle.numbers.specs.Answers.{Answer, done, refused}
-use Rattle.command.specs.Rows.{rowOf}
+use Rattle.command.specs.Rows.{rowOf, namesFields}
 use Rattle.slots.specs.Lists.{outItems}
 use Rattle.slots.specs.Runs.{first}
 use Rattle.slots.specs.declared.First.{First}
@@ -48,7 +49,15 @@ stepsSound q time p = stepsFrom (first (outItems (listOf q (p .lists)))) q time 
 abbrev pub steps : Settings → Queue → ℕ → Peer → Outcome
 steps s q time p = gated s p (stepsSound q time p)
 
+-- a reply whose command, if it has one, is named
+abbrev pub Named : Reply → Type 0
+Named vr.Nothing = Unit {0}
+Named (vr.Head o) = namesFields (o .command) ≡ true
+Named vr.OutOfRange = Unit {0}
+Named vr.Damaged = Unit {0}
+
 -- a call came out so
 pub record Came (o : Outcome) (r : Stepped) : Type 0 where
   pub answer : answerOf (r .reply) ≡ o .answer
+  pub named : Named (r .reply)
   pub peer : r .peer ≡ o .peer

@@ -4,6 +4,8 @@ ghost use mathlib.Core.Bool.{true};
 ghost use Prim.Native.Nat.{_<_};
 ghost use Rattle.slots.specs.declared.First.the-variants.{Slot};
 ghost use Rattle.peer.specs.Damage.{sound};
+ghost use Rattle.command.specs.Rows.{namesFields};
+ghost use Rattle.sendstep.specs.Steps.{head};
 ghost use Rattle.sendstep.specs.Calls.{Came, steps, stepsSound, stepsFrom};
 use crate::heads;
 use crate::heads::Queue;
@@ -60,7 +62,7 @@ fn step_sound(peer: Peer, q: Queue, time: u32) -> Stepped
 }
 
 fn step_head(peer: Peer, q: Queue, s: u16, time: u32) -> Stepped
-    requires { ⌜ s < 32 ⌝ }
+    requires { ⌜ (s < 32) × (namesFields (head peer s time .command) ≡ true) ⌝ }
     ensures { λ r. ⌜ Came (stepsFrom (Slot s) q time peer) r ⌝ }
 {
     let o = heads::head(peer, s, time);

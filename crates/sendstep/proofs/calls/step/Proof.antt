@@ -29,14 +29,14 @@ returns c =
     let g = c .before .before in
     let a = g .before .args in
     rw (gated-range (a .settings) (a .peer) (stepsSound (a .q) (a .time) (a .peer)) (g .gate .result) (g .gate .ensures) (c .enum-told .given .1))
-    (record { answer = refl; peer = refl })
+    (record { answer = refl; named = tt; peer = refl })
 
 returns-2 : tie.Need-returns-2
 returns-2 c =
     let g = c .before .before in
     let a = g .before .args in
     rw (gated-damage (a .settings) (a .peer) (stepsSound (a .q) (a .time) (a .peer)) (g .gate .result) (g .gate .ensures) (c .enum-told2 .given .1))
-    (record { answer = refl; peer = refl })
+    (record { answer = refl; named = tt; peer = refl })
 
 returns-3 : tie.Need-returns-3
 returns-3 c =

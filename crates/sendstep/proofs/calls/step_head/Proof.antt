@@ -13,7 +13,7 @@ send-requires c κs = search needs
 
 returns : tie.Need-returns
 returns c =
-    record { answer = ap sent (c .before .head .ensures); peer = c .send .ensures ∙ rw (c .before .head .ensures) }
+    record { answer = ap sent (c .before .head .ensures); named = rw (c .before .head .ensures) (c .before .before .pre .1); peer = c .send .ensures ∙ rw (c .before .head .ensures) }
 
 pub step-head-spec : {M : Type 1} → statement M
 step-head-spec = tie.close (tie.spec head-requires send-requires returns)

@@ -7,7 +7,7 @@ use Rattle.slots.specs.declared.outgoing.OutList.{OutList}
 use Rattle.peer.specs.declared.record.Lists.{Lists}
 use Rattle.sendstep.specs.Steps.{listOf}
 use Rattle.sendstep.specs.declared.heads.Queue.{Queue}
-use Rattle.sendstep.proofs.Named.{head-exists}
+use Rattle.sendstep.proofs.Named.{head-exists, head-named}
 use borrow.Author.Needs.{needs}
 use Rattle.sendstep.proofs.calls.step_sound.Statement.{statement}
 use Rattle.sendstep.proofs.calls.step_sound.Tie as tie
@@ -35,8 +35,9 @@ step-head-requires c κs =
     let t = c .before .before .before in
     let l = t .before in
     let a = l .before .args in
-    head-exists (a .peer) (l .before .pre) (a .q) (c .before .first .given .0 .0)
-    (told (a .q) (a .peer .lists) (l .list-of .result) (t .take .result .first) _ (l .list-of .ensures) (t .take .ensures .first) (c .before .first .given .1))
+    let s = c .before .first .given .0 .0 in
+    let e = told (a .q) (a .peer .lists) (l .list-of .result) (t .take .result .first) _ (l .list-of .ensures) (t .take .ensures .first) (c .before .first .given .1) in
+    (head-exists (a .peer) (l .before .pre) (a .q) s e, head-named (a .peer) (l .before .pre) (a .q) s e (a .time))
 
 returns : tie.Need-returns
 returns c =
@@ -44,7 +45,7 @@ returns c =
     let l = t .before in
     let a = l .before .args in
     rw (told (a .q) (a .peer .lists) (l .list-of .result) (t .take .result .first) _ (l .list-of .ensures) (t .take .ensures .first) (c .enum-told .given .1))
-    (record { answer = refl; peer = refl })
+    (record { answer = refl; named = tt; peer = refl })
 
 returns-2 : tie.Need-returns-2
 returns-2 c =
