@@ -3,3 +3,4 @@ pub mod Queues
 pub mod Ranges
 pub mod Numbers
 pub mod Sounding
+pub mod Sends
