@@ -4,8 +4,10 @@ use mathlib.Core.List.{List}
 use Prim.Native.Nat.{ℕ}
 use Rattle.command.specs.Layout.{layout, total}
 use Rattle.slots.specs.Free.{firstFrom, countFrom, exist, once}
-use Rattle.peer.specs.Fresh.{noLists, noChannel, noOutgoing, noIncoming, freshPeer}
-use Rattle.peer.specs.Damage.{sound, all, held, heldFit, own, lengths}
+use Rattle.parts.specs.Fresh.{noLists, noChannel, noOutgoing, noIncoming}
+use Rattle.peer.specs.Fresh.{freshPeer}
+use Rattle.parts.specs.Damage.{all, held, heldFit, own, lengths}
+use Rattle.peer.specs.Damage.{sound}
 use Rattle.setup.specs.Queueing.{queuedAt, queued, queuedAll}
 use Rattle.sending.specs.Packets.{cutFrom}
 use Rattle.cases.specs.Cases.{cases, Hold}

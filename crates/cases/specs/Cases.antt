@@ -12,7 +12,8 @@ use Rattle.throttle.specs.Throttling.{answerAfter as turnAfter}
 use Rattle.throttle.specs.declared.Throttle.{Throttle}
 use Rattle.window.specs.Window.{answerAfter, baseAfter}
 use Rattle.slots.specs.Lists.{outItems}
-use Rattle.peer.specs.Fresh.{noOutgoing, freshPeer}
+use Rattle.parts.specs.Fresh.{noOutgoing}
+use Rattle.peer.specs.Fresh.{freshPeer}
 use Rattle.peer.specs.Calls.{Outcome, begins, setsState}
 use Rattle.peer.specs.declared.settings.Settings.{Settings}
 use Rattle.peer.specs.declared.defaults.Kept.{Kept}

@@ -16,14 +16,16 @@ use Rattle.command.specs.declared.fields.Command.{Command}
 use Rattle.slots.specs.Lists.{outgoing, incoming, outItems, inItems}
 use Rattle.slots.specs.Free.{exist, once}
 use Rattle.peer.specs.Settings.{fitSettings}
-use Rattle.peer.specs.Fresh.{channels, noLists, noChannel, noOutgoing, noIncoming, freshPeer}
-use Rattle.peer.specs.Damage.{sound, ranged, listsFit, heldFit, held, below, all, own, lengths, outFit, inFit, tried, outSound, inSound, usedOut, usedIn}
+use Rattle.parts.specs.Fresh.{channels, noLists, noChannel, noOutgoing, noIncoming}
+use Rattle.peer.specs.Fresh.{freshPeer}
+use Rattle.parts.specs.Damage.{ranged, listsFit, heldFit, held, below, all, own, lengths, outFit, inFit, tried, outSound, inSound, usedOut, usedIn}
+use Rattle.peer.specs.Damage.{sound}
 use Rattle.peer.specs.Calls.{Outcome, Whole, Sounds, gated, unchanged, finished, kept, resets, begins, beginsSound, begun, beginFits, setsState, setsStateSound, stated}
 use Rattle.peer.specs.declared.settings.Settings.{Settings}
 use Rattle.peer.specs.declared.record.Peer.{Peer}
-use Rattle.peer.specs.declared.record.Channel.{Channel}
-use Rattle.peer.specs.declared.record.Outgoing.{Outgoing}
-use Rattle.peer.specs.declared.record.Incoming.{Incoming}
+use Rattle.parts.specs.declared.groups.Channel.{Channel}
+use Rattle.parts.specs.declared.groups.Outgoing.{Outgoing}
+use Rattle.parts.specs.declared.groups.Incoming.{Incoming}
 use Rattle.peer.specs.declared.defaults.Kept.{Kept}
 
 -- behind the gate a record is sound, so a call need only keep it so

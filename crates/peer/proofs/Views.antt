@@ -10,12 +10,13 @@ use Rattle.numbers.specs.Pick.{pick, both}
 use Rattle.command.specs.Rows.{namesFields}
 use Rattle.slots.specs.Lists.{outgoing, incoming, outItems, inItems}
 use Rattle.slots.specs.Free.{exist, once}
-use Rattle.peer.specs.Fresh.{noOutgoing, noIncoming}
-use Rattle.peer.specs.Damage.{sound, ranged, heldFit, held, below, all, own, lengths, outFit, inFit, tried}
+use Rattle.parts.specs.Fresh.{noOutgoing, noIncoming}
+use Rattle.parts.specs.Damage.{ranged, heldFit, held, below, all, own, lengths, outFit, inFit, tried}
+use Rattle.peer.specs.Damage.{sound}
 use Rattle.peer.specs.Same.{ListView, ChannelView, View, Same, view, outView, inView, channelView}
-use Rattle.peer.specs.declared.record.Channel.{Channel}
-use Rattle.peer.specs.declared.record.Outgoing.{Outgoing}
-use Rattle.peer.specs.declared.record.Incoming.{Incoming}
+use Rattle.parts.specs.declared.groups.Channel.{Channel}
+use Rattle.parts.specs.declared.groups.Outgoing.{Outgoing}
+use Rattle.parts.specs.declared.groups.Incoming.{Incoming}
 use Rattle.peer.specs.declared.record.Peer.{Peer}
 
 pub same-refl : (p : Peer) → Same p p

@@ -5,8 +5,8 @@ use command::fields::Command;
 use command::rows::Built;
 use numbers::counters::Reliable;
 use numbers::counters::Unreliable;
-use peer::record::Incoming;
-use peer::record::Outgoing;
+use parts::groups::Incoming;
+use parts::groups::Outgoing;
 
 pub enum Change {
     Number {

@@ -4,7 +4,7 @@ use crate::frame;
 use crate::line;
 use crate::record;
 use crate::sends;
-use peer::record::Outgoing;
+use parts::groups::Outgoing;
 use sendstep::calls;
 use sendstep::calls::Reply;
 use sendstep::heads::Queue;

@@ -1,8 +1,8 @@
 // Which slots of a pool a record uses: those that a list names, as far as they exist.
 use crate::sink;
-use peer::record::CHANNELS;
-use peer::record::Channel;
-use peer::record::Lists;
+use parts::groups::CHANNELS;
+use parts::groups::Channel;
+use parts::groups::Lists;
 use slots::INCOMING;
 use slots::OUTGOING;
 

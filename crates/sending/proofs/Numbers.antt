@@ -16,10 +16,10 @@ use Rattle.numbers.specs.declared.counters.Unreliable.{Unreliable}
 use Rattle.slots.specs.Lists.{outgoing}
 use Rattle.slots.specs.Free.{lowest}
 use Rattle.slots.specs.declared.Free.the-variants.{Lowest}
-use Rattle.peer.specs.Fresh.{noChannel, noOutgoing, channels}
-use Rattle.peer.specs.Damage.{usedOut}
+use Rattle.parts.specs.Fresh.{noChannel, noOutgoing, channels}
+use Rattle.parts.specs.Damage.{usedOut}
 use Rattle.peer.specs.declared.record.Peer.{Peer}
-use Rattle.peer.specs.declared.record.Channel.{Channel}
+use Rattle.parts.specs.declared.groups.Channel.{Channel}
 use Rattle.stamps.specs.Counting.{itself, channelAt}
 use Rattle.setup.specs.Queueing.{stampOf, queuedAt, queued}
 use Rattle.setup.specs.Taking.{filled, Ready}

@@ -7,7 +7,7 @@ use mathlib.Core.List.{List, [], _∷_}
 use lib.Dec.{leb}
 use lib.ListN.{length}
 use borrow.Author.Tests.{le-leb, lt-leb}
-use Rattle.peer.specs.declared.record.Channel.{Channel}
+use Rattle.parts.specs.declared.groups.Channel.{Channel}
 use Rattle.peer.specs.declared.record.Peer.{Peer}
 use Rattle.stamps.specs.Counting.{channelAt}
 use Rattle.setup.specs.Queueing.{room, queuedAll}

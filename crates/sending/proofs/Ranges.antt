@@ -6,7 +6,8 @@ use native.Mathlib.Omega.{arith}
 use lib.Dec.{leb}
 use borrow.Author.Tests.{leb-true}
 use Rattle.numbers.proofs.BoolLaws.{both-left, both-right}
-use Rattle.peer.specs.Damage.{sound, ranged}
+use Rattle.parts.specs.Damage.{ranged}
+use Rattle.peer.specs.Damage.{sound}
 use Rattle.peer.specs.declared.record.Peer.{Peer}
 use Rattle.sending.specs.Packets.{fragmentLength}
 

@@ -13,7 +13,7 @@ use Rattle.command.specs.declared.fields.Command.{Command}
 use Rattle.command.specs.declared.fields.Fragment.{Fragment}
 use Rattle.command.specs.declared.fields.Fields.{Fields}
 use Rattle.command.specs.declared.fields.Fields.the-variants.{SendReliable, SendUnreliable, SendFragment, SendUnsequenced, SendUnreliableFragment}
-use Rattle.peer.specs.declared.record.Channel.{Channel}
+use Rattle.parts.specs.declared.groups.Channel.{Channel}
 use Rattle.stamps.specs.declared.pieces.Piece.{Piece}
 use Rattle.sending.specs.declared.packets.Start.{Start}
 use Rattle.sending.specs.declared.packets.Start.the-variants.{Acknowledged, Loose}

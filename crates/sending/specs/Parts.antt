@@ -7,7 +7,7 @@ use lib.Dec.{leb}
 use lib.ListN.{take}
 use Rattle.numbers.specs.Pick.{pick}
 use Rattle.peer.specs.declared.record.Peer.{Peer}
-use Rattle.peer.specs.declared.record.Outgoing.{Outgoing}
+use Rattle.parts.specs.declared.groups.Outgoing.{Outgoing}
 use Rattle.stamps.specs.Counting.{channelAt}
 use Rattle.stamps.specs.declared.pieces.Piece.{Piece}
 use Rattle.setup.specs.Queueing.{queuedAll}

@@ -12,7 +12,7 @@ use numbers::bits;
 use numbers::counters::Group;
 use numbers::counters::Reliable;
 use numbers::counters::Unreliable;
-use peer::record::Channel;
+use parts::groups::Channel;
 use peer::record::Peer;
 use setup::queueing;
 use stamps::pieces::Piece;

@@ -19,14 +19,15 @@ use Rattle.slots.specs.declared.outgoing.OutList.{OutList}
 use Rattle.slots.proofs.Keeps.{one, times, times-append, none-times, once-at-most, once-same, exist-same, once-less, exist-less}
 use Rattle.slots.proofs.Views.{out-items-keep}
 use Rattle.slots.proofs.Lowest.{free-and-named}
-use Rattle.peer.specs.Fresh.{noOutgoing}
-use Rattle.peer.specs.Damage.{sound, usedOut}
+use Rattle.parts.specs.Fresh.{noOutgoing}
+use Rattle.parts.specs.Damage.{usedOut}
+use Rattle.peer.specs.Damage.{sound}
 use Rattle.peer.specs.Settings.{fitSettings}
 use Rattle.peer.specs.Calls.{unchanged}
 use Rattle.peer.specs.declared.settings.Settings.{Settings}
 use Rattle.peer.specs.declared.record.Peer.{Peer}
-use Rattle.peer.specs.declared.record.Lists.{Lists}
-use Rattle.peer.specs.declared.record.Outgoing.{Outgoing}
+use Rattle.parts.specs.declared.groups.Lists.{Lists}
+use Rattle.parts.specs.declared.groups.Outgoing.{Outgoing}
 use Rattle.stamps.specs.Counting.{asks}
 use Rattle.stamps.specs.Room.{roomIn}
 use Rattle.setup.specs.Queueing.{longer, room}

@@ -13,10 +13,11 @@ use Rattle.slots.specs.Lists.{outgoing, outItems}
 use Rattle.slots.specs.Runs.{first}
 use Rattle.slots.specs.declared.First.the-variants.{Slot}
 use Rattle.slots.proofs.Keeps.{times, times-append, exist-below}
-use Rattle.peer.specs.Fresh.{noOutgoing}
-use Rattle.peer.specs.Damage.{sound, outFit, usedOut}
+use Rattle.parts.specs.Fresh.{noOutgoing}
+use Rattle.parts.specs.Damage.{outFit, usedOut}
+use Rattle.peer.specs.Damage.{sound}
 use Rattle.peer.specs.declared.record.Peer.{Peer}
-use Rattle.peer.specs.declared.record.Lists.{Lists}
+use Rattle.parts.specs.declared.groups.Lists.{Lists}
 use Rattle.peer.proofs.Parts.{sound-parts, all-at}
 use Rattle.sendstep.specs.Steps.{listOf, head}
 use Rattle.sendstep.specs.declared.heads.Queue.{Queue}

@@ -12,14 +12,14 @@ use Rattle.numbers.specs.Wrapping.{waits}
 use Rattle.slots.specs.Lists.{outItems, outKeep}
 use Rattle.slots.specs.Runs.{without}
 use Rattle.slots.specs.declared.outgoing.OutList.{OutList}
-use Rattle.peer.specs.Fresh.{noOutgoing}
+use Rattle.parts.specs.Fresh.{noOutgoing}
 use Rattle.peer.specs.declared.record.Peer.{Peer}
-use Rattle.peer.specs.declared.record.Times.{Times}
-use Rattle.peer.specs.declared.record.Loss.{Loss}
-use Rattle.peer.specs.declared.record.Trips.{Trips}
-use Rattle.peer.specs.declared.record.Flow.{Flow}
-use Rattle.peer.specs.declared.record.Lists.{Lists}
-use Rattle.peer.specs.declared.record.Outgoing.{Outgoing}
+use Rattle.parts.specs.declared.groups.Times.{Times}
+use Rattle.parts.specs.declared.groups.Loss.{Loss}
+use Rattle.parts.specs.declared.groups.Trips.{Trips}
+use Rattle.parts.specs.declared.groups.Flow.{Flow}
+use Rattle.parts.specs.declared.groups.Lists.{Lists}
+use Rattle.parts.specs.declared.groups.Outgoing.{Outgoing}
 use Rattle.stamps.specs.Counting.{asks}
 use Rattle.setup.specs.Queueing.{longer}
 use Rattle.sendstep.specs.declared.heads.Queue.{Queue}

@@ -17,10 +17,11 @@ use Rattle.slots.specs.declared.Free.the-variants.{Lowest}
 use Rattle.slots.proofs.Keeps.{one, times, times-append, times-pushed, once-more, exist-more}
 use Rattle.slots.proofs.Views.{out-items-keep}
 use Rattle.slots.proofs.Lowest.{lowest-exists, lowest-free, free-and-named}
-use Rattle.peer.specs.Damage.{sound, ranged, listsFit, heldFit, below, all, outFit, tried, inSound, usedOut}
+use Rattle.parts.specs.Damage.{ranged, listsFit, heldFit, below, all, outFit, tried, inSound, usedOut}
+use Rattle.peer.specs.Damage.{sound}
 use Rattle.peer.specs.declared.record.Peer.{Peer}
-use Rattle.peer.specs.declared.record.Lists.{Lists}
-use Rattle.peer.specs.declared.record.Channel.{Channel}
+use Rattle.parts.specs.declared.groups.Lists.{Lists}
+use Rattle.parts.specs.declared.groups.Channel.{Channel}
 use Rattle.peer.proofs.Parts.{Parts}
 use Rattle.setup.specs.Queueing.{longer, toReliable, joined}
 use Rattle.stamps.specs.declared.pieces.Piece.{Piece}

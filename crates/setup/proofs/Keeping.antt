@@ -25,16 +25,17 @@ use Rattle.slots.specs.declared.outgoing.OutList.{OutList}
 use Rattle.slots.specs.declared.incoming.InList.{InList}
 use Rattle.slots.proofs.Keeps.{times, times-append, times-none}
 use Rattle.slots.proofs.Lengths.{pushed-fits}
-use Rattle.peer.specs.Fresh.{noChannel, noOutgoing, noIncoming}
-use Rattle.peer.specs.Damage.{sound, listsFit, heldFit, held, below, all, own, lengths, outFit, tried, inFit, inSound, usedOut, usedIn}
+use Rattle.parts.specs.Fresh.{noChannel, noOutgoing, noIncoming}
+use Rattle.parts.specs.Damage.{listsFit, heldFit, held, below, all, own, lengths, outFit, tried, inFit, inSound, usedOut, usedIn}
+use Rattle.peer.specs.Damage.{sound}
 use Rattle.peer.specs.Calls.{Whole, Sounds, unchanged, finished}
 use Rattle.peer.specs.declared.settings.Settings.{Settings}
 use Rattle.peer.specs.declared.record.Peer.{Peer}
-use Rattle.peer.specs.declared.record.Lists.{Lists}
-use Rattle.peer.specs.declared.record.Standing.{Standing}
-use Rattle.peer.specs.declared.record.Channel.{Channel}
-use Rattle.peer.specs.declared.record.Outgoing.{Outgoing}
-use Rattle.peer.specs.declared.record.Incoming.{Incoming}
+use Rattle.parts.specs.declared.groups.Lists.{Lists}
+use Rattle.parts.specs.declared.groups.Standing.{Standing}
+use Rattle.parts.specs.declared.groups.Channel.{Channel}
+use Rattle.parts.specs.declared.groups.Outgoing.{Outgoing}
+use Rattle.parts.specs.declared.groups.Incoming.{Incoming}
 use Rattle.peer.proofs.Sound.{gated-sounds}
 use Rattle.peer.proofs.Parts.{Parts, sound-parts, parts-sound, all-at, at-all}
 use Rattle.stamps.specs.Counting.{channelAt, numbered}

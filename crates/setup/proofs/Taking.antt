@@ -20,13 +20,14 @@ use Rattle.slots.specs.declared.Free.the-variants.{Lowest, Full}
 use Rattle.slots.proofs.Keeps.{has-times}
 use Rattle.slots.proofs.Lowest.{lowest-exists, lowest-free, free-and-named}
 use Rattle.peer.specs.Settings.{fitSettings}
-use Rattle.peer.specs.Fresh.{noOutgoing}
-use Rattle.peer.specs.Damage.{sound, usedOut}
+use Rattle.parts.specs.Fresh.{noOutgoing}
+use Rattle.parts.specs.Damage.{usedOut}
+use Rattle.peer.specs.Damage.{sound}
 use Rattle.peer.specs.Calls.{Outcome, Whole, finished, unchanged}
 use Rattle.peer.specs.declared.settings.Settings.{Settings}
 use Rattle.peer.specs.declared.record.Peer.{Peer}
-use Rattle.peer.specs.declared.record.Lists.{Lists}
-use Rattle.peer.specs.declared.record.Outgoing.{Outgoing}
+use Rattle.parts.specs.declared.groups.Lists.{Lists}
+use Rattle.parts.specs.declared.groups.Outgoing.{Outgoing}
 use Rattle.peer.proofs.Parts.{sound-parts}
 use Rattle.stamps.specs.Room.{roomIn}
 use Rattle.setup.specs.Queueing.{room, joined, made, queuedAt, queuedIn, queued, queuedAll}

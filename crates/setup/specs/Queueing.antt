@@ -11,15 +11,15 @@ use Rattle.slots.specs.Free.{lowest}
 use Rattle.slots.specs.declared.Free.{Free}
 use Rattle.slots.specs.declared.Free.the-variants.{Lowest, Full}
 use Rattle.slots.specs.declared.outgoing.OutList.{OutList}
-use Rattle.peer.specs.Damage.{usedOut}
+use Rattle.parts.specs.Damage.{usedOut}
 use Rattle.peer.specs.declared.record.Peer.{Peer}
-use Rattle.peer.specs.declared.record.Totals.{Totals}
-use Rattle.peer.specs.declared.record.Flow.{Flow}
-use Rattle.peer.specs.declared.record.Lists.{Lists}
-use Rattle.peer.specs.declared.record.Groups.{Groups}
-use Rattle.peer.specs.declared.record.Waiting.{Waiting}
-use Rattle.peer.specs.declared.record.Channel.{Channel}
-use Rattle.peer.specs.declared.record.Outgoing.{Outgoing}
+use Rattle.parts.specs.declared.groups.Totals.{Totals}
+use Rattle.parts.specs.declared.groups.Flow.{Flow}
+use Rattle.parts.specs.declared.groups.Lists.{Lists}
+use Rattle.parts.specs.declared.groups.Groups.{Groups}
+use Rattle.parts.specs.declared.groups.Waiting.{Waiting}
+use Rattle.parts.specs.declared.groups.Channel.{Channel}
+use Rattle.parts.specs.declared.groups.Outgoing.{Outgoing}
 use Rattle.stamps.specs.Counting.{asks, stamped, countersAt, numbered}
 use Rattle.stamps.specs.Pieces.{slotOf, grown}
 use Rattle.stamps.specs.Room.{roomIn}

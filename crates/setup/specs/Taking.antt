@@ -11,11 +11,12 @@ use Rattle.slots.specs.Runs.{has}
 use Rattle.slots.specs.Free.{lowest}
 use Rattle.slots.specs.declared.Free.{Free}
 use Rattle.slots.specs.declared.Free.the-variants.{Lowest, Full}
-use Rattle.peer.specs.Damage.{sound, usedOut}
+use Rattle.parts.specs.Damage.{usedOut}
+use Rattle.peer.specs.Damage.{sound}
 use Rattle.peer.specs.Calls.{Whole}
 use Rattle.peer.specs.declared.settings.Settings.{Settings}
 use Rattle.peer.specs.declared.record.Peer.{Peer}
-use Rattle.peer.specs.declared.record.Outgoing.{Outgoing}
+use Rattle.parts.specs.declared.groups.Outgoing.{Outgoing}
 use Rattle.setup.specs.Queueing.{room, made, queued}
 use Rattle.setup.specs.Calls.{onChannel, setsUp}
 use Rattle.stamps.specs.declared.pieces.Piece.{Piece}

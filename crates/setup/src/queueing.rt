@@ -2,8 +2,8 @@
 ghost use mathlib.Core.Path.{_≡_};
 ghost use lib.ListN.{set};
 ghost use Rattle.setup.specs.Queueing.{joined, queuedAt, queued, stampOf};
-use peer::record::Lists;
-use peer::record::Outgoing;
+use parts::groups::Lists;
+use parts::groups::Outgoing;
 use peer::record::Peer;
 use slots::Free;
 use slots::OUTGOING;

@@ -7,7 +7,7 @@ use native.Mathlib.Nat.{not-suc-le-zero, le-of-suc-le-suc}
 use lib.Dec.{eqb}
 use lib.ListN.{length, getD}
 use Rattle.numbers.specs.Pick.{pick}
-use Rattle.peer.specs.declared.record.Channel.{Channel}
+use Rattle.parts.specs.declared.groups.Channel.{Channel}
 use Rattle.stamps.specs.Counting.{channelAt, unreliableStep, restStep}
 use Rattle.stamps.specs.declared.counting.Counters.{Counters}
 

@@ -10,8 +10,8 @@ use Rattle.numbers.specs.Counters.{step}
 use Rattle.numbers.specs.declared.counters.Reliable.{Reliable}
 use Rattle.numbers.specs.declared.counters.Unreliable.{Unreliable}
 use Rattle.numbers.specs.declared.counters.Group.{Group}
-use Rattle.peer.specs.Fresh.{noChannel}
-use Rattle.peer.specs.declared.record.Channel.{Channel}
+use Rattle.parts.specs.Fresh.{noChannel}
+use Rattle.parts.specs.declared.groups.Channel.{Channel}
 use Rattle.stamps.specs.declared.counting.Counters.{Counters}
 use Rattle.stamps.specs.declared.counting.Stamped.{Stamped}
 

@@ -7,7 +7,7 @@ use Rattle.numbers.specs.declared.counters.Group.{Group}
 use Rattle.command.specs.Layout.{sizeOf}
 use Rattle.command.specs.declared.fields.Fields.{Fields}
 use Rattle.command.specs.declared.fields.Fields.the-variants as vr
-use Rattle.peer.specs.declared.record.Outgoing.{Outgoing}
+use Rattle.parts.specs.declared.groups.Outgoing.{Outgoing}
 use Rattle.stamps.specs.declared.counting.Stamped.{Stamped}
 use Rattle.stamps.specs.declared.pieces.Piece.{Piece}
 

@@ -2,8 +2,8 @@
 use Prim.Native.Nat.{ℕ}
 use Rattle.slots.specs.Lists.{outgoing}
 use Rattle.slots.specs.Free.{howMany}
-use Rattle.peer.specs.Damage.{usedOut}
-use Rattle.peer.specs.declared.record.Lists.{Lists}
+use Rattle.parts.specs.Damage.{usedOut}
+use Rattle.parts.specs.declared.groups.Lists.{Lists}
 
 abbrev pub roomIn : Lists → ℕ
 roomIn l = howMany outgoing (usedOut l)

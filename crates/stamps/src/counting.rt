@@ -5,8 +5,8 @@ use numbers::bits;
 use numbers::counters::Group;
 use numbers::counters::Reliable;
 use numbers::counters::Unreliable;
-use peer::record::CHANNELS;
-use peer::record::Channel;
+use parts::groups::CHANNELS;
+use parts::groups::Channel;
 
 // The counters that setting up may step: the peer's own, a channel's two, the peer's group.
 pub struct Counters {

@@ -7,7 +7,7 @@ use command::fields::Fields;
 use command::layout;
 use numbers::counters::Group;
 use numbers::counters::Unreliable;
-use peer::record::Outgoing;
+use parts::groups::Outgoing;
 
 // What setting up is given: a command, whether a packet goes with it, and which part of the packet.
 pub struct Piece {

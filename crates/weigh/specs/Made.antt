@@ -9,15 +9,16 @@ use Rattle.command.specs.declared.fields.Fields.the-variants.{Ping}
 use Rattle.slots.specs.Lists.{outgoing, incoming}
 use Rattle.slots.specs.declared.outgoing.OutList.{OutList}
 use Rattle.slots.specs.declared.incoming.InList.{InList}
-use Rattle.peer.specs.Fresh.{freshPeer, noOut}
+use Rattle.parts.specs.Fresh.{noOut}
+use Rattle.peer.specs.Fresh.{freshPeer}
 use Rattle.peer.specs.Damage.{sound}
 use Rattle.peer.specs.Calls.{Outcome, placed}
 use Rattle.peer.specs.declared.record.Peer.{Peer}
-use Rattle.peer.specs.declared.record.Lists.{Lists}
-use Rattle.peer.specs.declared.record.Outgoing.{Outgoing}
-use Rattle.peer.specs.declared.record.Incoming.{Incoming}
-use Rattle.peer.specs.declared.record.Standing.{Standing}
-use Rattle.peer.specs.declared.record.Waiting.{Waiting}
+use Rattle.parts.specs.declared.groups.Lists.{Lists}
+use Rattle.parts.specs.declared.groups.Outgoing.{Outgoing}
+use Rattle.parts.specs.declared.groups.Incoming.{Incoming}
+use Rattle.parts.specs.declared.groups.Standing.{Standing}
+use Rattle.parts.specs.declared.groups.Waiting.{Waiting}
 use Rattle.peer.specs.declared.defaults.Kept.{Kept}
 use Rattle.peer.specs.declared.settings.Settings.{Settings}
 

@@ -1,6 +1,7 @@
 -- The test picks the record, and the constant is the record written out.
 use borrow.Author.Tests.{eq-eqb, ne-eqb}
-use Rattle.peer.specs.Fresh.{freshPeer, noLists, noChannel, noOutgoing, noIncoming}
+use Rattle.parts.specs.Fresh.{noLists, noChannel, noOutgoing, noIncoming}
+use Rattle.peer.specs.Fresh.{freshPeer}
 use Rattle.weigh.specs.Made.{emptyPeer, fullPeer, fullLists, fullSent, fullDispatched, fullOutgoing, fullIncoming}
 use Rattle.weigh.proofs.made.Statement.{statement}
 use Rattle.weigh.proofs.made.Tie as tie

@@ -1,5 +1,5 @@
 use mathlib.Core.Path.{refl}
-use Rattle.peer.specs.Fresh.{noIncoming}
+use Rattle.parts.specs.Fresh.{noIncoming}
 use Rattle.peer.proofs.defaults.no_incoming.Statement.{statement}
 use Rattle.peer.proofs.defaults.no_incoming.Tie as tie
 use Rattle.peer.proofs.defaults.no_incoming.Reads as reads

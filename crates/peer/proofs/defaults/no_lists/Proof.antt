@@ -1,5 +1,5 @@
 use mathlib.Core.Path.{refl}
-use Rattle.peer.specs.Fresh.{noLists}
+use Rattle.parts.specs.Fresh.{noLists}
 use Rattle.peer.proofs.defaults.no_lists.Statement.{statement}
 use Rattle.peer.proofs.defaults.no_lists.Tie as tie
 use Rattle.peer.proofs.defaults.no_lists.Reads as reads

@@ -1,5 +1,5 @@
 use mathlib.Core.Path.{refl}
-use Rattle.peer.specs.Fresh.{noOutgoing}
+use Rattle.parts.specs.Fresh.{noOutgoing}
 use Rattle.peer.proofs.defaults.no_outgoing.Statement.{statement}
 use Rattle.peer.proofs.defaults.no_outgoing.Tie as tie
 use Rattle.peer.proofs.defaults.no_outgoing.Reads as reads

@@ -6,8 +6,8 @@ use native.Mathlib.Omega.{arith}
 use lib.ListN.{length, getD}
 use lib.Seq.{drop-cons}
 use borrow.Author.Needs.{needs}
-use Rattle.peer.specs.Fresh.{noChannel}
-use Rattle.peer.specs.declared.record.Channel.{Channel}
+use Rattle.parts.specs.Fresh.{noChannel}
+use Rattle.parts.specs.declared.groups.Channel.{Channel}
 use Rattle.sending.proofs.calls.channel_at.Statement.{statement}
 use Rattle.sending.proofs.calls.channel_at.Tie as tie
 

@@ -4,7 +4,7 @@ use Rattle.slots.specs.Lists.{outItems}
 use Rattle.slots.specs.Runs.{first}
 use Rattle.slots.specs.declared.First.{First}
 use Rattle.slots.specs.declared.outgoing.OutList.{OutList}
-use Rattle.peer.specs.declared.record.Lists.{Lists}
+use Rattle.parts.specs.declared.groups.Lists.{Lists}
 use Rattle.sendstep.specs.Steps.{listOf}
 use Rattle.sendstep.specs.declared.heads.Queue.{Queue}
 use Rattle.sendstep.proofs.Named.{head-exists, head-named}

@@ -1,5 +1,5 @@
 -- `head` meets its contract: the slot as it stands in the pool, attempted.
-use Rattle.peer.specs.Fresh as fresh
+use Rattle.parts.specs.Fresh as fresh
 use borrow.Author.Needs.{needs}
 use Rattle.sendstep.proofs.heads.head.Statement.{statement}
 use Rattle.sendstep.proofs.heads.head.Tie as tie

@@ -3,7 +3,7 @@ use mathlib.Core.Path.{_≡_}
 use native.Mathlib.Omega.{arith}
 use lib.ListN.{length, List·getD-eq-default}
 use borrow.Author.Needs.{needs}
-use Rattle.peer.specs.Fresh.{noChannel}
+use Rattle.parts.specs.Fresh.{noChannel}
 use Rattle.stamps.proofs.CountLaws.{channel-here}
 use Rattle.stamps.proofs.counting.gather.Statement.{statement}
 use Rattle.stamps.proofs.counting.gather.Tie as tie

@@ -2,7 +2,7 @@
 use borrow.Author.Needs.{needs}
 use Rattle.slots.specs.Lists.{outgoing}
 use Rattle.slots.proofs.Marked.{marked-lowest}
-use Rattle.peer.specs.Damage.{usedOut}
+use Rattle.parts.specs.Damage.{usedOut}
 use Rattle.stamps.proofs.room.free.Statement.{statement}
 use Rattle.stamps.proofs.room.free.Tie as tie
 

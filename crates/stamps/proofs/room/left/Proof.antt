@@ -4,7 +4,7 @@ use lib.ListN.{length}
 use borrow.Author.Needs.{needs}
 use Rattle.slots.specs.Lists.{outgoing}
 use Rattle.slots.proofs.Marked.{marked-count}
-use Rattle.peer.specs.Damage.{usedOut}
+use Rattle.parts.specs.Damage.{usedOut}
 use Rattle.stamps.proofs.room.left.Statement.{statement}
 use Rattle.stamps.proofs.room.left.Tie as tie
 

@@ -1,9 +1,7 @@
 -- `is_sound` asks for each part of the rule in turn: the first that fails answers.
-use mathlib.Core.Path.{sym, _∙_}
 use borrow.Author.Needs.{needs}
 use borrow.Author.Tests.{not-true, not-false}
 use Rattle.peer.specs.Damage.{sound}
-use Rattle.peer.proofs.PoolLaws.{few}
 use Rattle.peer.proofs.record.Peer.is_sound.Statement.{statement}
 use Rattle.peer.proofs.record.Peer.is_sound.Tie as tie
 
@@ -15,10 +13,7 @@ unfolding sound
 returns c = rw (← c .before .is-ranged .ensures, not-true (c .before .is-ranged .result) (c .if1 .taken))
 
 lists-fit-requires : tie.Need-lists-fit-requires
-lists-fit-requires c κs =
-    let m = c .before .before .before in
-    let a = c .before .before .before .before .before .before .args .self in
-    few (a .flow .mtu) (a .standing .count) (sym (m .is-ranged .ensures) ∙ not-false (m .is-ranged .result) (c .before .before .if1 .left))
+lists-fit-requires c κs = search needs
 
 returns-2 : tie.Need-returns-2
 unfolding sound
@@ -42,10 +37,7 @@ returns-3 c =
     rw (← m .is-ranged .ensures, in-range, ← x .lists-fit .ensures, fit, ← y .out-sound .ensures, not-true (y .out-sound .result) (c .if3 .taken))
 
 in-sound-requires : tie.Need-in-sound-requires
-in-sound-requires c κs =
-    let m = c .before .before .before .before .before .before .before .before .before .before in
-    let a = c .before .before .before .before .before .before .before .before .before .before .before .before .before .args .self in
-    few (a .flow .mtu) (a .standing .count) (sym (m .is-ranged .ensures) ∙ not-false (m .is-ranged .result) (c .before .before .before .before .before .before .before .before .before .if1 .left))
+in-sound-requires c κs = search needs
 
 returns-4 : tie.Need-returns-4
 unfolding sound
