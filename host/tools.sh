@@ -2,6 +2,7 @@
 out=$top/target/host
 target=x86_64-unknown-linux-gnu
 machine=$(uname -m)
+source=${ENET_SRC:-$top/../shared/docs/src/src}
 
 say() { printf 'host: %s\n' "$*" >&2; }
 has_std() { [ -d "$("$1" --print target-libdir --target "$target" 2>/dev/null)" ]; }
@@ -36,6 +37,8 @@ install() {
     fi
 }
 
+need_source() { [ -d "$source" ] || { say "the Rust is not at hand: no $source"; exit 2; }; }
+
 # installs what is missing, or names it
 need_tools() {
     command -v rt >/dev/null || { say "rt is not on the PATH"; exit 2; }
@@ -52,3 +55,11 @@ need_library() {
 flags=(--edition 2021 -O)
 # cross WORD..: rustc for the target
 cross() { "$rustc" "${flags[@]}" --target "$target" -C "linker=$linker" "$@"; }
+
+# the source as a library for the target, at the same level as ours
+build_enet() {
+    rustc "${flags[@]}" -o "$out/prepare" "$top/oracle/enet/prepare/main.rs"
+    rm -rf "$out/tree"
+    "$out/prepare" "$source" "$out/tree"
+    ENET_TREE=$out/tree cross --crate-type rlib --crate-name enet -o "$out/libenet.rlib" "$top/oracle/enet/src/lib.rs"
+}

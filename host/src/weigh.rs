@@ -1,10 +1,11 @@
-//! The calls on a peer's record: the deepest stack of each by a painted stack, and the time of the damage test.
+//! The calls on a peer's record: the deepest stack of each by a painted stack, and the time; send and step beside the source's send.
 
 #![no_main] // the ordinary runtime may crash at exit under the emulator
 
 mod clock;
 mod paint;
 mod record;
+mod sends;
 
 extern "C" {
     fn weigh_make(full: u32, state: u32) -> u32;
@@ -58,7 +59,12 @@ const CALLS: [Weighed; 5] = [
     },
 ];
 
-const TURNS: u32 = 20_000;
+/// The place of sound among the calls.
+const SOUND: usize = 1;
+
+/// Every time is the least of so many rounds, each of so many calls: other work on the machine can only add.
+const ROUNDS: usize = 20;
+const TURNS: usize = 500;
 
 #[no_mangle]
 pub extern "C" fn main(_count: i32, _words: *const *const std::ffi::c_char) -> i32 {
@@ -76,20 +82,32 @@ pub extern "C" fn main(_count: i32, _words: *const *const std::ffi::c_char) -> i
             weighed.name, stacks[0], stacks[1]
         );
     }
-    for weighed in &CALLS {
-        let times = [0, 1].map(|full| nanoseconds(weighed, full));
+    wrong += sends::print_stacks();
+    let times = CALLS
+        .each_ref()
+        .map(|weighed| [0, 1].map(|full| nanoseconds(weighed, full)));
+    for (weighed, [empty, full]) in CALLS.iter().zip(times) {
         println!(
-            "{}: {:.0} ns a call empty, {:.0} full",
-            weighed.name, times[0], times[1]
+            "{}: {empty:.0} ns a call empty, {full:.0} full",
+            weighed.name
         );
     }
+    let [empty, _] = times[SOUND];
+    wrong += sends::print_times(empty);
     println!("{wrong} wrong answers");
     i32::from(wrong > 0)
 }
 
 fn nanoseconds(weighed: &Weighed, full: u32) -> f64 {
-    let inputs = vec![full; TURNS as usize];
-    clock::time(&inputs, |full| unsafe {
-        (weighed.call)(*full, weighed.number)
-    })
+    repeated(full, |full| unsafe { (weighed.call)(full, weighed.number) })
+}
+
+/// Nanoseconds of a call with one input.
+fn repeated(input: u32, call: impl Fn(u32) -> u32) -> f64 {
+    let inputs = [input; TURNS];
+    least(|| clock::time(&inputs, |input| call(*input)))
+}
+
+fn least(mut round: impl FnMut() -> f64) -> f64 {
+    (0..ROUNDS).map(|_| round()).fold(f64::INFINITY, f64::min)
 }

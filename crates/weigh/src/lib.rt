@@ -251,7 +251,7 @@ const HUNDRED: Incoming = Incoming {
     length: 100,
 };
 
-const EMPTY: Peer = Peer {
+pub const EMPTY: Peer = Peer {
     ids: Ids {
         outgoing_peer: Peer::OUTGOING_PEER,
         incoming_peer: 0,

@@ -16,5 +16,6 @@ pub use door::{
     pack::Packed,
     send::{Limits, Packet},
     throttle::Throttle,
+    timed::{Made, Sender},
     window::{Verdict, Window},
 };

@@ -14,4 +14,5 @@ mod reset;
 pub(crate) mod send;
 mod setup;
 pub(crate) mod throttle;
+pub(crate) mod timed;
 pub(crate) mod window;

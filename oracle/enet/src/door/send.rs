@@ -40,7 +40,7 @@ impl Bench {
 }
 
 /// The number of a reply in document 01.
-fn number(returned: Result<(), PeerSendError>) -> u32 {
+pub(crate) fn number(returned: Result<(), PeerSendError>) -> u32 {
     match returned {
         Ok(()) => 0,
         Err(PeerSendError::NotConnected) => 1,
@@ -60,7 +60,7 @@ unsafe fn limit(host: *mut ENetHost<Silent>, limits: Limits) {
 }
 
 /// A packet of this length without bytes, so that one of a gigabyte takes no room; no send reads them.
-unsafe fn made(packet: Packet) -> *mut ENetPacket {
+pub(crate) unsafe fn made(packet: Packet) -> *mut ENetPacket {
     let made = enet_packet_create(null(), 0, packet.flags);
     (*made).data_length = packet.length as usize;
     made
