@@ -2,14 +2,13 @@
 -- The argument: equal answers have equal numbers and equal values.
 use mathlib.Core.Path.{_≡_, refl, ap, sym, _∙_}
 use mathlib.Core.Bool.{Bool, true, false}
-use mathlib.Core.List.{List, [], _∷_}
-use Prim.Native.Nat.{ℕ, _+_, _-_, _<_, _≤_}
+use mathlib.Core.List.{List, _∷_}
+use Prim.Native.Nat.{ℕ, _+_, _-_, _≤_}
 use native.Mathlib.Omega.{arith}
 use lib.Dec.{leb}
 use lib.ListN.{getD, drop}
 use borrow.Author.Tests.{leb-true}
-use Rattle.numbers.specs.Pick.{pick}
-use Rattle.numbers.specs.Answers.{Answer, done, refused}
+use Rattle.numbers.specs.Answers.{Answer, done}
 use Rattle.command.specs.Layout.{layout, total, sizeOf}
 use Rattle.command.specs.Bytes.{rowAt}
 use Rattle.command.specs.Rows.{kindOf, rowOf, pad}

@@ -1,6 +1,6 @@
 -- The loops over words of four bytes, for any number n of them: what is read and what is left make the whole row, and what is
 -- left to write leads to the same bytes. The argument: one word off the row's head at a time.
-use mathlib.Core.Path.{_≡_, refl, ap, sym, _∙_}
+use mathlib.Core.Path.{_≡_, ap, sym, _∙_}
 use mathlib.Core.List.{List, [], _∷_, _++_, append-assoc, append-nil}
 use Prim.Native.Nat.{ℕ, suc, _+_, _*_, _-_, _≤_, _<_}
 use native.Mathlib.Numerals.{add-one}

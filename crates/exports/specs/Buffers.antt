@@ -2,11 +2,11 @@
 -- one of another length is refused with 11 and stays as it was.
 use Prim.Native.Nat.{ℕ, _+_, _*_}
 use mathlib.Core.Path.{_≡_}
-use mathlib.Core.List.{List, [], _∷_}
+use mathlib.Core.List.{List, _∷_}
 use lib.Dec.{eqb}
 use lib.ListN.{length, replicate}
 use Rattle.numbers.specs.Pick.{pick}
-use Rattle.numbers.specs.Answers.{Answer, done, refused}
+use Rattle.numbers.specs.Answers.{refused}
 use Rattle.throttle.specs.Throttling as throttle
 use Rattle.throttle.specs.declared.Throttle.{Throttle}
 use Rattle.window.specs.Window as window

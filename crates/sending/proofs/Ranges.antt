@@ -9,6 +9,7 @@ use Rattle.numbers.proofs.BoolLaws.{both-left, both-right}
 use Rattle.parts.specs.Damage.{ranged}
 use Rattle.peer.specs.Damage.{sound}
 use Rattle.peer.specs.declared.record.Peer.{Peer}
+use Rattle.parts.specs.Fresh.{channels}
 use Rattle.sending.specs.Packets.{fragmentLength}
 
 module _ (p : Peer) (h : sound p ≡ true) where
@@ -22,8 +23,8 @@ module _ (p : Peer) (h : sound p ≡ true) where
   mtu-high : p .flow .mtu ≤ 4096
   mtu-high = leb-true (p .flow .mtu) 4096 (both-left (leb (p .flow .mtu) 4096) _ (both-right (leb 576 (p .flow .mtu)) _ in-range))
 
-  pub count-high : p .standing .count ≤ 8
-  count-high = leb-true (p .standing .count) 8 (both-right (leb (p .flow .mtu) 4096) _ (both-right (leb 576 (p .flow .mtu)) _ in-range))
+  pub count-high : p .standing .count ≤ channels
+  count-high = leb-true (p .standing .count) channels (both-right (leb (p .flow .mtu) 4096) _ (both-right (leb 576 (p .flow .mtu)) _ in-range))
 
   pub fragment-low : (checksum : Bool) → 1 ≤ fragmentLength (p .flow .mtu) checksum
   fragment-low true = omega (arith, mtu-low)

@@ -1,7 +1,7 @@
 -- A send that answers done found a sound record, a channel below the count and room for every command, and set them up in order.
 -- The argument: each refusal has a number other than 0, so the tests before it have passed. With setup's Taking, such a send takes as many
 -- free slots as it has commands, the lowest in order, and changes no other.
-use Prim.Native.Nat.{ℕ, _≤_}
+use Prim.Native.Nat.{ℕ}
 use mathlib.Core.Path.{_≡_, refl}
 use mathlib.Core.Bool.{Bool, true, false}
 use mathlib.Core.List.{List, [], _∷_}

@@ -1,14 +1,12 @@
 -- Which command a packet goes out as, and how a long one is cut. "The command follows the source's tests in their order; flags are
 -- 1 reliable, 2 unsequenced, 8 unreliable fragment."
 use Prim.Native.Nat.{ℕ, suc, zero, _+_, _-_, _/_, min}
-use mathlib.Core.Bool.{Bool, true, false, not}
+use mathlib.Core.Bool.{Bool, true, not}
 use mathlib.Core.List.{List, [], _∷_}
-use lib.Dec.{leb, ltb}
+use lib.Dec.{leb}
 use Rattle.numbers.specs.Pick.{pick, both}
 use Rattle.numbers.specs.Bits.{bit}
 use Rattle.numbers.specs.Counters.{step}
-use Rattle.numbers.specs.declared.counters.Reliable.{Reliable}
-use Rattle.numbers.specs.declared.counters.Unreliable.{Unreliable}
 use Rattle.command.specs.declared.fields.Command.{Command}
 use Rattle.command.specs.declared.fields.Fragment.{Fragment}
 use Rattle.command.specs.declared.fields.Fields.{Fields}

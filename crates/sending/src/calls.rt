@@ -5,6 +5,7 @@ ghost use mathlib.Core.List.{[], _∷_};
 ghost use Prim.Native.Nat.{_≤_, _<_};
 ghost use Rattle.peer.specs.Damage.{sound};
 ghost use Rattle.stamps.specs.Counting.{channelAt};
+ghost use Rattle.parts.specs.Fresh.{channels};
 ghost use Rattle.setup.specs.Replies.{Came};
 ghost use Rattle.sending.specs.Calls.{sends, sendsSound, queuesAll, queuesPacket, queuesCut, cutBy, pings, pingsSound};
 use crate::packets;
@@ -66,17 +67,17 @@ fn send_sound(peer: Peer, settings: Settings, channel: u8, length: u32, flags: u
     send_packet(peer, fragment, channel, length, flags)
 }
 
-// A sound record's count keeps the number below 8.
-fn channel_at(channels: [Channel; CHANNELS], channel: u8) -> Channel
-    requires { ⌜ channel < 8 ⌝ }
-    ensures { λ r. ⌜ r ≡ channelAt channels channel ⌝ }
+// A sound record's count keeps the number below the channels.
+fn channel_at(all: [Channel; CHANNELS], channel: u8) -> Channel
+    requires { ⌜ channel < channels ⌝ }
+    ensures { λ r. ⌜ r ≡ channelAt all channel ⌝ }
 {
-    channels[channel as usize]
+    all[channel as usize]
 }
 
 // Exactly the fragment length is one command, one more is pieces.
 fn send_packet(peer: Peer, fragment: u32, channel: u8, length: u32, flags: u32) -> Called
-    requires { ⌜ channel < 8 ⌝ }
+    requires { ⌜ channel < channels ⌝ }
     requires { ⌜ 1 ≤ fragment ⌝ }
     requires { ⌜ fragment ≤ 65535 ⌝ }
     ensures { λ r. ⌜ Came (queuesPacket fragment channel length flags peer) r ⌝ }

@@ -2,6 +2,7 @@
 ghost use mathlib.Core.Path.{_≡_};
 ghost use mathlib.Core.Bool.{true};
 ghost use Prim.Native.Nat.{_<_};
+ghost use Rattle.slots.specs.Lists.{outgoing};
 ghost use Rattle.slots.specs.declared.First.the-variants.{Slot};
 ghost use Rattle.peer.specs.Damage.{sound};
 ghost use Rattle.command.specs.Rows.{namesFields};
@@ -62,7 +63,7 @@ fn step_sound(peer: Peer, q: Queue, time: u32) -> Stepped
 }
 
 fn step_head(peer: Peer, q: Queue, s: u16, time: u32) -> Stepped
-    requires { ⌜ (s < 32) × (namesFields (head peer s time .command) ≡ true) ⌝ }
+    requires { ⌜ (s < outgoing) × (namesFields (head peer s time .command) ≡ true) ⌝ }
     ensures { λ r. ⌜ Came (stepsFrom (Slot s) q time peer) r ⌝ }
 {
     let o = heads::head(peer, s, time);

@@ -1,7 +1,7 @@
 // What sending changes: the head's slot, the lists, the peer's numbers.
 ghost use mathlib.Core.Path.{_≡_};
 ghost use Prim.Native.Nat.{_<_, _+_, min};
-ghost use Rattle.slots.specs.Lists.{outItems};
+ghost use Rattle.slots.specs.Lists.{outgoing, outItems};
 ghost use Rattle.sendstep.specs.Steps.{listOf, left, joined, attempted, counted, carrying, timed, head, sentAs};
 use numbers::wrapping;
 use parts::groups::Flow;
@@ -116,7 +116,7 @@ fn time(times: Times, sent: OutList, o: Outgoing) -> Times
 
 // Slot s as it goes out.
 pub(crate) fn head(peer: Peer, s: u16, time: u32) -> Outgoing
-    requires { ⌜ s < 32 ⌝ }
+    requires { ⌜ s < outgoing ⌝ }
     ensures { λ r. ⌜ r ≡ head peer s time ⌝ }
 {
     let pool = peer.outgoing;
@@ -127,7 +127,7 @@ pub(crate) fn head(peer: Peer, s: u16, time: u32) -> Outgoing
 
 // The record once slot s went out as o: acknowledged, or its slot free.
 pub(crate) fn send(peer: Peer, q: Queue, s: u16, o: Outgoing) -> Peer
-    requires { ⌜ s < 32 ⌝ }
+    requires { ⌜ s < outgoing ⌝ }
     ensures { λ r. ⌜ r ≡ sentAs q s o peer ⌝ }
 {
     let was = peer.lists;

@@ -5,11 +5,11 @@ use mathlib.Core.Path.{_≡_, refl, ap, _∙_}
 use mathlib.Core.List.{List, [], _∷_, _++_}
 use mathlib.Core.Bool.{Bool, true, false, not}
 use native.Mathlib.Omega.{arith}
-use lib.Dec.{ltb, eqb}
+use lib.Dec.{ltb}
 use lib.ListN.{length, length-append}
-use borrow.Author.Tests.{eqb-true, eq-eqb, lt-ltb}
-use Rattle.numbers.specs.Pick.{pick, both}
-use Rattle.numbers.proofs.BoolLaws.{both-left, both-right, both-true}
+use borrow.Author.Tests.{lt-ltb}
+use Rattle.numbers.specs.Pick.{pick}
+use Rattle.numbers.proofs.BoolLaws.{both-true}
 use Rattle.slots.specs.Lists.{outgoing, outItems}
 use Rattle.slots.specs.Runs.{has, pushed}
 use Rattle.slots.specs.Free.{lowest, exist, once}
@@ -17,11 +17,10 @@ use Rattle.slots.specs.declared.Free.the-variants.{Lowest}
 use Rattle.slots.proofs.Keeps.{one, times, times-append, times-pushed, once-more, exist-more}
 use Rattle.slots.proofs.Views.{out-items-keep}
 use Rattle.slots.proofs.Lowest.{lowest-exists, lowest-free, free-and-named}
-use Rattle.parts.specs.Damage.{ranged, listsFit, heldFit, below, all, outFit, tried, inSound, usedOut}
+use Rattle.parts.specs.Damage.{usedOut}
 use Rattle.peer.specs.Damage.{sound}
 use Rattle.peer.specs.declared.record.Peer.{Peer}
 use Rattle.parts.specs.declared.groups.Lists.{Lists}
-use Rattle.parts.specs.declared.groups.Channel.{Channel}
 use Rattle.peer.proofs.Parts.{Parts}
 use Rattle.setup.specs.Queueing.{longer, toReliable, joined}
 use Rattle.stamps.specs.declared.pieces.Piece.{Piece}

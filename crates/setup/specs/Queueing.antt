@@ -1,6 +1,6 @@
 -- "Setting up follows the source": what a piece changes in the record, and pieces one after another.
 use Prim.Native.Nat.{ℕ}
-use mathlib.Core.Bool.{Bool, true}
+use mathlib.Core.Bool.{Bool}
 use mathlib.Core.List.{List, [], _∷_}
 use lib.ListN.{set}
 use Rattle.numbers.specs.Pick.{pick, both}
@@ -13,17 +13,11 @@ use Rattle.slots.specs.declared.Free.the-variants.{Lowest, Full}
 use Rattle.slots.specs.declared.outgoing.OutList.{OutList}
 use Rattle.parts.specs.Damage.{usedOut}
 use Rattle.peer.specs.declared.record.Peer.{Peer}
-use Rattle.parts.specs.declared.groups.Totals.{Totals}
-use Rattle.parts.specs.declared.groups.Flow.{Flow}
 use Rattle.parts.specs.declared.groups.Lists.{Lists}
-use Rattle.parts.specs.declared.groups.Groups.{Groups}
-use Rattle.parts.specs.declared.groups.Waiting.{Waiting}
-use Rattle.parts.specs.declared.groups.Channel.{Channel}
 use Rattle.parts.specs.declared.groups.Outgoing.{Outgoing}
 use Rattle.stamps.specs.Counting.{asks, stamped, countersAt, numbered}
 use Rattle.stamps.specs.Pieces.{slotOf, grown}
 use Rattle.stamps.specs.Room.{roomIn}
-use Rattle.stamps.specs.declared.counting.Counters.{Counters}
 use Rattle.stamps.specs.declared.counting.Stamped.{Stamped}
 use Rattle.stamps.specs.declared.pieces.Piece.{Piece}
 

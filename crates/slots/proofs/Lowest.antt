@@ -9,7 +9,7 @@ use lib.Dec.{ltb, eqb}
 use lib.ListN.{length}
 use borrow.Author.Tests.{eqb-true, eqb-false, ltb-true, ne-eqb, not-true}
 use Rattle.numbers.proofs.BoolLaws.{both-left, both-right}
-use Rattle.numbers.specs.Pick.{pick, both}
+use Rattle.numbers.specs.Pick.{pick}
 use Rattle.slots.specs.Runs.{has}
 use Rattle.slots.specs.Free.{firstFrom, countFrom, lowest, howMany, exist, once}
 use Rattle.slots.specs.declared.Free.the-variants.{Lowest, Full}

@@ -1,6 +1,5 @@
 -- The slot that a piece fills once its counters have stepped, and how the data total grows.
 use Prim.Native.Nat.{ℕ, _+_, _%_}
-use mathlib.Core.Bool.{Bool}
 use Rattle.numbers.specs.Modulo.{sum}
 use Rattle.numbers.specs.declared.counters.Unreliable.{Unreliable}
 use Rattle.numbers.specs.declared.counters.Group.{Group}

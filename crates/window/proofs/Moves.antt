@@ -1,12 +1,12 @@
 -- What a judgement leaves: after a move nothing is marked; a taken group leaves the base at the first group of its window,
 -- a multiple of 1,024; from such a base it moved fewer than 32 windows.
 -- The argument: the tests' answers pick the rule's case, and the rest is sums and remainders.
-use mathlib.Core.Path.{_≡_, refl, ap, sym, _∙_}
+use mathlib.Core.Path.{_≡_, refl, ap, sym}
 use mathlib.Core.Bool.{Bool, true, false}
 use mathlib.Core.List.{List, [], _∷_}
-use Prim.Native.Nat.{ℕ, _+_, _-_, _*_, _/_, _%_, _≤_, _<_}
+use Prim.Native.Nat.{ℕ, _+_, _-_, _*_, _/_, _%_, _<_}
 use native.Mathlib.Omega.{arith}
-use lib.Dec.{eqb, leb, ltb}
+use lib.Dec.{eqb, ltb}
 use lib.ListN.{getD}
 use borrow.Author.Tests.{eqb-true, leb-false, ltb-true, ltb-false}
 use Rattle.numbers.specs.Pick.{pick}

@@ -1,5 +1,4 @@
 -- `distance` is document 01's two cases: each wrapping difference is the difference modulo 2^32.
-use native.Mathlib.Omega.{arith}
 use mathlib.Core.Path.{_≡_}
 use borrow.Author.Needs.{needs}
 use borrow.Author.Tests.{le-leb, lt-leb}

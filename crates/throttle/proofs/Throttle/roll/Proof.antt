@@ -1,6 +1,5 @@
 -- `roll` is the source's tests in the source's order: at each return the tests that led there pick the rule's case.
-use mathlib.Core.Path.{_≡_, sym}
-use lib.Dec.{leb, ltb}
+use mathlib.Core.Path.{sym}
 use borrow.Author.Needs.{needs}
 use borrow.Author.Tests.{le-ltb, lt-ltb, le-leb, lt-leb}
 use Rattle.throttle.proofs.Throttle.roll.Statement.{statement}

@@ -1,6 +1,5 @@
 -- `begin` passes the gate, and goes on as the rule behind it.
-use mathlib.Core.Path.{ap, _∙_, sym}
-use Rattle.peer.specs.Calls.{Outcome, beginsSound}
+use Rattle.peer.specs.Calls.{beginsSound}
 use Rattle.peer.proofs.Gates.{gate-range, gate-damage, gate-open}
 use borrow.Author.Needs.{needs}
 use Rattle.peer.proofs.record.Peer.begin.Statement.{statement}

@@ -1,6 +1,5 @@
 -- `set_state` passes the gate, and goes on as the rule behind it.
-use mathlib.Core.Path.{ap, _∙_, sym}
-use Rattle.peer.specs.Calls.{Outcome, setsStateSound}
+use Rattle.peer.specs.Calls.{setsStateSound}
 use Rattle.peer.proofs.Gates.{gate-range, gate-damage, gate-open}
 use borrow.Author.Needs.{needs}
 use Rattle.peer.proofs.record.Peer.set_state.Statement.{statement}
