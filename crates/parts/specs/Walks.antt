@@ -6,7 +6,7 @@ use mathlib.Core.List.{List, [], _∷_}
 use lib.Dec.{leb, ltb, eqb}
 use lib.ListN.{length, getD, set}
 use Rattle.numbers.specs.Pick.{pick, both}
-use Rattle.slots.specs.Free.{isMarked}
+use Rattle.slots.specs.Free.{isMarked, markedAll}
 use Rattle.slots.specs.Lists.{inItems}
 use Rattle.parts.specs.declared.groups.Channel.{Channel}
 use Rattle.parts.specs.declared.groups.Outgoing.{Outgoing}
@@ -20,14 +20,9 @@ unfoldable pub passes : (ℕ → Bool) → List ℕ → List ℕ → Bool
 passes f m [] = true
 passes f m (x ∷ xs) = both (ltb x (length m)) (both (not (isMarked m x)) (both (f x) (passes f (set m x 1) xs)))
 
--- the marks there
-unfoldable pub marked : List ℕ → List ℕ → List ℕ
-marked m [] = m
-marked m (x ∷ xs) = marked (set m x 1) xs
-
 pub record Walks (f : ℕ → Bool) (m xs : List ℕ) (ok : Bool) (after : List ℕ) : Type 0 where
   pub is : ok ≡ passes f m xs
-  pub marks : ok ≡ true → after ≡ marked m xs
+  pub marks : ok ≡ true → after ≡ markedAll m xs
 
 -- the rule's tests of one slot, which is a pool by itself here
 abbrev pub outTest : ℕ → Bool → Outgoing → Bool
@@ -53,7 +48,7 @@ unfoldable pub heldPass : List Incoming → ℕ → ℕ → List ℕ → List Ch
 heldPass slots count k m [] = true
 heldPass slots count k m (c ∷ cs) =
     both (passes (inPasses slots count true k) m (inItems (c .held)))
-    (heldPass slots count (k + 1) (marked m (inItems (c .held))) cs)
+    (heldPass slots count (k + 1) (markedAll m (inItems (c .held))) cs)
 
 -- the channels below a count: no more than there are
 abbrev pub fewest : ℕ → ℕ

@@ -6,8 +6,10 @@ use lib.ListN.{length, take, drop, length-set}
 use borrow.Author.Needs.{needs}
 use borrow.Author.Tests.{not-true, not-false}
 use Rattle.parts.specs.Fresh.{noOutgoing}
-use Rattle.parts.specs.Walks.{passes, marked, outPasses}
-use Rattle.parts.proofs.WalkLaws.{pass-past, pass-twice, pass-unfit, pass-turn, pass-end, mark-turn, mark-end, walks-stop, walks-end}
+use Rattle.slots.specs.Free.{markedAll}
+use Rattle.slots.proofs.Marked.{mark-turn, mark-end}
+use Rattle.parts.specs.Walks.{passes, outPasses}
+use Rattle.parts.proofs.WalkLaws.{pass-past, pass-twice, pass-unfit, pass-turn, pass-end, walks-stop, walks-end}
 use Rattle.parts.proofs.damage.walk_out.Statement.{statement}
 use Rattle.parts.proofs.damage.walk_out.Tie as tie
 
@@ -15,7 +17,7 @@ abbrev Inv-loop : tie.InvT-loop
 Inv-loop count sent slots n cells marks₀ j₀ marks j =
     (j ≤ n) × (length marks ≡ 32)
     × (passes (outPasses slots count sent) marks₀ (take n cells) ≡ passes (outPasses slots count sent) marks (drop j (take n cells)))
-    × (marked marks₀ (take n cells) ≡ marked marks (drop j (take n cells)))
+    × (markedAll marks₀ (take n cells) ≡ markedAll marks (drop j (take n cells)))
 
 abbrev μ-loop : tie.MeasureT-loop
 μ-loop count sent slots n cells marks₀ j₀ marks j = n - j
@@ -104,7 +106,7 @@ loop-again c =
       omega arith,
       simp length-set (m .loop .inv .1),
       m .loop .inv .2 ∙ pass-turn f (m .loop .marks) xs n (m .loop .j) (omega arith) (omega arith) (omega arith) (c .before .before .before .if2 .left) good,
-      m .loop .inv .3 ∙ mark-turn f (m .loop .marks) xs n (m .loop .j) (omega arith) (omega arith),
+      m .loop .inv .3 ∙ mark-turn (m .loop .marks) xs n (m .loop .j) (omega arith) (omega arith),
     )
 
 returns-4 : tie.Need-returns-4 Inv-loop μ-loop
