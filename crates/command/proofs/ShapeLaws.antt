@@ -12,6 +12,7 @@ use lib.Seq.{drop-cons}
 use borrow.Author.Tests.{eqb-true, ltb-true}
 use Rattle.numbers.specs.Pick.{pick, both}
 use Rattle.numbers.specs.Answers.{done, refused}
+use Rattle.numbers.specs.declared.refusals.Refusal.the-variants.{BadCommand}
 use Rattle.command.specs.Layout.{known, layout}
 use Rattle.command.specs.Rows.{kindOf, fieldsRow, fits, builtFrom}
 use Rattle.command.specs.Shapes.{shaped, shapedBy, connectBy, fragmentBy}
@@ -80,7 +81,7 @@ built-fit k xs n t =
     let p : cuts (layout k) xs 0 ≡ take (length (layout k)) xs = cuts-fit (layout k) xs 0 (omega (arith, layout-length k)) f in
     let q : shapedRow k xs ≡ k ∷ cuts (layout k) xs 0 = shaped-row k xs (known-low k kn) (known-high k kn) in
     ap done (q ∙ ap (λ (l : List ℕ). k ∷ l) p)
-    ∙ ap (λ (b : Bool). pick b (done (k ∷ take (length (layout k)) xs)) (refused 9)) (sym t)
+    ∙ ap (λ (b : Bool). pick b (done (k ∷ take (length (layout k)) xs)) (refused BadCommand)) (sym t)
 
-pub built-none : (k : ℕ) (xs : List ℕ) → both (known k) (fits (layout k) xs) ≡ false → refused 9 ≡ builtFrom k xs
-built-none k xs t = ap (λ (b : Bool). pick b (done (k ∷ take (length (layout k)) xs)) (refused 9)) (sym t)
+pub built-none : (k : ℕ) (xs : List ℕ) → both (known k) (fits (layout k) xs) ≡ false → refused BadCommand ≡ builtFrom k xs
+built-none k xs t = ap (λ (b : Bool). pick b (done (k ∷ take (length (layout k)) xs)) (refused BadCommand)) (sym t)

@@ -6,6 +6,7 @@ use lib.Dec.{ltb, eqb}
 use lib.ListN.{length, take}
 use Rattle.numbers.specs.Pick.{pick, both}
 use Rattle.numbers.specs.Answers.{Answer, done, refused}
+use Rattle.numbers.specs.declared.refusals.Refusal.the-variants.{BadCommand}
 use Rattle.command.specs.Layout.{known, layout}
 use Rattle.command.specs.declared.fields.Command.{Command}
 use Rattle.command.specs.declared.fields.Connect.{Connect}
@@ -73,8 +74,8 @@ fits (w ∷ ws) (x ∷ xs) = both (ltb x (256 ^ w)) (fits ws xs)
 -- a built command: 0, its kind and its row; else 9
 abbrev pub answerOf : Built → Answer
 answerOf (built.Done c) = done (kindOf (c .fields) ∷ rowOf c)
-answerOf built.Refused = refused 9
+answerOf built.Refused = refused BadCommand
 
 -- from a kind and a row: the command of that kind that has the row's first numbers, if there is one
 abbrev pub builtFrom : ℕ → List ℕ → Answer
-builtFrom k xs = pick (both (known k) (fits (layout k) xs)) (done (k ∷ take (length (layout k)) xs)) (refused 9)
+builtFrom k xs = pick (both (known k) (fits (layout k) xs)) (done (k ∷ take (length (layout k)) xs)) (refused BadCommand)

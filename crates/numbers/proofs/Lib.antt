@@ -1,4 +1,4 @@
 pub mod BoolLaws
 pub mod ModuloLaws
 pub mod BitLaws
-pub mod Trips
+pub mod Settled

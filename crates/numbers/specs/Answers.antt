@@ -1,6 +1,23 @@
 -- What a call replies: document 01's number of the table, and the values that go with it.
 use Prim.Native.Nat.{ℕ}
 use mathlib.Core.List.{List, []}
+use Rattle.numbers.specs.declared.refusals.Refusal.{Refusal}
+use Rattle.numbers.specs.declared.refusals.Refusal.the-variants.{NotConnected, InvalidChannel, PacketTooLarge, FragmentsExceeded, FailedToQueue, NotReceiving, LengthTooLarge, NotStored, BadCommand, NotRemoved, OutOfRange, Damaged}
+
+-- the table: 6, 7 and 8 are an arrival's, 10 an acknowledgement's
+abbrev pub numberOf : Refusal → ℕ
+numberOf NotConnected = 1
+numberOf InvalidChannel = 2
+numberOf PacketTooLarge = 3
+numberOf FragmentsExceeded = 4
+numberOf FailedToQueue = 5
+numberOf NotReceiving = 6
+numberOf LengthTooLarge = 7
+numberOf NotStored = 8
+numberOf BadCommand = 9
+numberOf NotRemoved = 10
+numberOf OutOfRange = 11
+numberOf Damaged = 13
 
 pub record Answer : Type 0 where
   pub number : ℕ
@@ -10,5 +27,5 @@ pub record Answer : Type 0 where
 abbrev pub done : List ℕ → Answer
 done xs = record { number = 0; values = xs }
 
-abbrev pub refused : ℕ → Answer
-refused n = record { number = n; values = [] }
+abbrev pub refused : Refusal → Answer
+refused why = record { number = numberOf why; values = [] }

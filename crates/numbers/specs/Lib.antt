@@ -1,4 +1,5 @@
 pub mod Pick
+pub mod Limits
 pub mod Answers
 pub mod Modulo
 pub mod Counters

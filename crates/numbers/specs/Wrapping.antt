@@ -5,8 +5,8 @@ use lib.Dec.{leb}
 use Rattle.numbers.specs.Modulo.{sum}
 
 -- "round trip + 4 × variance modulo 2^32"
-abbrev pub waits : ℕ → ℕ → ℕ
-waits trip variance = sum 32 trip (4 * variance)
+abbrev pub roundTripTimeout : ℕ → ℕ → ℕ
+roundTripTimeout trip variance = sum 32 trip (4 * variance)
 
 -- "2^(attempts − 1) is exact": limit ≤ 2^(attempts − 1), both sides doubled, so that 0 attempts stand for one half
 abbrev pub reaches : ℕ → ℕ → Bool

@@ -1,6 +1,7 @@
-// The numbers of the link: constants, counters, times, and the bits of a word.
+// The numbers of the link: constants, counters, times, the bits of a word, and the table of refusals.
 pub mod bits;
 pub mod clock;
 pub mod consts;
 pub mod counters;
+pub mod refusals;
 pub mod wrapping;

@@ -1,8 +1,7 @@
 // Sums and doublings that the source needs and the language lacks.
 ghost use mathlib.Core.Path.{_≡_};
-ghost use Prim.Native.Nat.{_*_};
 ghost use Rattle.numbers.specs.Modulo.{sum};
-ghost use Rattle.numbers.specs.Wrapping.{waits, reaches};
+ghost use Rattle.numbers.specs.Wrapping.{roundTripTimeout, reaches};
 
 // Twice x, modulo 2^32.
 pub fn double(x: u32) -> u32
@@ -11,12 +10,13 @@ pub fn double(x: u32) -> u32
     std::num::wrapping_add_u32(x, x)
 }
 
-// How long a fresh command waits: round trip + 4 × variance, modulo 2^32.
-pub fn patience(trip: u32, variance: u32) -> u32
-    ensures { λ r. ⌜ r ≡ waits trip variance ⌝ }
+// A command's first timeout: round trip + 4 × variance, modulo 2^32.
+pub fn round_trip_timeout(trip: u32, variance: u32) -> u32
+    ensures { λ r. ⌜ r ≡ roundTripTimeout trip variance ⌝ }
 {
-    let wide = (trip as u64) + 4 * (variance as u64);
-    (wide % 0x1_0000_0000) as u32
+    let twice = double(variance);
+    let four = double(twice);
+    std::num::wrapping_add_u32(trip, four)
 }
 
 // Whether 2^(attempts - 1) is at least the limit, exactly, for every attempts.

@@ -8,7 +8,7 @@ use lib.Dec.{eqb}
 use lib.ListN.{getD, set}
 use Rattle.numbers.specs.Pick.{pick}
 use Rattle.numbers.specs.Modulo.{sum}
-use Rattle.numbers.specs.Wrapping.{waits}
+use Rattle.numbers.specs.Wrapping.{roundTripTimeout}
 use Rattle.slots.specs.Lists.{outItems, outKeep}
 use Rattle.slots.specs.Runs.{without}
 use Rattle.slots.specs.declared.outgoing.OutList.{OutList}
@@ -49,7 +49,7 @@ attempted o trips time =
       reliable = o .reliable;
       unreliable = o .unreliable;
       sent = time;
-      timeout = pick (eqb (o .timeout) 0) (waits (trips .now) (trips .variance)) (o .timeout);
+      timeout = pick (eqb (o .timeout) 0) (roundTripTimeout (trips .now) (trips .variance)) (o .timeout);
       queued = o .queued;
       offset = o .offset;
       length = o .length;

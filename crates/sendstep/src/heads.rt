@@ -78,7 +78,7 @@ fn attempt(o: Outgoing, trips: Trips, time: u32) -> Outgoing
     slot.sent = time;
     slot.attempts = more(o.attempts);
     if o.timeout == 0 {
-        slot.timeout = wrapping::patience(trips.now, trips.variance);
+        slot.timeout = wrapping::round_trip_timeout(trips.now, trips.variance);
     }
     slot
 }

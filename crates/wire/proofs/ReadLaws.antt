@@ -10,6 +10,7 @@ use lib.ListN.{length, take, List·getD-eq-default}
 use borrow.Author.Tests.{lt-leb, le-leb, leb-true}
 use Rattle.numbers.specs.Pick.{pick, both}
 use Rattle.numbers.specs.Answers.{done, refused}
+use Rattle.numbers.specs.declared.refusals.Refusal.the-variants.{BadCommand}
 use Rattle.command.specs.Layout.{known, layout, sizeOf}
 use Rattle.command.specs.Bytes.{rowAt}
 use Rattle.command.specs.Rows.{pad, fits, builtFrom}
@@ -24,8 +25,8 @@ module _ (s : List ℕ) (i : ℕ) where
   abbrev pub whole : List ℕ
   whole = kindAt s i ∷ rowAt s i (layout (kindAt s i))
 
-  chosen : (b : Bool) → readable s i ≡ b → readAt s i ≡ pick b (done ((i + sizeOf (kindAt s i)) ∷ whole)) (refused 9)
-  chosen b e = ap (λ (t : Bool). pick t (done ((i + sizeOf (kindAt s i)) ∷ whole)) (refused 9)) e
+  chosen : (b : Bool) → readable s i ≡ b → readAt s i ≡ pick b (done ((i + sizeOf (kindAt s i)) ∷ whole)) (refused BadCommand)
+  chosen b e = ap (λ (t : Bool). pick t (done ((i + sizeOf (kindAt s i)) ∷ whole)) (refused BadCommand)) e
 
   unread : readable s i ≡ false → 0 ≡ wholeKind s i
   unread e = sym (ap (λ (b : Bool). pick b (kindAt s i) 0) e)
@@ -51,10 +52,10 @@ module _ (s : List ℕ) (i : ℕ) where
       sym (ap (λ (b : Bool). pick b (kindAt s i) 0) f)
 
   -- kind 0 is none, so it says that nothing is read
-  pub whole-none : wholeKind s i ≡ 0 → refused 9 ≡ readAt s i
+  pub whole-none : wholeKind s i ≡ 0 → refused BadCommand ≡ readAt s i
   whole-none z = go (readable s i) refl
     where
-      go : (b : Bool) → readable s i ≡ b → refused 9 ≡ readAt s i
+      go : (b : Bool) → readable s i ≡ b → refused BadCommand ≡ readAt s i
       go true e =
           let k : kindAt s i ≡ 0 = sym (ap (λ (b : Bool). pick b (kindAt s i) 0) e) ∙ z in
           absurd (omega (arith, known-low (kindAt s i) (both-left (known (kindAt s i)) (leb (i + sizeOf (kindAt s i)) (length s)) e)))
@@ -86,7 +87,7 @@ module _ (s : List ℕ) (i : ℕ) where
       let t : take (length (layout k)) (pad 16 xs) ≡ xs =
       ap (λ (m : ℕ). take m (pad 16 xs)) (sym n) ∙ take-pad 16 xs (omega (arith, layout-length k))
       in
-      ap (λ (c : Bool). pick c (done (k ∷ take (length (layout k)) (pad 16 xs))) (refused 9)) f
+      ap (λ (c : Bool). pick c (done (k ∷ take (length (layout k)) (pad 16 xs))) (refused BadCommand)) f
       ∙ ap (λ (l : List ℕ). done (k ∷ l)) t
 
   pub read-found :

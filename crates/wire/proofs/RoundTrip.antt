@@ -12,6 +12,7 @@ use lib.Seq.{take-add, take-length, drop-drop}
 use borrow.Author.Tests.{ltb-true, leb-true, le-leb, eq-eqb}
 use Rattle.numbers.specs.Pick.{pick, both}
 use Rattle.numbers.specs.Answers.{Answer, done, refused}
+use Rattle.numbers.specs.declared.refusals.Refusal.the-variants.{BadCommand}
 use Rattle.command.specs.Layout.{known, layout, total, sizeOf}
 use Rattle.command.specs.Bytes.{numberAt, putNumber, rowAt, putRow}
 use Rattle.command.specs.Rows.{kindOf, rowOf, fits, namesFields}
@@ -132,8 +133,8 @@ module _ (s : List ℕ) (i : ℕ) (c : Command) where
       ap (λ (l : List ℕ). readAt l i) (left s i c true w)
       ∙ ap
       (λ (x : ℕ).
-      pick (both (known x) (leb (i + sizeOf x) (length t))) (done ((i + sizeOf x) ∷ x ∷ rowAt t i (layout x))) (refused 9)) k
-      ∙ ap (λ (b : Bool). pick b (done ((i + sizeOf kind) ∷ kind ∷ rowAt t i (layout kind))) (refused 9)) r
+      pick (both (known x) (leb (i + sizeOf x) (length t))) (done ((i + sizeOf x) ∷ x ∷ rowAt t i (layout x))) (refused BadCommand)) k
+      ∙ ap (λ (b : Bool). pick b (done ((i + sizeOf kind) ∷ kind ∷ rowAt t i (layout kind))) (refused BadCommand)) r
       ∙ ap (λ (l : List ℕ). done ((i + sizeOf kind) ∷ kind ∷ l)) row
 
   pub write-length : length (writeBytes s i c) ≡ length s

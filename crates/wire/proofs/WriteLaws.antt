@@ -10,6 +10,7 @@ use lib.ListN.{length}
 use borrow.Author.Tests.{lt-leb, le-leb, eqb-true}
 use Rattle.numbers.specs.Pick.{pick, both}
 use Rattle.numbers.specs.Answers.{done, refused}
+use Rattle.numbers.specs.declared.refusals.Refusal.the-variants.{BadCommand}
 use Rattle.command.specs.Layout.{layout, sizeOf}
 use Rattle.command.specs.Bytes.{putRow}
 use Rattle.command.specs.Rows.{kindOf, fieldsRow, rowOf, namesFields, pad}
@@ -44,8 +45,8 @@ module _ (s : List ℕ) (i : ℕ) (c : Command) where
   abbrev kind : ℕ
   kind = kindOf (c .fields)
 
-  answered : (b : Bool) → writable s i c ≡ b → writeAnswer s i c ≡ pick b (done ((i + sizeOf kind) ∷ [])) (refused 9)
-  answered b e = ap (λ (t : Bool). pick t (done ((i + sizeOf kind) ∷ [])) (refused 9)) e
+  answered : (b : Bool) → writable s i c ≡ b → writeAnswer s i c ≡ pick b (done ((i + sizeOf kind) ∷ [])) (refused BadCommand)
+  answered b e = ap (λ (t : Bool). pick t (done ((i + sizeOf kind) ∷ [])) (refused BadCommand)) e
 
   pub left : (b : Bool) → writable s i c ≡ b → writeBytes s i c ≡ pick b (putRow s i (layout kind) (rowOf c)) s
   left b e = ap (λ (t : Bool). pick t (putRow s i (layout kind) (rowOf c)) s) e

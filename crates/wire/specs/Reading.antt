@@ -6,6 +6,7 @@ use lib.Dec.{leb}
 use lib.ListN.{length, getD}
 use Rattle.numbers.specs.Pick.{pick, both}
 use Rattle.numbers.specs.Answers.{Answer, done, refused}
+use Rattle.numbers.specs.declared.refusals.Refusal.the-variants.{BadCommand}
 use Rattle.command.specs.Layout.{known, layout, sizeOf}
 use Rattle.command.specs.Bytes.{rowAt}
 use Rattle.command.specs.Rows.{kindOf, rowOf}
@@ -22,8 +23,8 @@ readable s i = both (known (kindAt s i)) (leb (i + sizeOf (kindAt s i)) (length 
 -- 0, the next place, the kind and the command's row; else 9
 abbrev pub readAt : List ℕ → ℕ → Answer
 readAt s i =
-    pick (readable s i) (done ((i + sizeOf (kindAt s i)) ∷ kindAt s i ∷ rowAt s i (layout (kindAt s i)))) (refused 9)
+    pick (readable s i) (done ((i + sizeOf (kindAt s i)) ∷ kindAt s i ∷ rowAt s i (layout (kindAt s i)))) (refused BadCommand)
 
 abbrev pub answerOf : Reading → Answer
 answerOf (vr.Found c next) = done (next ∷ kindOf (c .fields) ∷ rowOf c)
-answerOf vr.Refused = refused 9
+answerOf vr.Refused = refused BadCommand

@@ -4,6 +4,7 @@ use mathlib.Core.List.{List, _∷_}
 use lib.Dec.{eqb}
 use Rattle.numbers.specs.Pick.{pick}
 use Rattle.numbers.specs.Answers.{Answer, done, refused}
+use Rattle.numbers.specs.declared.refusals.Refusal.the-variants.{BadCommand}
 use Rattle.wire.specs.Reading.{kindAt, readable}
 
 -- 0 where no command does
@@ -11,4 +12,4 @@ abbrev pub wholeKind : List ℕ → ℕ → ℕ
 wholeKind s i = pick (readable s i) (kindAt s i) 0
 
 abbrev pub placed : ℕ → Answer → Answer
-placed n a = pick (eqb (a .number) 0) (done (n ∷ a .values)) (refused 9)
+placed n a = pick (eqb (a .number) 0) (done (n ∷ a .values)) (refused BadCommand)

@@ -7,6 +7,7 @@ use lib.Dec.{leb}
 use lib.ListN.{length}
 use Rattle.numbers.specs.Pick.{pick, both}
 use Rattle.numbers.specs.Answers.{Answer, done, refused}
+use Rattle.numbers.specs.declared.refusals.Refusal.the-variants.{BadCommand}
 use Rattle.command.specs.Layout.{layout, sizeOf}
 use Rattle.command.specs.Bytes.{putRow}
 use Rattle.command.specs.Rows.{kindOf, rowOf, namesFields}
@@ -19,7 +20,7 @@ writable s i c = both (namesFields c) (leb (i + sizeOf (kindOf (c .fields))) (le
 
 -- 0 and the next place; else 9
 abbrev pub writeAnswer : List ℕ → ℕ → Command → Answer
-writeAnswer s i c = pick (writable s i c) (done ((i + sizeOf (kindOf (c .fields))) ∷ [])) (refused 9)
+writeAnswer s i c = pick (writable s i c) (done ((i + sizeOf (kindOf (c .fields))) ∷ [])) (refused BadCommand)
 
 -- the buffer afterwards
 abbrev pub writeBytes : List ℕ → ℕ → Command → List ℕ
@@ -27,7 +28,7 @@ writeBytes s i c = pick (writable s i c) (putRow s i (layout (kindOf (c .fields)
 
 abbrev pub answerOf : Writing → Answer
 answerOf (vr.Done next) = done (next ∷ [])
-answerOf vr.Refused = refused 9
+answerOf vr.Refused = refused BadCommand
 
 -- what a write at i answers, and what the buffer s then holds
 pub record Written (s : List ℕ) (i : ℕ) (c : Command) (r : Writing) (after : List ℕ) : Type 0 where

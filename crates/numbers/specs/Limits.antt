@@ -1,0 +1,19 @@
+-- "Numbers that bound it", and the numbers of public ENet that the rules name.
+use Prim.Native.Nat.{ℕ, _*_}
+
+abbrev pub leastMtu : ℕ
+leastMtu = 576
+
+abbrev pub mostMtu : ℕ
+mostMtu = 4096
+
+abbrev pub mostFragments : ℕ
+mostFragments = 1048576
+
+-- a window holds so many groups, in words of 32
+abbrev pub windowSize : ℕ
+windowSize = 1024
+
+-- so many windows from the base on are open
+abbrev pub freeWindows : ℕ
+freeWindows = 32

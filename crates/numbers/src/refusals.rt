@@ -1,0 +1,39 @@
+// Document 01's table of what a call refuses, a case for each of its numbers.
+ghost use mathlib.Core.Path.{_≡_};
+ghost use Rattle.numbers.specs.Answers.{numberOf};
+
+pub enum Refusal {
+    NotConnected,
+    InvalidChannel,
+    PacketTooLarge,
+    FragmentsExceeded,
+    FailedToQueue,
+    NotReceiving,
+    LengthTooLarge,
+    NotStored,
+    BadCommand,
+    NotRemoved,
+    OutOfRange,
+    Damaged,
+}
+
+impl Refusal {
+    pub fn number(self) -> u32
+        ensures { λ r. ⌜ r ≡ numberOf self ⌝ }
+    {
+        match self {
+            Refusal::NotConnected => 1,
+            Refusal::InvalidChannel => 2,
+            Refusal::PacketTooLarge => 3,
+            Refusal::FragmentsExceeded => 4,
+            Refusal::FailedToQueue => 5,
+            Refusal::NotReceiving => 6,
+            Refusal::LengthTooLarge => 7,
+            Refusal::NotStored => 8,
+            Refusal::BadCommand => 9,
+            Refusal::NotRemoved => 10,
+            Refusal::OutOfRange => 11,
+            Refusal::Damaged => 13,
+        }
+    }
+}
