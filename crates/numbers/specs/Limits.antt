@@ -1,5 +1,5 @@
 -- "Numbers that bound it", and the numbers of public ENet that the rules name.
-use Prim.Native.Nat.{ℕ, _*_}
+use Prim.Native.Nat.{ℕ}
 
 abbrev pub leastMtu : ℕ
 leastMtu = 576
@@ -10,9 +10,12 @@ mostMtu = 4096
 abbrev pub mostFragments : ℕ
 mostFragments = 1048576
 
--- a window holds so many groups, in words of 32
+-- a window holds so many groups, in words of 32 bits
 abbrev pub windowSize : ℕ
 windowSize = 1024
+
+abbrev pub windowWords : ℕ
+windowWords = 32
 
 -- so many windows from the base on are open
 abbrev pub freeWindows : ℕ

@@ -39,3 +39,6 @@ pub const HOST_DEFAULT_MAXIMUM_WAITING_DATA: u32 = 33554432;
 pub const HOST_DEFAULT_MAXIMUM_PACKET_SIZE: u32 = 33554432;
 
 pub const HOST_DEFAULT_MTU: u32 = 1392;
+
+// The words that a window's groups stand in, 32 groups a word.
+pub const UNSEQUENCED_WORDS: usize = 32;

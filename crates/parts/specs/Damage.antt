@@ -12,7 +12,9 @@ use Rattle.parts.specs.declared.groups.Lists.{Lists}
 use Rattle.parts.specs.declared.groups.Channel.{Channel}
 use Rattle.parts.specs.declared.groups.Outgoing.{Outgoing}
 use Rattle.parts.specs.declared.groups.Incoming.{Incoming}
-use Rattle.parts.specs.Fresh.{channels, noOutgoing, noIncoming}
+use Rattle.numbers.specs.Limits.{leastMtu, mostMtu}
+use Rattle.parts.specs.Sizes.{channels, itself, cell}
+use Rattle.parts.specs.Fresh.{noOutgoing, noIncoming}
 
 -- every slot of a list passes a test
 unfoldable pub all : (ℕ → Bool) → List ℕ → Bool
@@ -37,7 +39,7 @@ usedIn l cs = inItems (l .dispatched) ++ held cs
 
 -- "MTU or channel count (0 to 8) out of range"
 abbrev pub ranged : ℕ → ℕ → Bool
-ranged mtu count = both (leb 576 mtu) (both (leb mtu 4096) (leb count channels))
+ranged mtu count = both (leb leastMtu mtu) (both (leb mtu mostMtu) (leb count channels))
 
 -- "a list is longer than its pool"
 unfoldable pub heldFit : List Channel → Bool
@@ -54,7 +56,7 @@ listsFit l =
 abbrev pub outFit : List Outgoing → ℕ → ℕ → Bool
 outFit slots count s =
     let c = getD slots s noOutgoing .command in
-    both (namesFields c) (pick (ltb (c .channel) count) true (eqb (c .channel) 255))
+    both (namesFields c) (pick (ltb (c .channel) count) true (eqb (c .channel) itself))
 
 -- "a sent command with 0 attempts"
 abbrev pub tried : List Outgoing → ℕ → Bool
@@ -63,7 +65,7 @@ tried slots s = leb 1 (getD slots s noOutgoing .attempts)
 -- "an incoming length above 4,096"; "an incoming one's channel not below the count"
 abbrev pub inFit : List Incoming → ℕ → ℕ → Bool
 inFit slots count s =
-    both (leb (getD slots s noIncoming .length) 4096) (ltb (getD slots s noIncoming .channel) count)
+    both (leb (getD slots s noIncoming .length) cell) (ltb (getD slots s noIncoming .channel) count)
 
 -- "or not that of the channel list it stands in": the channels counted from k
 unfoldable pub own : List Incoming → ℕ → List Channel → Bool
@@ -87,3 +89,10 @@ abbrev pub inSound : List Incoming → Lists → List Channel → ℕ → ℕ �
 inSound slots l cs count total =
     both (both (exist incoming (usedIn l cs)) (once (usedIn l cs)))
     (both (all (inFit slots count) (usedIn l cs)) (both (own slots 0 cs) (eqb total (lengths slots (usedIn l cs)))))
+
+-- "Damaged means", turned round, on the parts of a record that it looks at
+abbrev pub partsSound : ℕ → ℕ → ℕ → Lists → List Channel → List Outgoing → List Incoming → Bool
+partsSound mtu count total lists cs out inn =
+    let now = below cs count in
+    both (ranged mtu count)
+    (both (both (listsFit lists) (heldFit now)) (both (outSound out lists count) (inSound inn lists now count total)))

@@ -1,145 +1,136 @@
-// The gate that every call passes, and the calls that need nothing but the record: reset, begin, set state.
+// The calls that need nothing but the record: reset, begin, set state.
 ghost use mathlib.Core.Path.{_≡_};
-ghost use Rattle.peer.specs.Calls.{Came, gateAnswer, answerOf, resets, begins, beginsSound, setsState, setsStateSound, kept, beginFits};
+ghost use Rattle.peer.specs.Outcome.{Came};
+ghost use Rattle.peer.specs.Calls.{answerOf, resets, begins, setsState, beginFits};
 use crate::defaults::Kept;
 use crate::defaults::no_channels;
+use crate::gate;
+use crate::gate::Gate;
+use crate::gate::Lent;
 use crate::record::Peer;
 use crate::settings::Settings;
+use numbers::consts;
+use numbers::refusals::Refusal;
+use parts::groups::CHANNELS;
 
+// What a call replies that has nothing to tell but whether it was done.
 pub enum Reply {
     Done,
-    OutOfRange,
-    Damaged,
+    Refused(Refusal),
 }
 
+// The record first: so it is made where the caller wants it.
 pub struct Called {
-    pub reply: Reply,
     pub peer: Peer,
+    pub reply: Reply,
 }
 
 impl Peer {
-    // Settings (11), then the record (13): the first two tests of every call.
-    pub fn gate(self, settings: Settings) -> Reply
-        ensures { λ r. ⌜ answerOf r ≡ gateAnswer settings self ⌝ }
-    {
-        if !settings.is_fit() {
-            return Reply::OutOfRange;
-        }
-        if !self.is_sound() {
-            return Reply::Damaged;
-        }
-        Reply::Done
-    }
-
-    // What a reset keeps.
-    fn kept(self) -> Kept
-        ensures { λ r. ⌜ r ≡ kept self ⌝ }
-    {
-        let ids = self.ids;
-        let groups = self.groups;
-        let waiting = self.waiting;
-        Kept {
-            incoming_peer: ids.incoming_peer,
-            outgoing_session: ids.outgoing_session,
-            incoming_session: ids.incoming_session,
-            reserved: groups.reserved,
-            queued: waiting.queued,
-        }
-    }
-
     // Needs no sound record.
     pub fn reset(self, settings: Settings) -> Called
-        ensures { λ r. ⌜ Came (resets settings self) r ⌝ }
+        ensures { λ r. ⌜ Came answerOf (resets settings self) (r .reply) (r .peer) ⌝ }
     {
         if !settings.is_fit() {
             return Called {
-                reply: Reply::OutOfRange,
                 peer: self,
+                reply: Reply::Refused(Refusal::OutOfRange),
             };
         }
-        let peer = Peer::fresh(settings.mtu, self.kept());
+        let ids = self.ids;
+        let kept = Kept {
+            incoming_peer: ids.incoming_peer,
+            outgoing_session: ids.outgoing_session,
+            incoming_session: ids.incoming_session,
+            reserved: self.groups.reserved,
+            queued: self.waiting.queued,
+        };
+        let peer = Peer::fresh(settings.mtu, kept);
         Called {
-            reply: Reply::Done,
             peer,
+            reply: Reply::Done,
         }
     }
 
     // MTU and channels of all 0, before any channel was there.
     pub fn begin(self, settings: Settings, mtu: u32, count: u32) -> Called
-        ensures { λ r. ⌜ Came (begins settings mtu count self) r ⌝ }
+        ensures { λ r. ⌜ Came answerOf (begins settings mtu count self) (r .reply) (r .peer) ⌝ }
     {
-        let gate = self.gate(settings);
-        match gate {
-            Reply::OutOfRange => Called {
-                reply: Reply::OutOfRange,
-                peer: self,
-            },
-            Reply::Damaged => Called {
-                reply: Reply::Damaged,
-                peer: self,
-            },
-            Reply::Done => self.begin_sound(mtu, count),
-        }
-    }
-
-    fn begin_sound(self, mtu: u32, count: u32) -> Called
-        ensures { λ r. ⌜ Came (beginsSound mtu count self) r ⌝ }
-    {
-        if !can_begin(mtu, count, self.standing.count) {
+        let mut p = self;
+        let lists = p.lists;
+        let channels = p.channels;
+        let incoming = p.incoming;
+        let outgoing = p.outgoing;
+        let worths = damage::worths(outgoing, p.standing.count);
+        let gate = gate::pass(
+            settings,
+            Lent::Nothing,
+            p.flow.mtu,
+            p.standing.count,
+            p.waiting.total,
+            lists,
+            channels,
+            worths,
+            incoming,
+        );
+        if let Gate::Shut(why) = gate {
             return Called {
-                reply: Reply::OutOfRange,
-                peer: self,
+                peer: p,
+                reply: Reply::Refused(why),
             };
         }
-        let mut flow = self.flow;
-        flow.mtu = mtu;
-        let mut standing = self.standing;
-        standing.count = count;
-        let channels = no_channels();
-        let mut peer = self;
-        peer.flow = flow;
-        peer.standing = standing;
-        peer.channels = channels;
+        if !can_begin(mtu, count, p.standing.count) {
+            return Called {
+                peer: p,
+                reply: Reply::Refused(Refusal::OutOfRange),
+            };
+        }
+        p.flow.mtu = mtu;
+        p.standing.count = count;
+        let none = no_channels();
+        p.channels = none;
         Called {
+            peer: p,
             reply: Reply::Done,
-            peer,
         }
     }
 
     // Only the state changes.
     pub fn set_state(self, settings: Settings, state: u32) -> Called
-        ensures { λ r. ⌜ Came (setsState settings state self) r ⌝ }
+        ensures { λ r. ⌜ Came answerOf (setsState settings state self) (r .reply) (r .peer) ⌝ }
     {
-        let gate = self.gate(settings);
-        match gate {
-            Reply::OutOfRange => Called {
-                reply: Reply::OutOfRange,
-                peer: self,
-            },
-            Reply::Damaged => Called {
-                reply: Reply::Damaged,
-                peer: self,
-            },
-            Reply::Done => self.set_state_sound(state),
-        }
-    }
-
-    fn set_state_sound(self, state: u32) -> Called
-        ensures { λ r. ⌜ Came (setsStateSound state self) r ⌝ }
-    {
-        if Peer::ZOMBIE < state {
+        let mut p = self;
+        let lists = p.lists;
+        let channels = p.channels;
+        let incoming = p.incoming;
+        let outgoing = p.outgoing;
+        let worths = damage::worths(outgoing, p.standing.count);
+        let gate = gate::pass(
+            settings,
+            Lent::Nothing,
+            p.flow.mtu,
+            p.standing.count,
+            p.waiting.total,
+            lists,
+            channels,
+            worths,
+            incoming,
+        );
+        if let Gate::Shut(why) = gate {
             return Called {
-                reply: Reply::OutOfRange,
-                peer: self,
+                peer: p,
+                reply: Reply::Refused(why),
             };
         }
-        let mut standing = self.standing;
-        standing.state = state;
-        let mut peer = self;
-        peer.standing = standing;
+        if Peer::ZOMBIE < state {
+            return Called {
+                peer: p,
+                reply: Reply::Refused(Refusal::OutOfRange),
+            };
+        }
+        p.standing.state = state;
         Called {
+            peer: p,
             reply: Reply::Done,
-            peer,
         }
     }
 }
@@ -147,16 +138,16 @@ impl Peer {
 fn can_begin(mtu: u32, count: u32, already: u32) -> bool
     ensures { λ r. ⌜ r ≡ beginFits mtu count already ⌝ }
 {
-    if mtu < 576 {
+    if mtu < consts::PROTOCOL_MINIMUM_MTU {
         return false;
     }
-    if 4096 < mtu {
+    if consts::PROTOCOL_MAXIMUM_MTU < mtu {
         return false;
     }
     if count < 1 {
         return false;
     }
-    if 8 < count {
+    if CHANNELS < count as usize {
         return false;
     }
     already == 0

@@ -1,9 +1,10 @@
 // The reset values and the state numbers, which belong to the peer's own type, and the reset record.
 ghost use mathlib.Core.Path.{_≡_};
-ghost use Rattle.parts.specs.Fresh.{noLists, noOutgoing, noIncoming, noChannel, channels};
-ghost use Rattle.peer.specs.Fresh.{freshPeer, freshIds, freshFlow, freshGroups};
+ghost use mathlib.Core.List.{[], _∷_};
+ghost use Rattle.parts.specs.Sizes.{channels};
+ghost use Rattle.parts.specs.Fresh.{noChannel};
+ghost use Rattle.peer.specs.Fresh.{freshPeer};
 ghost use lib.ListN.{replicate};
-ghost use Rattle.slots.specs.Lists.{outgoing, incoming};
 use crate::record::Peer;
 use command::fields::Command;
 use command::fields::Fields;
@@ -64,12 +65,32 @@ impl Peer {
 
     pub const ZOMBIE: u32 = 9;
 
+    pub fn states() -> [u32; 10]
+        ensures { λ r. ⌜ r ≡ 0 ∷ 1 ∷ 2 ∷ 3 ∷ 4 ∷ 5 ∷ 6 ∷ 7 ∷ 8 ∷ 9 ∷ [] ⌝ }
+    {
+        [
+            Peer::DISCONNECTED,
+            Peer::CONNECTING,
+            Peer::ACKNOWLEDGING_CONNECT,
+            Peer::CONNECTION_PENDING,
+            Peer::CONNECTION_SUCCEEDED,
+            Peer::CONNECTED,
+            Peer::DISCONNECT_LATER,
+            Peer::DISCONNECTING,
+            Peer::ACKNOWLEDGING_DISCONNECT,
+            Peer::ZOMBIE,
+        ]
+    }
+
     // The reset values.
     pub const OUTGOING_PEER: u16 = consts::PROTOCOL_MAXIMUM_PEER_ID;
 
     pub const WINDOW: u32 = consts::PROTOCOL_MAXIMUM_WINDOW_SIZE;
 
-    pub const STANDING: Standing = Standing { state: 0, count: 0 };
+    pub const STANDING: Standing = Standing {
+        state: Peer::DISCONNECTED,
+        count: 0,
+    };
 
     pub const BANDWIDTH: Bandwidth = Bandwidth {
         incoming: 0,
@@ -124,163 +145,117 @@ impl Peer {
         variance: 0,
     };
 
+    // The reset record, but for what a reset keeps and the MTU.
+    pub const BLANK: Peer = Peer {
+        ids: Ids {
+            outgoing_peer: Peer::OUTGOING_PEER,
+            incoming_peer: 0,
+            connect: 0,
+            outgoing_session: 0,
+            incoming_session: 0,
+        },
+        standing: Peer::STANDING,
+        bandwidth: Peer::BANDWIDTH,
+        totals: Peer::TOTALS,
+        times: Peer::TIMES,
+        loss: Peer::LOSS,
+        throttling: Peer::THROTTLING,
+        limits: Peer::LIMITS,
+        trips: Peer::TRIPS,
+        flow: Flow {
+            mtu: 0,
+            window: Peer::WINDOW,
+            transit: 0,
+            reliable: Reliable(0),
+        },
+        lists: Lists {
+            sent: NO_OUT,
+            reliable: NO_OUT,
+            outgoing: NO_OUT,
+            dispatched: NO_IN,
+        },
+        groups: Groups {
+            flags: 0,
+            reserved: 0,
+            incoming: Group(0),
+            outgoing: Group(0),
+            words: [0; consts::UNSEQUENCED_WORDS],
+        },
+        waiting: Waiting {
+            event: 0,
+            total: 0,
+            queued: 0,
+        },
+        channels: [NO_CHANNEL; CHANNELS],
+        outgoing: [NO_OUTGOING; OUTGOING],
+        incoming: [NO_INCOMING; INCOMING],
+    };
+
     // The reset record.
     pub fn fresh(mtu: u32, kept: Kept) -> Peer
         ensures { λ r. ⌜ r ≡ freshPeer mtu kept ⌝ }
     {
-        let ids = fresh_ids(kept);
-        let flow = fresh_flow(mtu);
-        let lists = no_lists();
-        let groups = fresh_groups(kept.reserved);
-        let channels = no_channels();
-        let outgoing = no_outgoing();
-        let incoming = no_incoming();
-        let waiting = Waiting {
-            event: 0,
-            total: 0,
-            queued: kept.queued,
-        };
-        Peer {
-            ids,
-            standing: Peer::STANDING,
-            bandwidth: Peer::BANDWIDTH,
-            totals: Peer::TOTALS,
-            times: Peer::TIMES,
-            loss: Peer::LOSS,
-            throttling: Peer::THROTTLING,
-            limits: Peer::LIMITS,
-            trips: Peer::TRIPS,
-            flow,
-            lists,
-            groups,
-            waiting,
-            channels,
-            outgoing,
-            incoming,
-        }
+        let mut p = Peer::BLANK;
+        p.ids.incoming_peer = kept.incoming_peer;
+        p.ids.outgoing_session = kept.outgoing_session;
+        p.ids.incoming_session = kept.incoming_session;
+        p.flow.mtu = mtu;
+        p.groups.reserved = kept.reserved;
+        p.waiting.queued = kept.queued;
+        p
     }
 }
 
-fn fresh_ids(kept: Kept) -> Ids
-    ensures { λ r. ⌜ r ≡ freshIds kept ⌝ }
-{
-    Ids {
-        outgoing_peer: Peer::OUTGOING_PEER,
-        incoming_peer: kept.incoming_peer,
-        connect: 0,
-        outgoing_session: kept.outgoing_session,
-        incoming_session: kept.incoming_session,
-    }
-}
+const NO_OUT: OutList = OutList {
+    len: 0,
+    slots: [0; OUTGOING],
+};
 
-fn fresh_flow(mtu: u32) -> Flow
-    ensures { λ r. ⌜ r ≡ freshFlow mtu ⌝ }
-{
-    let reliable = Reliable(0);
-    Flow {
-        mtu,
-        window: Peer::WINDOW,
-        transit: 0,
-        reliable,
-    }
-}
+const NO_IN: InList = InList {
+    len: 0,
+    slots: [0; INCOMING],
+};
 
-fn fresh_groups(reserved: u16) -> Groups
-    ensures { λ r. ⌜ r ≡ freshGroups reserved ⌝ }
-{
-    let group = Group(0);
-    let words = [0u32; 32];
-    Groups {
-        flags: 0,
-        reserved,
-        incoming: group,
-        outgoing: group,
-        words,
-    }
-}
+const NO_CHANNEL: Channel = Channel {
+    outgoing_reliable: Reliable(0),
+    outgoing_unreliable: Unreliable(0),
+    incoming_reliable: Reliable(0),
+    incoming_unreliable: Unreliable(0),
+    held: NO_IN,
+};
 
-fn no_lists() -> Lists
-    ensures { λ r. ⌜ r ≡ noLists ⌝ }
-{
-    let cells = [0u16; OUTGOING];
-    let places = [0u16; INCOMING];
-    let out = OutList {
-        len: 0,
-        slots: cells,
-    };
-    let dispatched = InList {
-        len: 0,
-        slots: places,
-    };
-    Lists {
-        sent: out,
-        reliable: out,
-        outgoing: out,
-        dispatched,
-    }
-}
+const NO_OUTGOING: Outgoing = Outgoing {
+    reliable: Reliable(0),
+    unreliable: Unreliable(0),
+    sent: 0,
+    timeout: 0,
+    queued: 0,
+    offset: 0,
+    length: 0,
+    attempts: 0,
+    packet: false,
+    command: Command {
+        byte: 0,
+        channel: 0,
+        number: Reliable(0),
+        fields: Fields::Acknowledge {
+            number: Reliable(0),
+            time: 0,
+        },
+    },
+};
+
+const NO_INCOMING: Incoming = Incoming {
+    byte: 0,
+    channel: 0,
+    number: Reliable(0),
+    fragments: 0,
+    remaining: 0,
+    length: 0,
+};
 
 pub(crate) fn no_channels() -> [Channel; CHANNELS]
     ensures { λ r. ⌜ r ≡ replicate channels noChannel ⌝ }
 {
-    let reliable = Reliable(0);
-    let unreliable = Unreliable(0);
-    let cells = [0u16; INCOMING];
-    let held = InList {
-        len: 0,
-        slots: cells,
-    };
-    let channel = Channel {
-        outgoing_reliable: reliable,
-        outgoing_unreliable: unreliable,
-        incoming_reliable: reliable,
-        incoming_unreliable: unreliable,
-        held,
-    };
-    [channel; CHANNELS]
-}
-
-fn no_outgoing() -> [Outgoing; OUTGOING]
-    ensures { λ r. ⌜ r ≡ replicate outgoing noOutgoing ⌝ }
-{
-    let reliable = Reliable(0);
-    let unreliable = Unreliable(0);
-    let fields = Fields::Acknowledge {
-        number: reliable,
-        time: 0,
-    };
-    let command = Command {
-        byte: 0,
-        channel: 0,
-        number: reliable,
-        fields,
-    };
-    let slot = Outgoing {
-        reliable,
-        unreliable,
-        sent: 0,
-        timeout: 0,
-        queued: 0,
-        offset: 0,
-        length: 0,
-        attempts: 0,
-        packet: false,
-        command,
-    };
-    [slot; OUTGOING]
-}
-
-fn no_incoming() -> [Incoming; INCOMING]
-    ensures { λ r. ⌜ r ≡ replicate incoming noIncoming ⌝ }
-{
-    let number = Reliable(0);
-    let slot = Incoming {
-        byte: 0,
-        channel: 0,
-        number,
-        fragments: 0,
-        remaining: 0,
-        length: 0,
-    };
-    [slot; INCOMING]
+    [NO_CHANNEL; CHANNELS]
 }

@@ -1,53 +1,70 @@
--- `begin` passes the gate, and goes on as the rule behind it.
-use Rattle.peer.specs.Calls.{beginsSound}
-use Rattle.peer.proofs.Gates.{gate-range, gate-damage, gate-open}
+-- `begin` passes the gate, then asks whether it may begin, and changes three parts of the record.
+use mathlib.Core.Path.{refl, sym, _∙_}
 use borrow.Author.Needs.{needs}
+use borrow.Author.Tests.{not-true, not-false}
+use Rattle.peer.specs.Calls.{answerOf, beginsSound}
+use Rattle.peer.specs.declared.gate.Lent.the-variants.{Nothing}
+use Rattle.peer.proofs.Gates.{came-shut, came-open}
 use Rattle.peer.proofs.record.Peer.begin.Statement.{statement}
 use Rattle.peer.proofs.record.Peer.begin.Tie as tie
-use Rattle.peer.proofs.record.Peer.begin.Reads as reads
-use Rattle.peer.proofs.record.Peer.begin.Lts as lts
-use Rattle.peer.proofs.record.Peer.begin_sound.Reads as begin-sound-reads
-use Rattle.peer.proofs.record.Peer.gate.Reads as gate-reads
 
-gate-requires : tie.Need-gate-requires
-gate-requires c κs = search needs
+worths-requires : tie.Need-worths-requires
+worths-requires c κs = search needs
+
+pass-requires : tie.Need-pass-requires
+pass-requires c κs = search needs
+
+enum-known-gate : tie.Need-enum-known-gate
+enum-known-gate c = search needs
+
+returns : tie.Need-returns
+returns c =
+    let g = c .before .before .before in
+    let w = g .before in
+    let a = w .before .before .before .before .before .args in
+    let k = c .before .gate .given in
+    came-shut (a .settings) Nothing (a .self) (w .worths .result) (w .worths .ensures) (g .pass .result) (g .pass .ensures) (a .self)
+    (beginsSound (a .mtu) (a .count) (a .self)) answerOf _ (k .0 .0) refl (k .1)
 
 enum-told : tie.Need-enum-told
 enum-told c = search needs
 
-enum-told-2 : tie.Need-enum-told-2
-enum-told-2 c = search needs
-
-enum-told-3 : tie.Need-enum-told-3
-enum-told-3 c = search needs
-
-begin-sound-requires : tie.Need-begin-sound-requires
-begin-sound-requires c κs = search needs
-
-returns : tie.Need-returns
-returns c =
-    gate-range (c .before .before .before .args .settings) (c .before .before .before .args .self) (beginsSound (c .before .before .before .args .mtu) (c .before .before .before .args .count) (c .before .before .before .args .self)) (c .before .before .gate .result) (c .before .before .gate .ensures)
-    (c .enum-told .given .1)
+can-begin-requires : tie.Need-can-begin-requires
+can-begin-requires c κs = search needs
 
 returns-2 : tie.Need-returns-2
 returns-2 c =
-    gate-damage (c .before .before .before .args .settings) (c .before .before .before .args .self) (beginsSound (c .before .before .before .args .mtu) (c .before .before .before .args .count) (c .before .before .before .args .self)) (c .before .before .gate .result) (c .before .before .gate .ensures)
-    (c .enum-told2 .given .1)
+    let g = c .before .before .before .before in
+    let w = g .before in
+    let a = w .before .before .before .before .before .args in
+    let may = sym (c .before .can-begin .ensures) ∙ not-true _ (c .if1 .taken) in
+    came-open (a .settings) Nothing (a .self) (w .worths .result) (w .worths .ensures) (g .pass .result) (g .pass .ensures) (a .self)
+    (beginsSound (a .mtu) (a .count) (a .self)) answerOf _ _ (c .before .before .enum-told .given .1) (record { answer = rw may; after = rw may })
+
+no-channels-requires : tie.Need-no-channels-requires
+no-channels-requires c κs = search needs
 
 returns-3 : tie.Need-returns-3
 returns-3 c =
-    gate-open (c .before .before .before .before .args .settings) (c .before .before .before .before .args .self) (beginsSound (c .before .before .before .before .args .mtu) (c .before .before .before .before .args .count) (c .before .before .before .before .args .self)) (c .before .before .before .gate .result) (c .before .before .before .gate .ensures)
-    (c .before .enum-told3 .given .1) (c .begin-sound .result) (c .begin-sound .ensures)
+    let b = c .before .before .before .before in
+    let g = b .before .before .before in
+    let w = g .before in
+    let a = w .before .before .before .before .before .args in
+    let may = sym (b .can-begin .ensures) ∙ not-false _ (c .before .before .before .if1 .left) in
+    came-open (a .settings) Nothing (a .self) (w .worths .result) (w .worths .ensures) (g .pass .result) (g .pass .ensures) (a .self)
+    (beginsSound (a .mtu) (a .count) (a .self)) answerOf _ _ (b .before .enum-told .given .1)
+    (record { answer = rw may; after = rw (may, c .no-channels .ensures) })
 
 pub begin-spec : {M : Type 1} → statement M
 begin-spec =
     tie.close
     (tie.spec
-    gate-requires
-    enum-told
-    enum-told-2
-    enum-told-3
-    begin-sound-requires
+    worths-requires
+    pass-requires
+    enum-known-gate
     returns
+    enum-told
+    can-begin-requires
     returns-2
+    no-channels-requires
     returns-3)

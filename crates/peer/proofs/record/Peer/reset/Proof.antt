@@ -1,15 +1,9 @@
 -- `reset` asks for the settings alone, and makes the reset record of what is kept.
-use mathlib.Core.Path.{sym, ap, _∙_}
+use mathlib.Core.Path.{sym, _∙_}
 use borrow.Author.Tests.{not-true, not-false}
-use Rattle.peer.specs.Fresh.{freshPeer}
 use borrow.Author.Needs.{needs}
 use Rattle.peer.proofs.record.Peer.reset.Statement.{statement}
 use Rattle.peer.proofs.record.Peer.reset.Tie as tie
-use Rattle.peer.proofs.record.Peer.reset.Reads as reads
-use Rattle.peer.proofs.record.Peer.reset.Lts as lts
-use Rattle.peer.proofs.record.Peer.fresh.Reads as fresh-reads
-use Rattle.peer.proofs.record.Peer.kept.Reads as kept-reads
-use Rattle.peer.proofs.settings.Settings.is_fit.Reads as is-fit-reads
 
 is-fit-requires : tie.Need-is-fit-requires
 is-fit-requires c κs = search needs
@@ -17,10 +11,7 @@ is-fit-requires c κs = search needs
 returns : tie.Need-returns
 returns c =
     let fit = sym (c .before .is-fit .ensures) ∙ not-true _ (c .if1 .taken) in
-    record { answer = simp fit; peer = simp fit }
-
-kept-requires : tie.Need-kept-requires
-kept-requires c κs = search needs
+    record { answer = simp fit; after = simp fit }
 
 fresh-requires : tie.Need-fresh-requires
 fresh-requires c κs = search needs
@@ -28,7 +19,7 @@ fresh-requires c κs = search needs
 returns-2 : tie.Need-returns-2
 returns-2 c =
     let fit = sym (c .before .before .before .is-fit .ensures) ∙ not-false _ (c .before .before .if1 .left) in
-    record { answer = simp fit; peer = simp fit (c .fresh .ensures ∙ ap (freshPeer _) (c .before .kept .ensures)) }
+    record { answer = simp fit; after = simp fit (c .fresh .ensures) }
 
 pub reset-spec : {M : Type 1} → statement M
-reset-spec = tie.close (tie.spec is-fit-requires returns kept-requires fresh-requires returns-2)
+reset-spec = tie.close (tie.spec is-fit-requires returns fresh-requires returns-2)

@@ -1,0 +1,89 @@
+-- A group of the record with another number in it, or another list: what is not named stays as it is.
+use Prim.Native.Nat.{ℕ}
+use Rattle.numbers.specs.declared.counters.Reliable.{Reliable}
+use Rattle.numbers.specs.declared.counters.Unreliable.{Unreliable}
+use Rattle.numbers.specs.declared.counters.Group.{Group}
+use Rattle.slots.specs.declared.outgoing.OutList.{OutList}
+use Rattle.parts.specs.declared.groups.Standing.{Standing}
+use Rattle.parts.specs.declared.groups.Totals.{Totals}
+use Rattle.parts.specs.declared.groups.Times.{Times}
+use Rattle.parts.specs.declared.groups.Loss.{Loss}
+use Rattle.parts.specs.declared.groups.Flow.{Flow}
+use Rattle.parts.specs.declared.groups.Lists.{Lists}
+use Rattle.parts.specs.declared.groups.Groups.{Groups}
+use Rattle.parts.specs.declared.groups.Waiting.{Waiting}
+use Rattle.parts.specs.declared.groups.Channel.{Channel}
+use Rattle.parts.specs.declared.groups.Outgoing.{Outgoing}
+
+abbrev pub withState : Standing → ℕ → Standing
+withState s x = record { state = x; count = s .count }
+
+abbrev pub withCount : Standing → ℕ → Standing
+withCount s x = record { state = s .state; count = x }
+
+abbrev pub withOutgoingTotal : Totals → ℕ → Totals
+withOutgoingTotal t x = record { incoming = t .incoming; outgoing = x }
+
+abbrev pub withNextTimeout : Times → ℕ → Times
+withNextTimeout t x =
+    record {
+      «last_send» = t .«last_send»;
+      «last_receive» = t .«last_receive»;
+      «next_timeout» = x;
+      «earliest_timeout» = t .«earliest_timeout»;
+    }
+
+abbrev pub withPacketsSent : Loss → ℕ → Loss
+withPacketsSent l x = record { epoch = l .epoch; sent = x; lost = l .lost; loss = l .loss; variance = l .variance }
+
+abbrev pub withMtu : Flow → ℕ → Flow
+withMtu f x = record { mtu = x; window = f .window; transit = f .transit; reliable = f .reliable }
+
+abbrev pub withTransit : Flow → ℕ → Flow
+withTransit f x = record { mtu = f .mtu; window = f .window; transit = x; reliable = f .reliable }
+
+abbrev pub withReliable : Flow → Reliable → Flow
+withReliable f x = record { mtu = f .mtu; window = f .window; transit = f .transit; reliable = x }
+
+abbrev pub withSentList : Lists → OutList → Lists
+withSentList l x = record { sent = x; reliable = l .reliable; outgoing = l .outgoing; dispatched = l .dispatched }
+
+abbrev pub withReliableList : Lists → OutList → Lists
+withReliableList l x = record { sent = l .sent; reliable = x; outgoing = l .outgoing; dispatched = l .dispatched }
+
+abbrev pub withOutgoingList : Lists → OutList → Lists
+withOutgoingList l x = record { sent = l .sent; reliable = l .reliable; outgoing = x; dispatched = l .dispatched }
+
+abbrev pub withOutgoingGroup : Groups → Group → Groups
+withOutgoingGroup g x =
+    record { flags = g .flags; reserved = g .reserved; incoming = g .incoming; outgoing = x; words = g .words }
+
+abbrev pub withQueued : Waiting → ℕ → Waiting
+withQueued w x = record { event = w .event; total = w .total; queued = x }
+
+-- a channel's two outgoing numbers
+abbrev pub withNumbers : Channel → Reliable → Unreliable → Channel
+withNumbers c r u =
+    record {
+      «outgoing_reliable» = r;
+      «outgoing_unreliable» = u;
+      «incoming_reliable» = c .«incoming_reliable»;
+      «incoming_unreliable» = c .«incoming_unreliable»;
+      held = c .held;
+    }
+
+-- a slot's sent time, timeout and attempts
+abbrev pub withAttempt : Outgoing → ℕ → ℕ → ℕ → Outgoing
+withAttempt o sent timeout attempts =
+    record {
+      reliable = o .reliable;
+      unreliable = o .unreliable;
+      sent = sent;
+      timeout = timeout;
+      queued = o .queued;
+      offset = o .offset;
+      length = o .length;
+      attempts = attempts;
+      packet = o .packet;
+      command = o .command;
+    }

@@ -1,0 +1,31 @@
+-- "Order for every call: settings and store (11), record (13), then the table's order downward."
+use mathlib.Core.Bool.{Bool}
+use lib.Dec.{eqb}
+use Rattle.numbers.specs.Pick.{pick, both}
+use Rattle.numbers.specs.declared.refusals.Refusal.the-variants.{OutOfRange, Damaged}
+use Rattle.parts.specs.Sizes.{storeLength}
+use Rattle.peer.specs.Settings.{fitSettings}
+use Rattle.peer.specs.Damage.{sound}
+use Rattle.peer.specs.Outcome.{Outcome, unchanged}
+use Rattle.peer.specs.declared.settings.Settings.{Settings}
+use Rattle.peer.specs.declared.record.Peer.{Peer}
+use Rattle.peer.specs.declared.gate.Lent.{Lent}
+use Rattle.peer.specs.declared.gate.Lent.the-variants.{Nothing, Store}
+use Rattle.peer.specs.declared.gate.Gate.{Gate}
+use Rattle.peer.specs.declared.gate.Gate.the-variants.{Open, Shut}
+
+-- "a setting out of range or a store of another length"
+abbrev pub fits : Settings → Lent → Bool
+fits s Nothing = fitSettings s
+fits s (Store length) = both (fitSettings s) (eqb length storeLength)
+
+abbrev pub gateOf : Bool → Bool → Gate
+gateOf fit good = pick fit (pick good Open (Shut Damaged)) (Shut OutOfRange)
+
+-- a call behind the gate, which may change x
+abbrev pub gated : {A : Type 0} → Settings → Lent → Peer → A → Outcome A → Outcome A
+gated s lent p x rest = pick (fits s lent) (pick (sound p) rest (unchanged Damaged x)) (unchanged OutOfRange x)
+
+-- a call that may change the record and is lent nothing
+abbrev pub onRecord : Settings → Peer → Outcome Peer → Outcome Peer
+onRecord s p rest = gated s Nothing p p rest

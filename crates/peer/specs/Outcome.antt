@@ -1,0 +1,21 @@
+-- What a call comes to: its answer, and what it leaves, the record or the record and the store that was lent.
+use mathlib.Core.Path.{_≡_}
+use mathlib.Core.List.{[]}
+use Rattle.numbers.specs.Answers.{Answer, done, refused}
+use Rattle.numbers.specs.declared.refusals.Refusal.{Refusal}
+
+pub record Outcome (A : Type 0) : Type 0 where
+  pub answer : Answer
+  pub after : A
+
+-- a refusal leaves what it found
+abbrev pub unchanged : {A : Type 0} → Refusal → A → Outcome A
+unchanged why x = record { answer = refused why; after = x }
+
+abbrev pub finished : {A : Type 0} → A → Outcome A
+finished x = record { answer = done []; after = x }
+
+-- A reply and what was left are an outcome, by the `answerOf` of the reply's kind: what every call promises.
+pub record Came {R A : Type 0} (answerOf : R → Answer) (o : Outcome A) (reply : R) (left : A) : Type 0 where
+  pub answer : answerOf reply ≡ o .answer
+  pub after : left ≡ o .after

@@ -1,0 +1,66 @@
+-- The record with another group: what a call does not name stays as it is. A group that joins the record is added in `renewed`.
+use mathlib.Core.List.{List}
+use Rattle.parts.specs.declared.groups.Standing.{Standing}
+use Rattle.parts.specs.declared.groups.Totals.{Totals}
+use Rattle.parts.specs.declared.groups.Times.{Times}
+use Rattle.parts.specs.declared.groups.Loss.{Loss}
+use Rattle.parts.specs.declared.groups.Flow.{Flow}
+use Rattle.parts.specs.declared.groups.Lists.{Lists}
+use Rattle.parts.specs.declared.groups.Groups.{Groups}
+use Rattle.parts.specs.declared.groups.Waiting.{Waiting}
+use Rattle.parts.specs.declared.groups.Channel.{Channel}
+use Rattle.parts.specs.declared.groups.Outgoing.{Outgoing}
+use Rattle.peer.specs.declared.record.Peer.{Peer}
+
+-- all the groups that a call may change
+abbrev pub renewed : Peer → Standing → Totals → Times → Loss → Flow → Lists → Groups → Waiting → List Channel → List Outgoing → Peer
+renewed p standing totals times loss flow lists groups waiting channels outgoing =
+    record {
+      ids = p .ids;
+      standing = standing;
+      bandwidth = p .bandwidth;
+      totals = totals;
+      times = times;
+      loss = loss;
+      throttling = p .throttling;
+      limits = p .limits;
+      trips = p .trips;
+      flow = flow;
+      lists = lists;
+      groups = groups;
+      waiting = waiting;
+      channels = channels;
+      outgoing = outgoing;
+      incoming = p .incoming;
+    }
+
+-- one of them
+abbrev pub withStanding : Peer → Standing → Peer
+withStanding p x = renewed p x (p .totals) (p .times) (p .loss) (p .flow) (p .lists) (p .groups) (p .waiting) (p .channels) (p .outgoing)
+
+abbrev pub withTotals : Peer → Totals → Peer
+withTotals p x = renewed p (p .standing) x (p .times) (p .loss) (p .flow) (p .lists) (p .groups) (p .waiting) (p .channels) (p .outgoing)
+
+abbrev pub withTimes : Peer → Times → Peer
+withTimes p x = renewed p (p .standing) (p .totals) x (p .loss) (p .flow) (p .lists) (p .groups) (p .waiting) (p .channels) (p .outgoing)
+
+abbrev pub withLoss : Peer → Loss → Peer
+withLoss p x = renewed p (p .standing) (p .totals) (p .times) x (p .flow) (p .lists) (p .groups) (p .waiting) (p .channels) (p .outgoing)
+
+abbrev pub withFlow : Peer → Flow → Peer
+withFlow p x = renewed p (p .standing) (p .totals) (p .times) (p .loss) x (p .lists) (p .groups) (p .waiting) (p .channels) (p .outgoing)
+
+abbrev pub withLists : Peer → Lists → Peer
+withLists p x = renewed p (p .standing) (p .totals) (p .times) (p .loss) (p .flow) x (p .groups) (p .waiting) (p .channels) (p .outgoing)
+
+abbrev pub withGroups : Peer → Groups → Peer
+withGroups p x = renewed p (p .standing) (p .totals) (p .times) (p .loss) (p .flow) (p .lists) x (p .waiting) (p .channels) (p .outgoing)
+
+abbrev pub withWaiting : Peer → Waiting → Peer
+withWaiting p x = renewed p (p .standing) (p .totals) (p .times) (p .loss) (p .flow) (p .lists) (p .groups) x (p .channels) (p .outgoing)
+
+abbrev pub withChannels : Peer → List Channel → Peer
+withChannels p x = renewed p (p .standing) (p .totals) (p .times) (p .loss) (p .flow) (p .lists) (p .groups) (p .waiting) x (p .outgoing)
+
+abbrev pub withOutgoing : Peer → List Outgoing → Peer
+withOutgoing p x = renewed p (p .standing) (p .totals) (p .times) (p .loss) (p .flow) (p .lists) (p .groups) (p .waiting) (p .channels) x
