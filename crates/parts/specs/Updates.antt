@@ -3,6 +3,8 @@ use Prim.Native.Nat.{ℕ}
 use Rattle.numbers.specs.declared.counters.Reliable.{Reliable}
 use Rattle.numbers.specs.declared.counters.Unreliable.{Unreliable}
 use Rattle.numbers.specs.declared.counters.Group.{Group}
+use Rattle.slots.specs.Lists.{outgoing, outItems, outKeep}
+use Rattle.slots.specs.Runs.{pushed, without}
 use Rattle.slots.specs.declared.outgoing.OutList.{OutList}
 use Rattle.parts.specs.declared.groups.Standing.{Standing}
 use Rattle.parts.specs.declared.groups.Totals.{Totals}
@@ -87,3 +89,10 @@ withAttempt o sent timeout attempts =
       packet = o .packet;
       command = o .command;
     }
+
+-- a list of the outgoing pool with a slot more at its end, and without its head
+abbrev pub longer : OutList → ℕ → OutList
+longer l s = outKeep l (pushed outgoing (outItems l) s)
+
+abbrev pub shorter : OutList → OutList
+shorter l = outKeep l (without (outItems l) 0)

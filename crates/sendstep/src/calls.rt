@@ -1,17 +1,14 @@
 // The send step on the record.
 ghost use mathlib.Core.Path.{_≡_};
-ghost use mathlib.Core.Bool.{true};
-ghost use Prim.Native.Nat.{_<_};
-ghost use Rattle.slots.specs.Lists.{outgoing};
-ghost use Rattle.slots.specs.declared.First.the-variants.{Slot};
-ghost use Rattle.peer.specs.Damage.{sound};
-ghost use Rattle.command.specs.Rows.{namesFields};
-ghost use Rattle.sendstep.specs.Steps.{head};
-ghost use Rattle.sendstep.specs.Calls.{Came, steps, stepsSound, stepsFrom};
+ghost use Rattle.peer.specs.Outcome.{Came};
+ghost use Rattle.sendstep.specs.Calls.{answerOf, steps, Named};
 use crate::heads;
 use crate::heads::Queue;
+use numbers::refusals::Refusal;
 use parts::groups::Outgoing;
-use peer::calls;
+use peer::gate;
+use peer::gate::Gate;
+use peer::gate::Lent;
 use peer::record::Peer;
 use peer::settings::Settings;
 use slots::First;
@@ -19,57 +16,64 @@ use slots::First;
 pub enum Reply {
     Nothing,
     Head(Outgoing),
-    OutOfRange,
-    Damaged,
+    Refused(Refusal),
 }
 
+// The record first: so it is made where the caller wants it.
 pub struct Stepped {
-    pub reply: Reply,
     pub peer: Peer,
+    pub reply: Reply,
 }
 
 // Refused by 11 and 13; nothing to send, or the head after its changes.
 pub fn step(peer: Peer, settings: Settings, q: Queue, time: u32) -> Stepped
-    ensures { λ r. ⌜ Came (steps settings q time peer) r ⌝ }
+    ensures came { λ r. ⌜ Came answerOf (steps settings q time peer) (r .reply) (r .peer) ⌝ }
+    ensures named { λ r. ⌜ Named (r .reply) ⌝ }
 {
-    let gate = peer.gate(settings);
-    match gate {
-        calls::Reply::OutOfRange => Stepped {
-            reply: Reply::OutOfRange,
-            peer,
-        },
-        calls::Reply::Damaged => Stepped {
-            reply: Reply::Damaged,
-            peer,
-        },
-        calls::Reply::Done => step_sound(peer, q, time),
+    let mut p = peer;
+    let lists = p.lists;
+    let channels = p.channels;
+    let incoming = p.incoming;
+    let outgoing = p.outgoing;
+    let worths = damage::worths(outgoing, p.standing.count);
+    let gate = gate::pass(
+        settings,
+        Lent::Nothing,
+        p.flow.mtu,
+        p.standing.count,
+        p.waiting.total,
+        lists,
+        channels,
+        worths,
+        incoming,
+    );
+    if let Gate::Shut(why) = gate {
+        return Stepped {
+            peer: p,
+            reply: Reply::Refused(why),
+        };
     }
-}
-
-fn step_sound(peer: Peer, q: Queue, time: u32) -> Stepped
-    requires { ⌜ sound peer ≡ true ⌝ }
-    ensures { λ r. ⌜ Came (stepsSound q time peer) r ⌝ }
-{
-    let list = heads::list_of(q, peer.lists);
-    let took = list.take();
-    let first = took.first;
-    match first {
-        First::Empty => Stepped {
+    let first = heads::first_of(q, lists);
+    let First::Slot(s) = first else {
+        return Stepped {
+            peer: p,
             reply: Reply::Nothing,
-            peer,
-        },
-        First::Slot(s) => step_head(peer, q, s, time),
-    }
-}
-
-fn step_head(peer: Peer, q: Queue, s: u16, time: u32) -> Stepped
-    requires { ⌜ (s < outgoing) × (namesFields (head peer s time .command) ≡ true) ⌝ }
-    ensures { λ r. ⌜ Came (stepsFrom (Slot s) q time peer) r ⌝ }
-{
-    let o = heads::head(peer, s, time);
-    let after = heads::send(peer, q, s, o);
+        };
+    };
+    let at = s as usize;
+    let slot = p.outgoing[at];
+    let o = heads::attempt(slot, p.trips, time);
+    let loss = heads::count(p.loss);
+    let times = heads::time(p.times, lists.sent, o);
+    let flow = heads::carry(p.flow, o);
+    let after = heads::move_on(q, lists, s, o);
+    p.outgoing[at] = o;
+    p.loss = loss;
+    p.times = times;
+    p.flow = flow;
+    p.lists = after;
     Stepped {
+        peer: p,
         reply: Reply::Head(o),
-        peer: after,
     }
 }

@@ -1,8 +1,9 @@
-// What sending changes: the head's slot, the lists, the peer's numbers.
+// What sending changes, group by group: the head's slot, the lists, the peer's numbers.
 ghost use mathlib.Core.Path.{_≡_};
-ghost use Prim.Native.Nat.{_<_, _+_, min};
-ghost use Rattle.slots.specs.Lists.{outgoing, outItems};
-ghost use Rattle.sendstep.specs.Steps.{listOf, left, joined, attempted, counted, carrying, timed, head, sentAs};
+ghost use Prim.Native.Nat.{_+_, min};
+ghost use Rattle.slots.specs.Lists.{outItems};
+ghost use Rattle.slots.specs.Runs.{first};
+ghost use Rattle.sendstep.specs.Steps.{listOf, withoutHead, listsSent, isAcknowledged, attempted, packetSent, flowSent, timesSent};
 use numbers::wrapping;
 use parts::groups::Flow;
 use parts::groups::Lists;
@@ -10,7 +11,7 @@ use parts::groups::Loss;
 use parts::groups::Outgoing;
 use parts::groups::Times;
 use parts::groups::Trips;
-use peer::record::Peer;
+use slots::First;
 use slots::outgoing::OutList;
 use stamps::counting;
 
@@ -20,7 +21,7 @@ pub enum Queue {
     Reliable,
 }
 
-pub(crate) fn list_of(q: Queue, lists: Lists) -> OutList
+fn list_of(q: Queue, lists: Lists) -> OutList
     ensures { λ r. ⌜ r ≡ listOf q lists ⌝ }
 {
     match q {
@@ -29,9 +30,18 @@ pub(crate) fn list_of(q: Queue, lists: Lists) -> OutList
     }
 }
 
+// The slot at the head of its list.
+pub(crate) fn first_of(q: Queue, lists: Lists) -> First
+    ensures { λ r. ⌜ r ≡ first (outItems (listOf q lists)) ⌝ }
+{
+    let list = list_of(q, lists);
+    let took = list.take();
+    took.first
+}
+
 // The head leaves its list.
 fn leave(q: Queue, lists: Lists) -> Lists
-    ensures { λ r. ⌜ r ≡ left q lists ⌝ }
+    ensures { λ r. ⌜ r ≡ withoutHead q lists ⌝ }
 {
     let mut l = lists;
     match q {
@@ -49,15 +59,26 @@ fn leave(q: Queue, lists: Lists) -> Lists
     l
 }
 
-// Slot s joins sent at the end.
-fn join(lists: Lists, s: u16) -> Lists
-    ensures { λ r. ⌜ r ≡ joined lists s ⌝ }
+// Whether the head's command asks for an answer.
+fn is_acknowledged(o: Outgoing) -> bool
+    ensures { λ r. ⌜ r ≡ isAcknowledged o ⌝ }
 {
+    let c = o.command;
+    counting::is_acknowledged(c.byte)
+}
+
+// The head leaves its list; acknowledged, it joins sent, and else its slot is free.
+pub(crate) fn move_on(q: Queue, lists: Lists, s: u16, o: Outgoing) -> Lists
+    ensures { λ r. ⌜ r ≡ listsSent q lists s o ⌝ }
+{
+    let mut rest = leave(q, lists);
+    if !is_acknowledged(o) {
+        return rest;
+    }
     let sent = lists.sent;
     let longer = sent.push(s);
-    let mut l = lists;
-    l.sent = longer;
-    l
+    rest.sent = longer;
+    rest
 }
 
 // One more, held at 65,535.
@@ -71,7 +92,7 @@ fn more(attempts: u16) -> u16
 }
 
 // One more attempt, the sent time, and the timeout if it is 0.
-fn attempt(o: Outgoing, trips: Trips, time: u32) -> Outgoing
+pub(crate) fn attempt(o: Outgoing, trips: Trips, time: u32) -> Outgoing
     ensures { λ r. ⌜ r ≡ attempted o trips time ⌝ }
 {
     let mut slot = o;
@@ -84,70 +105,38 @@ fn attempt(o: Outgoing, trips: Trips, time: u32) -> Outgoing
 }
 
 // Packets sent + 1.
-fn count(loss: Loss) -> Loss
-    ensures { λ r. ⌜ r ≡ counted loss ⌝ }
+pub(crate) fn count(loss: Loss) -> Loss
+    ensures { λ r. ⌜ r ≡ packetSent loss ⌝ }
 {
     let mut l = loss;
     l.sent = std::num::wrapping_add_u32(loss.sent, 1);
     l
 }
 
-// In transit grows by the packet's piece length.
-fn carry(flow: Flow, o: Outgoing) -> Flow
-    ensures { λ r. ⌜ r ≡ carrying flow o ⌝ }
+// In transit grows by an acknowledged packet's piece length.
+pub(crate) fn carry(flow: Flow, o: Outgoing) -> Flow
+    ensures { λ r. ⌜ r ≡ flowSent flow o ⌝ }
 {
     let mut f = flow;
+    if !is_acknowledged(o) {
+        return f;
+    }
     if o.packet {
         f.transit = std::num::wrapping_add_u32(flow.transit, o.length as u32);
     }
     f
 }
 
-// If nothing was sent before, the next timeout is this one's.
-fn time(times: Times, sent: OutList, o: Outgoing) -> Times
-    ensures { λ r. ⌜ r ≡ timed times (outItems sent) o ⌝ }
+// If nothing was sent before, the next timeout is this acknowledged one's.
+pub(crate) fn time(times: Times, sent: OutList, o: Outgoing) -> Times
+    ensures { λ r. ⌜ r ≡ timesSent times (outItems sent) o ⌝ }
 {
     let mut t = times;
+    if !is_acknowledged(o) {
+        return t;
+    }
     if sent.count() == 0 {
         t.next_timeout = std::num::wrapping_add_u32(o.sent, o.timeout);
     }
     t
-}
-
-// Slot s as it goes out.
-pub(crate) fn head(peer: Peer, s: u16, time: u32) -> Outgoing
-    requires { ⌜ s < outgoing ⌝ }
-    ensures { λ r. ⌜ r ≡ head peer s time ⌝ }
-{
-    let pool = peer.outgoing;
-    let o = pool[s as usize];
-    let trips = peer.trips;
-    attempt(o, trips, time)
-}
-
-// The record once slot s went out as o: acknowledged, or its slot free.
-pub(crate) fn send(peer: Peer, q: Queue, s: u16, o: Outgoing) -> Peer
-    requires { ⌜ s < outgoing ⌝ }
-    ensures { λ r. ⌜ r ≡ sentAs q s o peer ⌝ }
-{
-    let was = peer.lists;
-    let rest = leave(q, was);
-    let loss = count(peer.loss);
-    let mut pool = peer.outgoing;
-    pool[s as usize] = o;
-    let mut p = peer;
-    p.loss = loss;
-    p.outgoing = pool;
-    p.lists = rest;
-    let c = o.command;
-    if !counting::asks(c.byte) {
-        return p;
-    }
-    let lists = join(rest, s);
-    let flow = carry(peer.flow, o);
-    let times = time(peer.times, was.sent, o);
-    p.lists = lists;
-    p.flow = flow;
-    p.times = times;
-    p
 }

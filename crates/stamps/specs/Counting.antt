@@ -10,21 +10,23 @@ use Rattle.numbers.specs.Counters.{step}
 use Rattle.numbers.specs.declared.counters.Reliable.{Reliable}
 use Rattle.numbers.specs.declared.counters.Unreliable.{Unreliable}
 use Rattle.numbers.specs.declared.counters.Group.{Group}
+use Rattle.parts.specs.Sizes.{itself}
 use Rattle.parts.specs.Fresh.{noChannel}
+use Rattle.parts.specs.Updates.{withNumbers}
 use Rattle.parts.specs.declared.groups.Channel.{Channel}
 use Rattle.stamps.specs.declared.counting.Counters.{Counters}
 use Rattle.stamps.specs.declared.counting.Stamped.{Stamped}
 
 -- "128 asks for acknowledgement, 64 says unsequenced"
-abbrev pub asks : ℕ → Bool
-asks byte = bit byte 7
+abbrev pub acknowledged : ℕ → Bool
+acknowledged byte = bit byte 7
 
 abbrev pub unsequenced : ℕ → Bool
 unsequenced byte = bit byte 6
 
 -- "channel 255 is the peer itself"
-abbrev pub itself : ℕ → Bool
-itself channel = eqb channel 255
+abbrev pub isItself : ℕ → Bool
+isItself channel = eqb channel itself
 
 -- the counters, one of them a step on
 abbrev pub ownStep : Counters → Counters
@@ -45,28 +47,28 @@ abbrev pub restStep : ℕ → Counters → Counters
 restStep offset k = pick (eqb offset 0) (unreliableStep k) k
 
 -- the counters after a command: channel 255 first, then flag 128, then flag 64, then the rest
-abbrev pub counted : ℕ → ℕ → ℕ → Counters → Counters
-counted byte channel offset k =
-    pick (itself channel) (ownStep k)
-    (pick (asks byte) (reliableStep k) (pick (unsequenced byte) (groupStep k) (restStep offset k)))
+abbrev pub countersAfter : ℕ → ℕ → ℕ → Counters → Counters
+countersAfter byte channel offset k =
+    pick (isItself channel) (ownStep k)
+    (pick (acknowledged byte) (reliableStep k) (pick (unsequenced byte) (groupStep k) (restStep offset k)))
 
 -- the command's reliable number, off the counters as they then stand
 abbrev pub reliableOf : ℕ → ℕ → Counters → Reliable
 reliableOf byte channel k =
-    pick (itself channel) (k .own) (pick (asks byte) (k .reliable) (pick (unsequenced byte) (record { 0 = 0 }) (k .reliable)))
+    pick (isItself channel) (k .own) (pick (acknowledged byte) (k .reliable) (pick (unsequenced byte) (record { 0 = 0 }) (k .reliable)))
 
 -- and its unreliable number, 0 but for the rest
 abbrev pub unreliableOf : ℕ → ℕ → Counters → Unreliable
 unreliableOf byte channel k =
-    pick (itself channel) (record { 0 = 0 })
-    (pick (asks byte) (record { 0 = 0 }) (pick (unsequenced byte) (record { 0 = 0 }) (k .unreliable)))
+    pick (isItself channel) (record { 0 = 0 })
+    (pick (acknowledged byte) (record { 0 = 0 }) (pick (unsequenced byte) (record { 0 = 0 }) (k .unreliable)))
 
 abbrev pub stampedBy : Counters → Reliable → Unreliable → Stamped
 stampedBy k reliable unreliable = record { counters = k; reliable = reliable; unreliable = unreliable }
 
 abbrev pub stamped : ℕ → ℕ → ℕ → Counters → Stamped
 stamped byte channel offset k =
-    let after = counted byte channel offset k in
+    let after = countersAfter byte channel offset k in
     stampedBy after (reliableOf byte channel after) (unreliableOf byte channel after)
 
 -- a channel of the record; one as made new where there is none
@@ -84,13 +86,4 @@ countersAt own cs channel group =
 
 -- a channel's two outgoing numbers as counted; 255 has no place among the channels
 abbrev pub numbered : List Channel → ℕ → Counters → List Channel
-numbered cs channel k =
-    let c = channelAt cs channel in
-    set cs channel
-    (record {
-      «outgoing_reliable» = k .reliable;
-      «outgoing_unreliable» = k .unreliable;
-      «incoming_reliable» = c .«incoming_reliable»;
-      «incoming_unreliable» = c .«incoming_unreliable»;
-      held = c .held;
-    })
+numbered cs channel k = set cs channel (withNumbers (channelAt cs channel) (k .reliable) (k .unreliable))

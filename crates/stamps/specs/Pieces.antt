@@ -1,12 +1,17 @@
--- The slot that a piece fills once its counters have stepped, and how the data total grows.
+-- The slot that a piece fills once its counters have stepped, how the data total grows, and which list the slot joins.
 use Prim.Native.Nat.{ℕ, _+_, _%_}
+use mathlib.Core.Bool.{Bool}
+use Rattle.numbers.specs.Pick.{pick, both}
 use Rattle.numbers.specs.Modulo.{sum}
 use Rattle.numbers.specs.declared.counters.Unreliable.{Unreliable}
 use Rattle.numbers.specs.declared.counters.Group.{Group}
 use Rattle.command.specs.Layout.{sizeOf}
 use Rattle.command.specs.declared.fields.Fields.{Fields}
 use Rattle.command.specs.declared.fields.Fields.the-variants as vr
+use Rattle.parts.specs.Updates.{withReliableList, withOutgoingList, longer}
+use Rattle.parts.specs.declared.groups.Lists.{Lists}
 use Rattle.parts.specs.declared.groups.Outgoing.{Outgoing}
+use Rattle.stamps.specs.Counting.{acknowledged}
 use Rattle.stamps.specs.declared.counting.Stamped.{Stamped}
 use Rattle.stamps.specs.declared.pieces.Piece.{Piece}
 
@@ -50,3 +55,12 @@ slotOf x s queued =
 -- by the command's size and the piece's length, modulo 2^32
 abbrev pub grown : ℕ → Piece → ℕ
 grown total x = sum 32 total (sizeOf (x .command .byte % 16) + x .length)
+
+-- send-reliable only with flag 128 and a packet, else outgoing
+abbrev pub toReliable : Piece → Bool
+toReliable x = both (acknowledged (x .command .byte)) (x .packet)
+
+-- slot s at the end of the piece's list
+abbrev pub listsWith : Lists → Piece → ℕ → Lists
+listsWith l x s =
+    pick (toReliable x) (withReliableList l (longer (l .reliable) s)) (withOutgoingList l (longer (l .outgoing) s))

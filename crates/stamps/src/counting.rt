@@ -1,12 +1,13 @@
 // Which counters a command steps, by the source's tests in the source's order.
 ghost use mathlib.Core.Path.{_≡_};
-ghost use Rattle.stamps.specs.Counting.{asks, ownStep, reliableStep, groupStep, restStep, stampedBy, stamped, countersAt, numbered};
+ghost use Rattle.stamps.specs.Counting.{acknowledged, ownStep, reliableStep, groupStep, restStep, stampedBy, stamped, countersAt, numbered};
 use numbers::bits;
 use numbers::counters::Group;
 use numbers::counters::Reliable;
 use numbers::counters::Unreliable;
 use parts::groups::CHANNELS;
 use parts::groups::Channel;
+use parts::groups::ITSELF;
 
 // The counters that setting up may step: the peer's own, a channel's two, the peer's group.
 pub struct Counters {
@@ -23,9 +24,9 @@ pub struct Stamped {
     pub unreliable: Unreliable,
 }
 
-// Whether a command byte has flag 128.
-pub fn asks(byte: u8) -> bool
-    ensures { λ r. ⌜ r ≡ asks byte ⌝ }
+// Whether a command byte asks for acknowledgement: flag 128.
+pub fn is_acknowledged(byte: u8) -> bool
+    ensures { λ r. ⌜ r ≡ acknowledged byte ⌝ }
 {
     bits::is_set(byte as u32, 7)
 }
@@ -34,10 +35,10 @@ pub fn asks(byte: u8) -> bool
 pub fn stamp(byte: u8, channel: u8, offset: u32, counters: Counters) -> Stamped
     ensures { λ r. ⌜ r ≡ stamped byte channel offset counters ⌝ }
 {
-    if channel == 255 {
+    if channel == ITSELF {
         return stamp_own(counters);
     }
-    if asks(byte) {
+    if is_acknowledged(byte) {
         return stamp_reliable(counters);
     }
     if bits::is_set(byte as u32, 6) {
@@ -117,7 +118,7 @@ fn stamp_unreliable(offset: u32, counters: Counters) -> Stamped
 }
 
 // The counters that a command on this channel may step; 0 for a channel that is not there.
-pub fn gather(own: Reliable, channels: [Channel; CHANNELS], i: u8, group: Group) -> Counters
+pub fn counters_of(own: Reliable, channels: [Channel; CHANNELS], i: u8, group: Group) -> Counters
     ensures { λ r. ⌜ r ≡ countersAt own channels i group ⌝ }
 {
     if CHANNELS <= i as usize {

@@ -67,6 +67,6 @@ pub fn grow(total: u32, x: Piece) -> u32
 {
     let c = x.command;
     let size = layout::size(c.byte % 16);
-    let wide = (total as u64) + (size as u64) + (x.length as u64);
-    (wide % 0x1_0000_0000) as u32
+    let more = std::num::wrapping_add_u32(total, size as u32);
+    std::num::wrapping_add_u32(more, x.length as u32)
 }

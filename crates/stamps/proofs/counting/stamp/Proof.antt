@@ -12,15 +12,15 @@ stamp-own-requires c κs = search needs
 returns : tie.Need-returns
 returns c = rw (c .stamp-own .ensures, eq-eqb _ _ (c .before .if1 .taken))
 
-asks-requires : tie.Need-asks-requires
-asks-requires c κs = search needs
+is-acknowledged-requires : tie.Need-is-acknowledged-requires
+is-acknowledged-requires c κs = search needs
 
 stamp-reliable-requires : tie.Need-stamp-reliable-requires
 stamp-reliable-requires c κs = search needs
 
 returns-2 : tie.Need-returns-2
 returns-2 c =
-    let asked = c .before .before .asks in
+    let asked = c .before .before .is-acknowledged in
     rw (c .stamp-reliable .ensures, ne-eqb _ _ (c .before .before .before .if1 .left), sym (asked .ensures) ∙ c .before .if2 .taken)
 
 is-set-requires : tie.Need-is-set-requires
@@ -35,7 +35,7 @@ returns-3 c =
     rw (
       c .stamp-group .ensures,
       ne-eqb _ _ (b .before .before .before .if1 .left),
-      sym (b .before .before .asks .ensures) ∙ b .before .if2 .left,
+      sym (b .before .before .is-acknowledged .ensures) ∙ b .before .if2 .left,
       sym (b .is-set .ensures) ∙ c .before .if3 .taken,
     )
 
@@ -48,7 +48,7 @@ returns-4 c =
     rw (
       c .stamp-unreliable .ensures,
       ne-eqb _ _ (b .before .before .before .if1 .left),
-      sym (b .before .before .asks .ensures) ∙ b .before .if2 .left,
+      sym (b .before .before .is-acknowledged .ensures) ∙ b .before .if2 .left,
       sym (b .is-set .ensures) ∙ c .before .if3 .left,
       rest-reliable,
     )
@@ -59,7 +59,7 @@ stamp-spec =
     (tie.spec
     stamp-own-requires
     returns
-    asks-requires
+    is-acknowledged-requires
     stamp-reliable-requires
     returns-2
     is-set-requires

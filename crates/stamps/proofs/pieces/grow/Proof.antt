@@ -1,31 +1,42 @@
--- `grow` meets its contract: no command is longer than 48 bytes, so the sum before the remainder has room.
+-- `grow` meets its contract: two sums in turn are one of both, and no command is longer than 48 bytes.
 use Prim.Native.Nat.{_≤_}
-use borrow.Author.Needs.{needs}
+use mathlib.Core.Path.{_∙_}
+use Rattle.numbers.proofs.ModuloLaws.{sum-in-turn}
 use Rattle.command.proofs.LayoutLaws.{size-le}
+use borrow.Author.Needs.{needs}
 use Rattle.stamps.proofs.pieces.grow.Statement.{statement}
 use Rattle.stamps.proofs.pieces.grow.Tie as tie
 
 size-requires : tie.Need-size-requires
 size-requires c κs = search needs
 
-add-wide : tie.Need-add-wide
-add-wide c =
+cast-wrapping-add-u32 : tie.Need-cast-wrapping-add-u32
+cast-wrapping-add-u32 c =
     let small : c .size .result ≤ 48 = rw (c .size .ensures) (size-le _) in
     search needs
 
-cast-wide : tie.Need-cast-wide
-cast-wide c = search needs
+wrapping-add-u32-requires : tie.Need-wrapping-add-u32-requires
+wrapping-add-u32-requires c κs = search needs
 
-add-wide-2 : tie.Need-add-wide-2
-add-wide-2 c =
-    let small : c .before .size .result ≤ 48 = rw (c .before .size .ensures) (size-le _) in
-    search needs
+cast-wrapping-add-u32-2 : tie.Need-cast-wrapping-add-u32-2
+cast-wrapping-add-u32-2 c = search needs
 
-cast-result : tie.Need-cast-result
-cast-result c = search needs
+wrapping-add-u32-requires-2 : tie.Need-wrapping-add-u32-requires-2
+wrapping-add-u32-requires-2 c κs = search needs
 
 returns : tie.Need-returns
-returns c = search needs
+returns c =
+    let m = c .before .before in
+    c .wrapping-add-u322 .ensures
+    ∙ rw (m .wrapping-add-u32 .ensures, m .before .size .ensures) (sum-in-turn (m .before .before .before .before .args .total) _ _)
 
 pub grow-spec : {M : Type 1} → statement M
-grow-spec = tie.close (tie.spec size-requires add-wide cast-wide add-wide-2 cast-result returns)
+grow-spec =
+    tie.close
+    (tie.spec
+    size-requires
+    cast-wrapping-add-u32
+    wrapping-add-u32-requires
+    cast-wrapping-add-u32-2
+    wrapping-add-u32-requires-2
+    returns)

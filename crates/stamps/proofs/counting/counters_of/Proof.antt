@@ -1,12 +1,12 @@
--- `gather` meets its contract: past the channels the default answers, whose numbers are 0; below, no default is asked for.
+-- `counters_of` meets its contract: past the channels the default answers, whose numbers are 0; below, no default is asked for.
 use mathlib.Core.Path.{_≡_}
 use native.Mathlib.Omega.{arith}
 use lib.ListN.{length, List·getD-eq-default}
 use borrow.Author.Needs.{needs}
 use Rattle.parts.specs.Fresh.{noChannel}
 use Rattle.stamps.proofs.CountLaws.{channel-here}
-use Rattle.stamps.proofs.counting.gather.Statement.{statement}
-use Rattle.stamps.proofs.counting.gather.Tie as tie
+use Rattle.stamps.proofs.counting.counters_of.Statement.{statement}
+use Rattle.stamps.proofs.counting.counters_of.Tie as tie
 
 returns : tie.Need-returns
 unfolding noChannel
@@ -27,5 +27,5 @@ returns-2 c =
     let e : length (a .t2) ≡ 8 = search needs in
     rw (channel-here (a .t2) (a .i) (omega arith))
 
-pub gather-spec : {M : Type 1} → statement M
-gather-spec = tie.close (tie.spec returns mul-c array-copy-out-c returns-2)
+pub counters-of-spec : {M : Type 1} → statement M
+counters-of-spec = tie.close (tie.spec returns mul-c array-copy-out-c returns-2)

@@ -2,18 +2,18 @@
 use mathlib.Core.Path.{sym, _∙_}
 use mathlib.Core.Logic.{⊎-elim}
 use borrow.Author.Needs.{needs}
-use Rattle.setup.proofs.queueing.join.Statement.{statement}
-use Rattle.setup.proofs.queueing.join.Tie as tie
+use Rattle.stamps.proofs.outbox.join.Statement.{statement}
+use Rattle.stamps.proofs.outbox.join.Tie as tie
 
-asks-requires : tie.Need-asks-requires
-asks-requires c κs = search needs
+is-acknowledged-requires : tie.Need-is-acknowledged-requires
+is-acknowledged-requires c κs = search needs
 
 push-requires : tie.Need-push-requires
 push-requires c κs = search needs
 
 returns : tie.Need-returns
 returns c =
-    let asked = sym (c .before .before .before .before .asks .ensures) ∙ c .before .before .before .if1 .taken in
+    let asked = sym (c .before .before .before .before .is-acknowledged .ensures) ∙ c .before .before .before .if1 .taken in
     rw (c .push .ensures, asked, c .before .before .if2 .taken)
 
 push-requires-2 : tie.Need-push-requires-2
@@ -21,11 +21,11 @@ push-requires-2 c κs = search needs
 
 returns-2 : tie.Need-returns-2
 returns-2 c =
-    let asked = c .before .before .before .asks in
+    let asked = c .before .before .before .is-acknowledged in
     ⊎-elim
     (λ w. rw (c .push2 .ensures, sym (asked .ensures) ∙ w .0 .taken, w .1 .left))
     (λ w. rw (c .push2 .ensures, sym (asked .ensures) ∙ w .left))
     (c .before .before .if1 .came)
 
 pub join-spec : {M : Type 1} → statement M
-join-spec = tie.close (tie.spec asks-requires push-requires returns push-requires-2 returns-2)
+join-spec = tie.close (tie.spec is-acknowledged-requires push-requires returns push-requires-2 returns-2)

@@ -1,4 +1,4 @@
--- `named` meets its contract: the marks of three lists one after another are those of the three joined.
+-- `marks` meets its contract: the marks of three lists one after another are those of the three joined.
 use Prim.Native.Nat.{ℕ}
 use mathlib.Core.List.{_++_}
 use lib.ListN.{replicate}
@@ -6,8 +6,8 @@ use borrow.Author.Needs.{needs}
 use Rattle.slots.specs.Lists.{outgoing, outItems}
 use Rattle.slots.specs.Free.{markedAll}
 use Rattle.slots.proofs.Marked.{marked-append}
-use Rattle.stamps.proofs.room.named.Statement.{statement}
-use Rattle.stamps.proofs.room.named.Tie as tie
+use Rattle.stamps.proofs.room.marks.Statement.{statement}
+use Rattle.stamps.proofs.room.marks.Tie as tie
 
 slice-aggregate-mark : tie.Need-slice-aggregate-mark
 slice-aggregate-mark c = search needs
@@ -38,8 +38,8 @@ returns c =
     rw (marked-append none sent (reliable ++ waiting), marked-append (markedAll none sent) reliable waiting, ← m .before .before .before .mark .ensures, ← m .mark2 .ensures)
     (c .before .mark3 .ensures)
 
-pub named-spec : {M : Type 1} → statement M
-named-spec =
+pub marks-spec : {M : Type 1} → statement M
+marks-spec =
     tie.close
     (tie.spec
     slice-aggregate-mark

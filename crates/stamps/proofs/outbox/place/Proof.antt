@@ -1,0 +1,26 @@
+-- `place` meets its contract: each call's answer stands where the definition has its rule.
+use borrow.Author.Needs.{needs}
+use Rattle.stamps.proofs.outbox.place.Statement.{statement}
+use Rattle.stamps.proofs.outbox.place.Tie as tie
+
+join-requires : tie.Need-join-requires
+join-requires c κs = search needs
+
+mark-requires : tie.Need-mark-requires
+mark-requires c κs = search needs
+
+grow-requires : tie.Need-grow-requires
+grow-requires c κs = search needs
+
+wrapping-add-u32-requires : tie.Need-wrapping-add-u32-requires
+wrapping-add-u32-requires c κs = search needs
+
+returns : tie.Need-returns
+returns c =
+    let m = c .before .before in
+    rw (c .wrapping-add-u32 .ensures, c .before .grow .ensures, m .mark .ensures, m .before .before .join .ensures)
+
+pub place-spec : {M : Type 1} → statement M
+place-spec =
+    tie.close
+    (tie.spec join-requires mark-requires grow-requires wrapping-add-u32-requires returns)
