@@ -22,10 +22,20 @@ fits s (Store length) = both (fitSettings s) (eqb length storeLength)
 abbrev pub gateOf : Bool → Bool → Gate
 gateOf fit good = pick fit (pick good Open (Shut Damaged)) (Shut OutOfRange)
 
--- a call behind the gate, which may change x
-abbrev pub gated : {A : Type 0} → Settings → Lent → Peer → A → Outcome A → Outcome A
-gated s lent p x rest = pick (fits s lent) (pick (sound p) rest (unchanged Damaged x)) (unchanged OutOfRange x)
+-- one gate after another
+abbrev pub then : Gate → Gate → Gate
+then Open next = next
+then (Shut why) next = Shut why
 
--- a call that may change the record and is lent nothing
+-- refused where a gate is shut, and else the rest; a call that may change x
+abbrev pub behind : {A : Type 0} → Gate → A → Outcome A → Outcome A
+behind Open x rest = rest
+behind (Shut why) x rest = unchanged why x
+
+-- every call
+abbrev pub gated : {A : Type 0} → Settings → Lent → Peer → A → Outcome A → Outcome A
+gated s lent p x rest = behind (gateOf (fits s lent) (sound p)) x rest
+
+-- one that may change the record and is lent nothing
 abbrev pub onRecord : Settings → Peer → Outcome Peer → Outcome Peer
 onRecord s p rest = gated s Nothing p p rest

@@ -22,7 +22,8 @@ use Rattle.peer.specs.Damage.{sound}
 use Rattle.peer.specs.declared.record.Peer.{Peer}
 use Rattle.parts.specs.declared.groups.Lists.{Lists}
 use Rattle.peer.proofs.Parts.{Parts}
-use Rattle.setup.specs.Queueing.{longer, toReliable, joined}
+use Rattle.parts.specs.Updates.{longer}
+use Rattle.stamps.specs.Pieces.{toReliable, listsWith}
 use Rattle.stamps.specs.declared.pieces.Piece.{Piece}
 
 -- a slot that is free leaves room in every list of its pool
@@ -62,14 +63,14 @@ module _ (l : Lists) (s : ℕ) where
   last-names = ap (λ (m : List ℕ). sent ++ (reliable ++ m)) (out-items-keep (l .outgoing) (pushed outgoing rest s))
 
   -- the other two lists stay
-  pub joined-sent : (x : Piece) → joined l x s .sent ≡ l .sent
+  pub joined-sent : (x : Piece) → listsWith l x s .sent ≡ l .sent
   joined-sent x = go (toReliable x)
     where
       go : (b : Bool) → pick b toFirst toLast .sent ≡ l .sent
       go true = refl
       go false = refl
 
-  pub joined-dispatched : (x : Piece) → joined l x s .dispatched ≡ l .dispatched
+  pub joined-dispatched : (x : Piece) → listsWith l x s .dispatched ≡ l .dispatched
   joined-dispatched x = go (toReliable x)
     where
       go : (b : Bool) → pick b toFirst toLast .dispatched ≡ l .dispatched
@@ -83,7 +84,7 @@ module _ (l : Lists) (s : ℕ) where
     pub last-room : length rest < outgoing
     last-room = omega (arith, h, length-append sent (reliable ++ rest), length-append reliable rest)
 
-    joined-times : (k : ℕ) → times (usedOut (joined l x s)) k ≡ one s k + times (usedOut l) k
+    joined-times : (k : ℕ) → times (usedOut (listsWith l x s)) k ≡ one s k + times (usedOut l) k
     joined-times k = go (toReliable x)
       where
         go : (b : Bool) → times (usedOut (pick b toFirst toLast)) k ≡ one s k + times (usedOut l) k
@@ -108,7 +109,7 @@ module _ (l : Lists) (s : ℕ) where
               times-append reliable rest k,
             )
 
-    joined-length : length (usedOut (joined l x s)) ≡ 1 + length (usedOut l)
+    joined-length : length (usedOut (listsWith l x s)) ≡ 1 + length (usedOut l)
     joined-length = go (toReliable x)
       where
         go : (b : Bool) → length (usedOut (pick b toFirst toLast)) ≡ 1 + length (usedOut l)
@@ -139,7 +140,7 @@ module _ (x : Piece) (p : Peer) (s : ℕ) (low : lowest outgoing (usedOut (p .li
   used = usedOut (p .lists)
 
   abbrev after : List ℕ
-  after = usedOut (joined (p .lists) x s)
+  after = usedOut (listsWith (p .lists) x s)
 
   pub slot-free : has used s ≡ false
   slot-free = lowest-free outgoing used s low

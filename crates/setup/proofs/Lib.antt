@@ -1,5 +1,5 @@
 pub mod Joining
-pub mod Keeping
+pub mod Sound
 pub mod Taking
-pub mod Opens
-pub mod Apart
+pub mod Stored
+pub mod Setups

@@ -23,19 +23,25 @@ use Rattle.peer.specs.Settings.{fitSettings}
 use Rattle.parts.specs.Fresh.{noOutgoing}
 use Rattle.parts.specs.Damage.{usedOut}
 use Rattle.peer.specs.Damage.{sound}
-use Rattle.peer.specs.Calls.{Outcome, Whole, finished, unchanged}
+use Rattle.numbers.specs.declared.refusals.Refusal.the-variants.{InvalidChannel, FailedToQueue, BadCommand}
+use Rattle.peer.specs.Outcome.{Outcome, finished}
+use Rattle.peer.specs.Gate.{gateOf}
+use Rattle.peer.specs.Sounds.{Whole}
+use Rattle.peer.specs.declared.gate.Gate.the-variants.{Open, Shut}
+use Rattle.peer.proofs.Gates.{behind-open}
 use Rattle.peer.specs.declared.settings.Settings.{Settings}
 use Rattle.peer.specs.declared.record.Peer.{Peer}
 use Rattle.parts.specs.declared.groups.Lists.{Lists}
 use Rattle.parts.specs.declared.groups.Outgoing.{Outgoing}
 use Rattle.peer.proofs.Parts.{sound-parts}
 use Rattle.stamps.specs.Room.{roomIn}
-use Rattle.setup.specs.Queueing.{room, joined, made, queuedAt, queuedIn, queued, queuedAll}
-use Rattle.setup.specs.Calls.{onChannel, setsUp}
+use Rattle.stamps.specs.Pieces.{listsWith}
+use Rattle.setup.specs.Queueing.{room, made, queuedAt, queuedIn, queued, queuedAll}
+use Rattle.setup.specs.Calls.{onChannel, setupGate, setsUp, setsUpSound}
 use Rattle.setup.specs.Taking.{freeFrom, frees, takenIn, taken, filled, runs, answers, Ready}
 use Rattle.stamps.specs.declared.pieces.Piece.{Piece}
 use Rattle.setup.proofs.Joining.{after-times, after-length, after-exist, after-once}
-use Rattle.setup.proofs.Keeping.{queued-pool, fit-on, fit-names, fit-rest, fit-sound}
+use Rattle.setup.proofs.Sound.{queued-whole, fit-on, fit-names, fit-rest, fit-sound}
 
 -- the free numbers, where g is f and x besides
 module _ (f g : ℕ → Bool) (x : ℕ) (eq : (j : ℕ) → g j ≡ pick (eqb x j) true (f j)) where
@@ -63,7 +69,7 @@ module _ (f g : ℕ → Bool) (x : ℕ) (eq : (j : ℕ) → g j ≡ pick (eqb x 
           rw (u, eq-eqb x k z, after (omega arith), z)
 
 -- none is answered only where none is left
-none-left : (f : ℕ → Bool) (left k : ℕ) → firstFrom f left k ≡ Full → countFrom f left k ≡ 0
+pub none-left : (f : ℕ → Bool) (left k : ℕ) → firstFrom f left k ≡ Full → countFrom f left k ≡ 0
 unfolding firstFrom countFrom
 none-left f zero k e = refl
 none-left f (suc left) k e = go (none-left f left (k + 1)) (f k) e
@@ -100,7 +106,7 @@ module _ (x : Piece) (p : Peer) (s : ℕ) (low : lowest outgoing (usedOut (p .li
   unfolding queuedAt
   queued-slots = ap (λ (q : Peer). q .outgoing) queued-at
 
-  queued-lists : queued x p .lists ≡ joined (p .lists) x s
+  queued-lists : queued x p .lists ≡ listsWith (p .lists) x s
   unfolding queuedAt
   queued-lists = ap (λ (q : Peer). q .lists) queued-at
 
@@ -111,11 +117,11 @@ module _ (x : Piece) (p : Peer) (s : ℕ) (low : lowest outgoing (usedOut (p .li
   pub queued-made : Whole p → getD (queued x p .outgoing) s noOutgoing ≡ made x p
   queued-made whole =
       ap (λ (l : List Outgoing). getD l s noOutgoing) queued-slots
-      ∙ getD-set-same (p .outgoing) s (made x p) noOutgoing (omega (arith, whole, lowest-exists outgoing used s low))
+      ∙ getD-set-same (p .outgoing) s (made x p) noOutgoing (omega (arith, whole .outgoing, lowest-exists outgoing used s low))
 
   module _ (h : sound p ≡ true) where
     abbrev after : List ℕ
-    after = usedOut (joined (p .lists) x s)
+    after = usedOut (listsWith (p .lists) x s)
 
     -- what is named then
     pub queued-names : (k : ℕ) → has (usedOut (queued x p .lists)) k ≡ pick (eqb s k) true (has used k)
@@ -161,7 +167,7 @@ step x xs p r = go (lowest outgoing (usedOut (p .lists))) refl
           low = e;
           next =
               record {
-                whole = queued-pool x p ∙ r .whole;
+                whole = queued-whole x p (r .whole);
                 good = fit-sound x xs p (r .fit) (r .whole) (r .good);
                 fit = fit-rest x xs p (r .fit);
                 few = omega (arith, r .few, queued-room x p s e (r .good));
@@ -279,26 +285,27 @@ taken-filled (x ∷ xs) p (suc i) r h =
     ∙ taken-filled xs (queued x p) i (t .next) (omega arith)
 
 -- the public setup, where nothing refuses it
-past : (a b c d e : Bool) (r o₉ o₅ o₂ o₁₃ o₁₁ : Outcome) → a ≡ true → b ≡ true → c ≡ true → d ≡ true → e ≡ true
-    → pick a (pick b (pick c (pick d (pick e r o₉) o₅) o₂) o₁₃) o₁₁ ≡ r
-past a b c d e r o₉ o₅ o₂ o₁₃ o₁₁ p q s t u = rw (p, q, s, t, u)
+gate-past : (a b c : Bool) → a ≡ true → b ≡ true → c ≡ true
+    → pick a (pick b (pick c Open (Shut BadCommand)) (Shut FailedToQueue)) (Shut InvalidChannel) ≡ Open
+gate-past a b c p q r = rw (p, q, r)
 
 module _ (s : Settings) (fit : fitSettings s ≡ true) where
   pub setup-done : (x : Piece) (xs : List Piece) (p : Peer) → Ready (x ∷ xs) p → setsUp s x p ≡ finished (queued x p)
   setup-done x xs p r =
-      past (fitSettings s) (sound p) (onChannel (x .command .channel) (p .standing .count)) (leb 1 (room p)) (namesFields (x .command))
-      (finished (queued x p)) (unchanged 9 p) (unchanged 5 p) (unchanged 2 p) (unchanged 13 p) (unchanged 11 p) fit (r .good)
-      (fit-on x xs p (r .fit)) (le-leb 1 (room p) (omega (arith, r .few))) (fit-names x xs p (r .fit))
+      behind-open (gateOf (fitSettings s) (sound p)) p (setsUpSound x p) (rw (fit, r .good))
+      ∙ behind-open (setupGate x (p .standing .count) (room p)) p (finished (queued x p))
+      (gate-past (onChannel (x .command .channel) (p .standing .count)) (leb 1 (room p)) (namesFields (x .command)) (fit-on x xs p (r .fit))
+      (le-leb 1 (room p) (omega (arith, r .few))) (fit-names x xs p (r .fit)))
 
   pub runs-queued : (xs : List Piece) (p : Peer) → Ready xs p → runs s xs p ≡ queuedAll xs p
   unfolding runs queuedAll
   runs-queued [] p r = refl
   runs-queued (x ∷ xs) p r =
-      ap (λ (o : Outcome). runs s xs (o .peer)) (setup-done x xs p r) ∙ runs-queued xs (queued x p) (step x xs p r .next)
+      ap (λ (o : Outcome Peer). runs s xs (o .after)) (setup-done x xs p r) ∙ runs-queued xs (queued x p) (step x xs p r .next)
 
   pub runs-done : (xs : List Piece) (p : Peer) → Ready xs p → answers s xs p ≡ replicate (length xs) 0
   unfolding answers
   runs-done [] p r = refl
   runs-done (x ∷ xs) p r =
-      ap (λ (o : Outcome). o .answer .number ∷ answers s xs (o .peer)) (setup-done x xs p r)
+      ap (λ (o : Outcome Peer). o .answer .number ∷ answers s xs (o .after)) (setup-done x xs p r)
       ∙ ap (λ (l : List ℕ). 0 ∷ l) (runs-done xs (queued x p) (step x xs p r .next))

@@ -1,4 +1,3 @@
 pub mod Queueing
-pub mod Replies
 pub mod Calls
 pub mod Taking

@@ -13,7 +13,7 @@ use Rattle.slots.specs.declared.Free.{Free}
 use Rattle.slots.specs.declared.Free.the-variants.{Lowest, Full}
 use Rattle.parts.specs.Damage.{usedOut}
 use Rattle.peer.specs.Damage.{sound}
-use Rattle.peer.specs.Calls.{Whole}
+use Rattle.peer.specs.Sounds.{Whole}
 use Rattle.peer.specs.declared.settings.Settings.{Settings}
 use Rattle.peer.specs.declared.record.Peer.{Peer}
 use Rattle.parts.specs.declared.groups.Outgoing.{Outgoing}
@@ -47,11 +47,11 @@ filled (x ∷ xs) p = made x p ∷ filled xs (queued x p)
 -- the public setups, one after another: the record then, and the numbers that they answered
 unfoldable pub runs : Settings → List Piece → Peer → Peer
 runs s [] p = p
-runs s (x ∷ xs) p = runs s xs (setsUp s x p .peer)
+runs s (x ∷ xs) p = runs s xs (setsUp s x p .after)
 
 unfoldable pub answers : Settings → List Piece → Peer → List ℕ
 answers s [] p = []
-answers s (x ∷ xs) p = setsUp s x p .answer .number ∷ answers s xs (setsUp s x p .peer)
+answers s (x ∷ xs) p = setsUp s x p .answer .number ∷ answers s xs (setsUp s x p .after)
 
 -- setup refuses none of these for its channel or its fields
 unfoldable pub allFit : ℕ → List Piece → Bool

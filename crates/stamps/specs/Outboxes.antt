@@ -1,14 +1,22 @@
 -- Only the code's own: setting up on an outbox, which holds what it changes beside the slots. The rule on the record is setup's Queueing,
 -- and setup's Stored says that the two agree.
 use Prim.Native.Nat.{ℕ}
-use lib.ListN.{set}
+use mathlib.Core.List.{List}
+use lib.ListN.{set, replicate}
 use Rattle.numbers.specs.Modulo.{sum}
 use Rattle.slots.specs.Lists.{outgoing}
-use Rattle.slots.specs.Free.{isMarked, firstFrom}
+use Rattle.slots.specs.Free.{isMarked, markedAll, firstFrom, countFrom}
 use Rattle.slots.specs.declared.Free.{Free}
 use Rattle.slots.specs.declared.Free.the-variants.{Lowest, Full}
+use Rattle.parts.specs.Damage.{usedOut}
+use Rattle.parts.specs.declared.groups.Totals.{Totals}
+use Rattle.parts.specs.declared.groups.Waiting.{Waiting}
+use Rattle.parts.specs.declared.groups.Flow.{Flow}
+use Rattle.parts.specs.declared.groups.Groups.{Groups}
+use Rattle.parts.specs.declared.groups.Channel.{Channel}
+use Rattle.parts.specs.declared.groups.Lists.{Lists}
 use Rattle.parts.specs.declared.groups.Outgoing.{Outgoing}
-use Rattle.stamps.specs.Counting.{stamped}
+use Rattle.stamps.specs.Counting.{stamped, countersAt}
 use Rattle.stamps.specs.Pieces.{slotOf, grown, listsWith}
 use Rattle.stamps.specs.declared.counting.Counters.{Counters}
 use Rattle.stamps.specs.declared.counting.Stamped.{Stamped}
@@ -38,3 +46,17 @@ queueingIn Full o x = record { outbox = o; at = outgoing; slot = slotIn o x }
 
 abbrev pub queueing : Outbox → Piece → Queued
 queueing o x = queueingIn (firstFrom (isMarked (o .marks)) outgoing 0) o x
+
+-- off the groups of a record, with a mark for each slot that the lists name
+abbrev pub outboxOf : Totals → Waiting → Flow → Groups → List Channel → ℕ → Lists → Outbox
+outboxOf totals waiting flow groups cs channel lists =
+    record {
+      total = totals .outgoing;
+      queued = waiting .queued;
+      counters = countersAt (flow .reliable) cs channel (groups .outgoing);
+      lists = lists;
+      marks = markedAll (replicate outgoing 0) (usedOut lists);
+    }
+
+abbrev pub freeIn : Outbox → ℕ
+freeIn o = countFrom (isMarked (o .marks)) outgoing 0

@@ -1,16 +1,21 @@
 // Setting up on what it changes beside the slots, so that a call keeps its record where it is.
 ghost use mathlib.Core.Path.{_≡_};
-ghost use Rattle.slots.specs.Free.{isMarked, countFrom};
-ghost use Rattle.slots.specs.Lists.{outgoing};
 ghost use lib.ListN.{set};
 ghost use Rattle.stamps.specs.Pieces.{listsWith};
-ghost use Rattle.stamps.specs.Outboxes.{queueing, placedIn};
+ghost use Rattle.stamps.specs.Outboxes.{queueing, placedIn, outboxOf, freeIn};
 use crate::counting;
 use crate::counting::Counters;
 use crate::pieces;
 use crate::pieces::Piece;
+use crate::room;
+use parts::groups::CHANNELS;
+use parts::groups::Channel;
+use parts::groups::Flow;
+use parts::groups::Groups;
 use parts::groups::Lists;
 use parts::groups::Outgoing;
+use parts::groups::Totals;
+use parts::groups::Waiting;
 use slots::Free;
 use slots::OUTGOING;
 use slots::marks;
@@ -106,9 +111,35 @@ pub fn queue(o: Outbox, x: Piece) -> Queued
     }
 }
 
-// How many slots are free.
-pub fn room(marks: [u8; OUTGOING]) -> usize
-    ensures { λ r. ⌜ r ≡ countFrom (isMarked marks) outgoing 0 ⌝ }
+// What setting up on a channel changes, off the record's groups.
+pub fn open(
+    totals: Totals,
+    waiting: Waiting,
+    flow: Flow,
+    groups: Groups,
+    channels: [Channel; CHANNELS],
+    channel: u8,
+    lists: Lists,
+) -> Outbox
+    ensures { λ r. ⌜ r ≡ outboxOf totals waiting flow groups channels channel lists ⌝ }
 {
+    let own = flow.reliable;
+    let group = groups.outgoing;
+    let counters = counting::counters_of(own, channels, channel, group);
+    let marks = room::marks(lists);
+    Outbox {
+        total: totals.outgoing,
+        queued: waiting.queued,
+        counters,
+        lists,
+        marks,
+    }
+}
+
+// How many slots are free.
+pub fn room(o: Outbox) -> usize
+    ensures { λ r. ⌜ r ≡ freeIn o ⌝ }
+{
+    let marks = o.marks;
     marks::clear(&marks)
 }

@@ -28,7 +28,9 @@ use Rattle.slots.proofs.Lengths.{pushed-fits}
 use Rattle.parts.specs.Fresh.{noChannel, noOutgoing, noIncoming}
 use Rattle.parts.specs.Damage.{listsFit, heldFit, held, below, all, own, lengths, outFit, tried, inFit, inSound, usedOut, usedIn}
 use Rattle.peer.specs.Damage.{sound}
-use Rattle.peer.specs.Calls.{Whole, Sounds, unchanged, finished}
+use Rattle.numbers.specs.declared.refusals.Refusal.the-variants.{InvalidChannel, FailedToQueue, BadCommand}
+use Rattle.peer.specs.Outcome.{Outcome, unchanged, finished}
+use Rattle.peer.specs.Sounds.{Whole, Sounds}
 use Rattle.peer.specs.declared.settings.Settings.{Settings}
 use Rattle.peer.specs.declared.record.Peer.{Peer}
 use Rattle.parts.specs.declared.groups.Lists.{Lists}
@@ -36,12 +38,17 @@ use Rattle.parts.specs.declared.groups.Standing.{Standing}
 use Rattle.parts.specs.declared.groups.Channel.{Channel}
 use Rattle.parts.specs.declared.groups.Outgoing.{Outgoing}
 use Rattle.parts.specs.declared.groups.Incoming.{Incoming}
+use Rattle.peer.specs.declared.gate.Gate.{Gate}
+use Rattle.peer.specs.declared.gate.Gate.the-variants.{Open, Shut}
+use Rattle.peer.proofs.Gates.{openness, behind-has}
 use Rattle.peer.proofs.Sound.{gated-sounds}
 use Rattle.peer.proofs.Parts.{Parts, sound-parts, parts-sound, all-at, at-all}
 use Rattle.stamps.specs.Counting.{channelAt, numbered}
-use Rattle.stamps.specs.Pieces.{fieldsNow}
-use Rattle.setup.specs.Queueing.{longer, toReliable, room, joined, stampOf, made, queuedAt, queuedIn, queued, queuedAll}
-use Rattle.setup.specs.Calls.{onChannel, setsUp, setsUpSound}
+use Rattle.stamps.specs.Pieces.{fieldsNow, toReliable, listsWith}
+use Rattle.parts.specs.Sizes.{itself}
+use Rattle.parts.specs.Updates.{longer, withNumbers}
+use Rattle.setup.specs.Queueing.{room, stampOf, made, queuedAt, queuedIn, queued, queuedAll}
+use Rattle.setup.specs.Calls.{onChannel, setupGate, setsUp, setsUpSound}
 use Rattle.setup.specs.Taking.{allFit}
 use Rattle.stamps.specs.declared.counting.Counters.{Counters}
 use Rattle.stamps.specs.declared.pieces.Piece.{Piece}
@@ -80,23 +87,15 @@ arrivalsFit slots count total xs mine =
 
 -- the channel that a piece leaves
 abbrev renumbered : List Channel → ℕ → Counters → Channel
-renumbered cs channel k =
-    let c = channelAt cs channel in
-    record {
-      «outgoing_reliable» = k .reliable;
-      «outgoing_unreliable» = k .unreliable;
-      «incoming_reliable» = c .«incoming_reliable»;
-      «incoming_unreliable» = c .«incoming_unreliable»;
-      held = c .held;
-    }
+renumbered cs channel k = withNumbers (channelAt cs channel) (k .reliable) (k .unreliable)
 
 module _ (slots : List Incoming) (l : Lists) (x : Piece) (s : ℕ) (cs : List Channel) (channel : ℕ) (k : Counters) (count total : ℕ) where
-  named : usedIn (joined l x s) (below (numbered cs channel k) count) ≡ usedIn l (below cs count)
+  named : usedIn (listsWith l x s) (below (numbered cs channel k) count) ≡ usedIn l (below cs count)
   named =
       ap (λ (m : InList). inItems m ++ held (below (numbered cs channel k) count)) (joined-dispatched l s x)
       ∙ ap (λ (m : List ℕ). inItems (l .dispatched) ++ m) (held-set (renumbered cs channel k) count cs channel refl)
 
-  in-same : inSound slots (joined l x s) (below (numbered cs channel k) count) count total ≡ inSound slots l (below cs count) count total
+  in-same : inSound slots (listsWith l x s) (below (numbered cs channel k) count) count total ≡ inSound slots l (below cs count) count total
   in-same =
       ap (λ (xs : List ℕ). arrivalsFit slots count total xs (own slots 0 (below (numbered cs channel k) count))) named
       ∙ ap (λ (b : Bool). arrivalsFit slots count total (usedIn l (below cs count)) b)
@@ -124,7 +123,7 @@ longer-fits l s h = le-leb (longer l s .len) outgoing (pushed-fits outgoing (out
 second : (a b b′ c : Bool) → b′ ≡ true → both a (both b c) ≡ true → both a (both b′ c) ≡ true
 second a b b′ c e h = both-true a (both b′ c) (both-left a (both b c) h) (both-true b′ c e (both-right b c (both-right a (both b c) h)))
 
-lists-after : (l : Lists) (x : Piece) (s : ℕ) → length (usedOut l) < outgoing → listsFit l ≡ true → listsFit (joined l x s) ≡ true
+lists-after : (l : Lists) (x : Piece) (s : ℕ) → length (usedOut l) < outgoing → listsFit l ≡ true → listsFit (listsWith l x s) ≡ true
 lists-after l x s space h = go (toReliable x)
   where
     go : (b : Bool) → listsFit (pick b (toFirst l s) (toLast l s)) ≡ true
@@ -143,7 +142,7 @@ lists-after l x s space h = go (toReliable x)
 -- a command's test, apart from its slot
 abbrev commandFit : ℕ → Outgoing → Bool
 commandFit count o =
-    both (namesFields (o .command)) (pick (ltb (o .command .channel) count) true (eqb (o .command .channel) 255))
+    both (namesFields (o .command)) (pick (ltb (o .command .channel) count) true (eqb (o .command .channel) itself))
 
 abbrev attempts : Outgoing → Bool
 attempts o = leb 1 (o .attempts)
@@ -154,7 +153,7 @@ module _ (x : Piece) (p : Peer) (s : ℕ) (low : lowest outgoing (usedOut (p .li
   used = usedOut (p .lists)
 
   abbrev after : List ℕ
-  after = usedOut (joined (p .lists) x s)
+  after = usedOut (listsWith (p .lists) x s)
 
   abbrev sent : List ℕ
   sent = outItems (p .lists .sent)
@@ -169,7 +168,7 @@ module _ (x : Piece) (p : Peer) (s : ℕ) (low : lowest outgoing (usedOut (p .li
   others k t = getD-set-other (p .outgoing) s k (made x p) noOutgoing (λ e. eqb-false s k t (sym e))
 
   new : getD slots s noOutgoing ≡ made x p
-  new = getD-set-same (p .outgoing) s (made x p) noOutgoing (omega (arith, slot-exists x p s low w, whole))
+  new = getD-set-same (p .outgoing) s (made x p) noOutgoing (omega (arith, slot-exists x p s low w, whole .outgoing))
 
   new-fit : commandFit count (made x p) ≡ true
   new-fit = both-true (namesFields (made x p .command)) (onChannel (x .command .channel) count) kind on
@@ -188,7 +187,7 @@ module _ (x : Piece) (p : Peer) (s : ℕ) (low : lowest outgoing (usedOut (p .li
           let u : times after k ≡ 0 + times used k = rw t at (after-times x p s low w k) in
           ap (commandFit count) (others k t) ∙ all-at (outFit (p .outgoing) count) used (w .fit) k (omega arith)
 
-  tried-after : all (tried slots) (outItems (joined (p .lists) x s .sent)) ≡ true
+  tried-after : all (tried slots) (outItems (listsWith (p .lists) x s .sent)) ≡ true
   tried-after =
       ap (λ (l : OutList). all (tried slots) (outItems l)) (joined-sent (p .lists) s x)
       ∙ at-all (tried slots) sent (λ k q. at k q (eqb s k) refl)
@@ -226,14 +225,19 @@ queued-sound x p whole h on names = go (lowest outgoing (usedOut (p .lists))) re
     go (Lowest s) e = at-sound x p s e (sound-parts p h) whole on names
     go Full e = h
 
--- the pool and the count stay
-pub queued-pool : (x : Piece) (p : Peer) → length (queued x p .outgoing) ≡ length (p .outgoing)
+-- the lengths and the count stay
+pub queued-whole : (x : Piece) (p : Peer) → Whole p → Whole (queued x p)
 unfolding queued queuedAt
-queued-pool x p = go (lowest outgoing (usedOut (p .lists)))
+queued-whole x p w = go (lowest outgoing (usedOut (p .lists)))
   where
-    go : (f : Free) → length (queuedIn f x p .outgoing) ≡ length (p .outgoing)
-    go (Lowest s) = length-set (p .outgoing) s (made x p)
-    go Full = refl
+    go : (f : Free) → Whole (queuedIn f x p)
+    go (Lowest s) =
+        record {
+          channels = length-set (p .channels) (x .command .channel) _ ∙ w .channels;
+          outgoing = length-set (p .outgoing) s (made x p) ∙ w .outgoing;
+          incoming = w .incoming;
+        }
+    go Full = w
 
 pub queued-standing : (x : Piece) (p : Peer) → queued x p .standing ≡ p .standing
 unfolding queued queuedAt
@@ -268,10 +272,10 @@ module _ (x : Piece) (xs : List Piece) (p : Peer) (fit : allFit (p .standing .co
   pub fit-sound : Whole p → sound p ≡ true → sound (queued x p) ≡ true
   fit-sound whole h = queued-sound x p whole h fit-on fit-names
 
-pub queuedAll-pool : (xs : List Piece) (p : Peer) → length (queuedAll xs p .outgoing) ≡ length (p .outgoing)
+pub queuedAll-whole : (xs : List Piece) (p : Peer) → Whole p → Whole (queuedAll xs p)
 unfolding queuedAll
-queuedAll-pool [] p = refl
-queuedAll-pool (x ∷ xs) p = queuedAll-pool xs (queued x p) ∙ queued-pool x p
+queuedAll-whole [] p w = w
+queuedAll-whole (x ∷ xs) p w = queuedAll-whole xs (queued x p) (queued-whole x p w)
 
 pub queuedAll-standing : (xs : List Piece) (p : Peer) → queuedAll xs p .standing ≡ p .standing
 unfolding queuedAll
@@ -282,26 +286,32 @@ pub queuedAll-sound : (xs : List Piece) (p : Peer) → Whole p → sound p ≡ t
 unfolding queuedAll
 queuedAll-sound [] p whole h fit = h
 queuedAll-sound (x ∷ xs) p whole h fit =
-    queuedAll-sound xs (queued x p) (queued-pool x p ∙ whole) (fit-sound x xs p fit whole h) (fit-rest x xs p fit)
+    queuedAll-sound xs (queued x p) (queued-whole x p whole) (fit-sound x xs p fit whole h) (fit-rest x xs p fit)
 
-setup-keeps : (x : Piece) (p : Peer) → Whole p → sound p ≡ true → sound (setsUpSound x p .peer) ≡ true
-setup-keeps x p whole h = go (onChannel (x .command .channel) (p .standing .count)) (leb 1 (room p)) (namesFields (x .command)) refl refl
-  where
-    go : (a b c : Bool) → onChannel (x .command .channel) (p .standing .count) ≡ a → namesFields (x .command) ≡ c
-        → sound (pick a (pick b (pick c (finished (queued x p)) (unchanged 9 p)) (unchanged 5 p)) (unchanged 2 p) .peer) ≡ true
-    go true true true e f = queued-sound x p whole h e f
-    go true true false e f = h
-    go true false c e f = h
-    go false b c e f = h
+-- the gate of a setup tells that its command is fit
+module _ (x : Piece) (p : Peer) where
+  abbrev gate : Bool → Bool → Bool → Gate
+  gate on free named = pick on (pick free (pick named Open (Shut BadCommand)) (Shut FailedToQueue)) (Shut InvalidChannel)
 
-setup-whole : (x : Piece) (p : Peer) → Whole p → Whole (setsUpSound x p .peer)
-setup-whole x p whole = go (onChannel (x .command .channel) (p .standing .count)) (leb 1 (room p)) (namesFields (x .command))
-  where
-    go : (a b c : Bool) → Whole (pick a (pick b (pick c (finished (queued x p)) (unchanged 9 p)) (unchanged 5 p)) (unchanged 2 p) .peer)
-    go true true true = queued-pool x p ∙ whole
-    go true true false = whole
-    go true false c = whole
-    go false b c = whole
+  gate-fit : (a b c : Bool) → gate a b c ≡ Open → (a ≡ true) × (b ≡ true) × (c ≡ true)
+  gate-fit true true true e = (refl, refl, refl)
+  gate-fit true true false e = absurd (omega (arith, ap openness e))
+  gate-fit true false c e = absurd (omega (arith, ap openness e))
+  gate-fit false b c e = absurd (omega (arith, ap openness e))
+
+  pub setup-open : setupGate x (p .standing .count) (room p) ≡ Open
+      → (onChannel (x .command .channel) (p .standing .count) ≡ true) × (leb 1 (room p) ≡ true) × (namesFields (x .command) ≡ true)
+  setup-open = gate-fit (onChannel (x .command .channel) (p .standing .count)) (leb 1 (room p)) (namesFields (x .command))
+
+setup-keeps : (x : Piece) (p : Peer) → Whole p → sound p ≡ true → sound (setsUpSound x p .after) ≡ true
+setup-keeps x p whole h =
+    behind-has (setupGate x (p .standing .count) (room p)) p (finished (queued x p)) (λ (o : Outcome Peer). sound (o .after) ≡ true) (λ why. h)
+    (λ e. let f = setup-open x p e in queued-sound x p whole h (f .0) (f .2))
+
+setup-whole : (x : Piece) (p : Peer) → Whole p → Whole (setsUpSound x p .after)
+setup-whole x p whole =
+    behind-has (setupGate x (p .standing .count) (room p)) p (finished (queued x p)) (λ (o : Outcome Peer). Whole (o .after)) (λ why. whole)
+    (λ e. queued-whole x p whole)
 
 pub setup-sounds : (s : Settings) (x : Piece) → Sounds (setsUp s x)
 setup-sounds s x = gated-sounds s (setsUpSound x) (setup-keeps x) (setup-whole x)

@@ -1,0 +1,68 @@
+-- A setup comes out as its rule says: the parts that the code makes are the rule's, whatever made them.
+-- The argument: each part is given by its equation; behind both gates the record made of them is the one that Stored speaks of.
+use Prim.Native.Nat.{ℕ, _≤_, _<_}
+use mathlib.Core.Path.{_≡_, refl, ap, sym, _∙_}
+use mathlib.Core.List.{List}
+use lib.ListN.{set}
+use borrow.Author.Tests.{leb-true}
+use Rattle.numbers.specs.declared.refusals.Refusal.{Refusal}
+use Rattle.slots.specs.Lists.{outgoing}
+use Rattle.parts.specs.Updates.{withOutgoingTotal, withReliable, withOutgoingGroup, withQueued}
+use Rattle.parts.specs.declared.groups.Channel.{Channel}
+use Rattle.parts.specs.declared.groups.Outgoing.{Outgoing}
+use Rattle.peer.specs.Outcome.{Came, finished}
+use Rattle.peer.specs.Gate.{fits, gateOf}
+use Rattle.peer.specs.Calls.{answerOf}
+use Rattle.peer.specs.Updates.{renewed}
+use Rattle.peer.specs.declared.settings.Settings.{Settings}
+use Rattle.peer.specs.declared.record.Peer.{Peer}
+use Rattle.peer.specs.declared.gate.Gate.{Gate}
+use Rattle.peer.specs.declared.gate.Gate.the-variants.{Open, Shut}
+use Rattle.peer.specs.declared.gate.Lent.the-variants.{Nothing}
+use Rattle.peer.specs.declared.calls.Reply.the-variants.{Done, Refused}
+use Rattle.peer.proofs.Gates.{worthsOf, soundBy, behind-shut, behind-open, came-open}
+use Rattle.stamps.specs.Counting.{numbered}
+use Rattle.stamps.specs.Outboxes.{queueing, outboxOf, freeIn}
+use Rattle.stamps.specs.declared.pieces.Piece.{Piece}
+use Rattle.stamps.specs.declared.outbox.Outbox.{Outbox}
+use Rattle.stamps.specs.declared.outbox.Queued.{Queued}
+use Rattle.setup.specs.Queueing.{room, queued}
+use Rattle.setup.specs.Calls.{setupGate, setsUp, setsUpSound}
+use Rattle.setup.proofs.Sound.{setup-open}
+use Rattle.setup.proofs.Stored.{one-exists, one-stored, open-room}
+
+-- the record as a call leaves it: an outbox's numbers, lists and channels, and the pool with another slot
+abbrev pub left : Peer → Outbox → List Channel → ℕ → Outgoing → Peer
+left p o cs at slot =
+    renewed p (p .standing) (withOutgoingTotal (p .totals) (o .total)) (p .times) (p .loss) (withReliable (p .flow) (o .counters .own)) (o .lists)
+    (withOutgoingGroup (p .groups) (o .counters .group)) (withQueued (p .waiting) (o .queued)) cs (set (p .outgoing) at slot)
+
+-- ws, g, o, free and may are what the code answered, in this order
+module _ (s : Settings) (x : Piece) (p : Peer) (ws : List ℕ) (v : ws ≡ worthsOf p) (g : Gate) (e : g ≡ gateOf (fits s Nothing) (soundBy p ws))
+    (passed : g ≡ Open) (o : Outbox)
+    (oe : o ≡ outboxOf (p .totals) (p .waiting) (p .flow) (p .groups) (p .channels) (x .command .channel) (p .lists)) (free : ℕ)
+    (fe : free ≡ freeIn o) (may : Gate) (me : may ≡ setupGate x (p .standing .count) free) where
+  may-is : may ≡ setupGate x (p .standing .count) (room p)
+  may-is = me ∙ ap (setupGate x (p .standing .count)) (fe ∙ open-room p (x .command .channel) o oe)
+
+  pub setup-shut : (why : Refusal) → may ≡ Shut why → Came answerOf (setsUp s x p) (Refused why) p
+  setup-shut why q =
+      came-open s Nothing p ws v g e p (setsUpSound x p) answerOf (Refused why) p passed
+      (rw (behind-shut (setupGate x (p .standing .count) (room p)) p (finished (queued x p)) why (sym may-is ∙ q)) (record { answer = refl; after = refl }))
+
+  module _ (opened : may ≡ Open) (q : Queued) (qe : q ≡ queueing o x) where
+    gate : setupGate x (p .standing .count) (room p) ≡ Open
+    gate = sym may-is ∙ opened
+
+    some : 1 ≤ room p
+    some = leb-true 1 (room p) (setup-open x p gate .1)
+
+    pub setup-exists : q .at < outgoing
+    setup-exists = one-exists x p some o oe q qe
+
+    pub setup-left : (cs : List Channel) → cs ≡ numbered (p .channels) (x .command .channel) (q .outbox .counters)
+        → Came answerOf (setsUp s x p) Done (left p (q .outbox) cs (q .at) (q .slot))
+    setup-left cs ce =
+        came-open s Nothing p ws v g e p (setsUpSound x p) answerOf Done _ passed
+        (rw (behind-open (setupGate x (p .standing .count) (room p)) p (finished (queued x p)) gate)
+        (record { answer = refl; after = rw ce (sym (one-stored x p some o oe q qe)) }))
