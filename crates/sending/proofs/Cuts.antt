@@ -8,11 +8,9 @@ use native.Mathlib.Nat.{div-lt-iff-lt-mul, le-mul-of-pos-right, div-mul-le-self,
 use native.Mathlib.Numerals.{add-one}
 use native.Mathlib.Omega.{arith}
 use lib.ListN.{length, getD, take}
-use Rattle.peer.specs.declared.record.Peer.{Peer}
-use Rattle.setup.specs.Queueing.{queued, queuedAll}
 use Rattle.stamps.specs.declared.pieces.Piece.{Piece}
 use Rattle.sending.specs.Packets.{pieceCount, lengthAt, cutPiece, cutFrom, pieces}
-use Rattle.sending.specs.Parts.{span, Part}
+use Rattle.sending.specs.Done.{span, Part}
 use Rattle.sending.specs.declared.packets.Cut.{Cut}
 
 pub count-fits : (fragment length : ℕ) → 1 ≤ fragment → pieceCount fragment length ≤ length
@@ -28,21 +26,6 @@ cut-length x (suc left) j offset = ap suc (cut-length x left (j + 1) (offset + l
 
 pub count-pieces : (x : Cut) → length (pieces x) ≡ x .count
 count-pieces x = cut-length x (x .count) 0 0
-
--- a turn of the walk over the pieces
-pub cut-turn : (x : Cut) (p : Peer) (j offset : ℕ) → j < x .count
-    → queuedAll (cutFrom x (x .count - j) j offset) p
-    ≡ queuedAll (cutFrom x (x .count - (j + 1)) (j + 1) (offset + lengthAt x offset)) (queued (cutPiece x j offset) p)
-unfolding cutFrom queuedAll
-cut-turn x p j offset h =
-    let e : x .count - j ≡ suc (x .count - (j + 1)) = omega arith in
-    rw e
-
-pub cut-end : (x : Cut) (p : Peer) (j offset : ℕ) → x .count ≤ j → queuedAll (cutFrom x (x .count - j) j offset) p ≡ p
-unfolding cutFrom queuedAll
-cut-end x p j offset h =
-    let e : x .count - j ≡ 0 = omega arith in
-    rw e
 
 take-cut : (x : Cut) (i left j offset : ℕ) → i ≤ left → take i (cutFrom x left j offset) ≡ cutFrom x i j offset
 unfolding cutFrom

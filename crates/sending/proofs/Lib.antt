@@ -1,6 +1,8 @@
-pub mod Cuts
-pub mod Queues
 pub mod Ranges
+pub mod Cuts
+pub mod Planning
 pub mod Numbers
-pub mod Sounding
+pub mod Sound
 pub mod Sends
+pub mod Going
+pub mod Pings

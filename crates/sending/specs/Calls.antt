@@ -1,28 +1,32 @@
 -- Send and ping. A send is its commands set up in order, or none of them.
-use Prim.Native.Nat.{ℕ, _+_}
+use Prim.Native.Nat.{ℕ}
 use mathlib.Core.Bool.{Bool, false}
 use mathlib.Core.List.{List, [], _∷_}
 use lib.Dec.{leb, ltb, eqb}
 use lib.ListN.{length}
 use Rattle.numbers.specs.Pick.{pick}
+use Rattle.numbers.specs.Limits.{mostFragments}
+use Rattle.numbers.specs.declared.refusals.Refusal.the-variants.{NotConnected, InvalidChannel, PacketTooLarge, FragmentsExceeded, FailedToQueue}
 use Rattle.command.specs.declared.fields.Fields.the-variants.{Ping}
-use Rattle.peer.specs.Calls.{Outcome, unchanged, finished, gated}
+use Rattle.parts.specs.Sizes.{itself}
+use Rattle.parts.specs.declared.groups.Standing.{Standing}
+use Rattle.peer.specs.States.{connected}
+use Rattle.peer.specs.Outcome.{Outcome, finished}
+use Rattle.peer.specs.Gate.{then, behind, onRecord}
 use Rattle.peer.specs.declared.settings.Settings.{Settings}
 use Rattle.peer.specs.declared.record.Peer.{Peer}
+use Rattle.peer.specs.declared.gate.Gate.{Gate}
+use Rattle.peer.specs.declared.gate.Gate.the-variants.{Open, Shut}
 use Rattle.stamps.specs.Counting.{channelAt}
-use Rattle.setup.specs.Queueing.{room, queuedAll}
 use Rattle.stamps.specs.declared.pieces.Piece.{Piece}
-use Rattle.sending.specs.Packets.{fragmentLength, pieceCount, blank, whole, startOf, pieces}
+use Rattle.setup.specs.Queueing.{room, queuedAll}
+use Rattle.sending.specs.Packets.{fragmentLength, pieceCount, blank, pingByte, whole, startOf, pieces}
 use Rattle.sending.specs.declared.packets.Start.{Start}
 use Rattle.sending.specs.declared.packets.Cut.{Cut}
 
 -- "NotConnected: send, ping, state not 5"
-abbrev pub connected : Peer → Bool
-connected p = eqb (p .standing .state) 5
-
--- "FailedToQueue: fewer free outgoing slots than commands needed", judged before anything changes
-abbrev pub queuesAll : List Piece → Peer → Outcome
-queuesAll xs p = pick (leb (length xs) (room p)) (finished (queuedAll xs p)) (unchanged 5 p)
+abbrev pub isConnected : Standing → Bool
+isConnected standing = eqb (standing .state) connected
 
 -- the fragment length comes from the record's MTU, the checksum from the settings
 abbrev pub fragment : Settings → Peer → ℕ
@@ -32,35 +36,45 @@ abbrev pub cutBy : Start → ℕ → ℕ → ℕ → Cut
 cutBy start channel length fragment =
     record { channel = channel; length = length; fragment = fragment; count = pieceCount fragment length; start = start }
 
--- the pieces of a cut packet, if they are not too many: 4, then 5
-abbrev pub queuesCut : Cut → Peer → Outcome
-queuesCut x p = pick (leb (x .count) 1048576) (queuesAll (pieces x) p) (unchanged 4 p)
-
--- exactly the fragment length is one command, one more is pieces
-abbrev pub queuesPacket : ℕ → ℕ → ℕ → ℕ → Peer → Outcome
-queuesPacket fragment channel length flags p =
+-- the commands of a packet: exactly the fragment length is one, one byte more is pieces
+abbrev pub commands : ℕ → ℕ → ℕ → ℕ → Peer → List Piece
+commands fragment channel length flags p =
     let c = channelAt (p .channels) channel in
-    pick (leb length fragment) (queuesAll (whole flags c channel length ∷ []) p)
-    (queuesCut (cutBy (startOf flags c) channel length fragment) p)
+    pick (leb length fragment) (whole flags c channel length ∷ []) (pieces (cutBy (startOf flags c) channel length fragment))
 
--- the table's order downward: 1, 2, 3, then 4 and 5
-abbrev pub sendsSound : Settings → ℕ → ℕ → ℕ → Peer → Outcome
+-- 1, 2, 3
+abbrev pub sendGate : Settings → ℕ → ℕ → Standing → Gate
+sendGate s channel length standing =
+    pick (isConnected standing)
+    (pick (ltb channel (standing .count)) (pick (leb length (s .packet)) Open (Shut PacketTooLarge)) (Shut InvalidChannel))
+    (Shut NotConnected)
+
+-- 4, then 5 "fewer free outgoing slots than commands needed", of so many commands
+abbrev pub queueGate : ℕ → ℕ → Gate
+queueGate count free = pick (leb count mostFragments) (pick (leb count free) Open (Shut FailedToQueue)) (Shut FragmentsExceeded)
+
+-- all of them or none
+abbrev pub queuesAll : List Piece → Peer → Outcome Peer
+queuesAll xs p = behind (queueGate (length xs) (room p)) p (finished (queuedAll xs p))
+
+-- the table's order downward: 1, 2, 3, 4, 5
+abbrev pub sendsSound : Settings → ℕ → ℕ → ℕ → Peer → Outcome Peer
 sendsSound s channel length flags p =
-    pick (connected p)
-    (pick (ltb channel (p .standing .count))
-    (pick (leb length (s .packet)) (queuesPacket (fragment s p) channel length flags p) (unchanged 3 p))
-    (unchanged 2 p))
-    (unchanged 1 p)
+    behind (sendGate s channel length (p .standing)) p (queuesAll (commands (fragment s p) channel length flags p) p)
 
-abbrev pub sends : Settings → ℕ → ℕ → ℕ → Peer → Outcome
-sends s channel length flags p = gated s p (sendsSound s channel length flags p)
+abbrev pub sends : Settings → ℕ → ℕ → ℕ → Peer → Outcome Peer
+sends s channel length flags p = onRecord s p (sendsSound s channel length flags p)
 
 -- "Ping queues command 5 with the acknowledge flag, channel 255, no packet."
 abbrev pub pingPiece : Piece
-pingPiece = record { command = blank (5 + 128) 255 Ping; packet = false; offset = 0; length = 0 }
+pingPiece = record { command = blank pingByte itself Ping; packet = false; offset = 0; length = 0 }
 
-abbrev pub pingsSound : Peer → Outcome
-pingsSound p = pick (connected p) (queuesAll (pingPiece ∷ []) p) (unchanged 1 p)
+-- 1, 5
+abbrev pub pingGate : Standing → ℕ → Gate
+pingGate standing free = pick (isConnected standing) (queueGate 1 free) (Shut NotConnected)
 
-abbrev pub pings : Settings → Peer → Outcome
-pings s p = gated s p (pingsSound p)
+abbrev pub pingsSound : Peer → Outcome Peer
+pingsSound p = behind (pingGate (p .standing) (room p)) p (finished (queuedAll (pingPiece ∷ []) p))
+
+abbrev pub pings : Settings → Peer → Outcome Peer
+pings s p = onRecord s p (pingsSound p)

@@ -14,8 +14,27 @@ use Rattle.command.specs.declared.fields.Fields.the-variants.{SendReliable, Sen
 use Rattle.parts.specs.declared.groups.Channel.{Channel}
 use Rattle.stamps.specs.declared.pieces.Piece.{Piece}
 use Rattle.sending.specs.declared.packets.Start.{Start}
-use Rattle.sending.specs.declared.packets.Start.the-variants.{Acknowledged, Loose}
+use Rattle.sending.specs.declared.packets.Start.the-variants as start
 use Rattle.sending.specs.declared.packets.Cut.{Cut}
+
+-- command bytes: "the low four bits are the number", "128 asks for acknowledgement, 64 says unsequenced"
+abbrev pub pingByte : ℕ
+pingByte = 5 + 128
+
+abbrev pub reliableByte : ℕ
+reliableByte = 6 + 128
+
+abbrev pub unreliableByte : ℕ
+unreliableByte = 7
+
+abbrev pub fragmentByte : ℕ
+fragmentByte = 8 + 128
+
+abbrev pub unsequencedByte : ℕ
+unsequencedByte = 9 + 64
+
+abbrev pub unreliableFragmentByte : ℕ
+unreliableFragmentByte = 12
 
 -- "Fragment length is MTU - 28, less 4 with a checksum; longer is cut."
 abbrev pub fragmentLength : ℕ → Bool → ℕ
@@ -31,8 +50,8 @@ isReliable flags = bit flags 0
 abbrev pub isUnsequenced : ℕ → Bool
 isUnsequenced flags = bit flags 1
 
-abbrev pub isLoose : ℕ → Bool
-isLoose flags = bit flags 3
+abbrev pub isFragment : ℕ → Bool
+isFragment flags = bit flags 3
 
 -- the unreliable number has nowhere to go on to
 abbrev pub spent : Channel → Bool
@@ -45,9 +64,9 @@ blank byte channel fields = record { byte = byte; channel = channel; number = re
 -- a packet that is not cut: flag 2 without flag 1 is unsequenced; then flag 1, or a spent number, reliable; the rest unreliable
 abbrev pub wholeCommand : ℕ → Channel → ℕ → ℕ → Command
 wholeCommand flags c channel length =
-    pick (both (isUnsequenced flags) (not (isReliable flags))) (blank (9 + 64) channel (SendUnsequenced (record { 0 = 0 }) length))
-    (pick (pick (isReliable flags) true (spent c)) (blank (6 + 128) channel (SendReliable length))
-    (blank 7 channel (SendUnreliable (record { 0 = 0 }) length)))
+    pick (both (isUnsequenced flags) (not (isReliable flags))) (blank unsequencedByte channel (SendUnsequenced (record { 0 = 0 }) length))
+    (pick (pick (isReliable flags) true (spent c)) (blank reliableByte channel (SendReliable length))
+    (blank unreliableByte channel (SendUnreliable (record { 0 = 0 }) length)))
 
 abbrev pub whole : ℕ → Channel → ℕ → ℕ → Piece
 whole flags c channel length = record { command = wholeCommand flags c channel length; packet = true; offset = 0; length = length }
@@ -56,17 +75,17 @@ whole flags c channel length = record { command = wholeCommand flags c channel l
 -- The number after the channel's, taken once, before any piece.
 abbrev pub startOf : ℕ → Channel → Start
 startOf flags c =
-    pick (both (isLoose flags) (both (not (isReliable flags)) (not (spent c))))
-    (Loose (record { 0 = step (c .«outgoing_unreliable» .0) }))
-    (Acknowledged (record { 0 = step (c .«outgoing_reliable» .0) }))
+    pick (both (isFragment flags) (both (not (isReliable flags)) (not (spent c))))
+    (start.Unreliable (record { 0 = step (c .«outgoing_unreliable» .0) }))
+    (start.Reliable (record { 0 = step (c .«outgoing_reliable» .0) }))
 
 -- piece j of a cut packet, at an offset
 abbrev pub fragmentOf : Cut → ℕ → ℕ → ℕ → Fragment
 fragmentOf x j offset length = record { length = length; count = x .count; number = j; total = x .length; offset = offset }
 
 abbrev pub cutCommand : Start → ℕ → Fragment → Command
-cutCommand (Acknowledged n) channel f = blank (8 + 128) channel (SendFragment n f)
-cutCommand (Loose n) channel f = blank 12 channel (SendUnreliableFragment n f)
+cutCommand (start.Reliable n) channel f = blank fragmentByte channel (SendFragment n f)
+cutCommand (start.Unreliable n) channel f = blank unreliableFragmentByte channel (SendUnreliableFragment n f)
 
 -- a fragment length, or what is left
 abbrev pub lengthAt : Cut → ℕ → ℕ

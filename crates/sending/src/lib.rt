@@ -1,3 +1,4 @@
 // Send and ping: a packet becomes commands, one or a piece each.
 pub mod calls;
 pub mod packets;
+mod plans;

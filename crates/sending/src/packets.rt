@@ -3,8 +3,8 @@ ghost use mathlib.Core.Path.{_≡_};
 ghost use mathlib.Core.Bool.{not};
 ghost use Prim.Native.Nat.{_≤_};
 ghost use Rattle.numbers.specs.Pick.{both};
-ghost use Rattle.setup.specs.Queueing.{queuedAll};
-ghost use Rattle.sending.specs.Packets.{fragmentLength, pieceCount, isReliable, isUnsequenced, startOf, blank, wholeCommand, whole, cutCommand, lengthAt, cutPiece, pieces};
+ghost use Rattle.numbers.specs.Limits.{leastMtu};
+ghost use Rattle.sending.specs.Packets.{fragmentLength, pieceCount, isReliable, isUnsequenced, startOf, blank, wholeCommand, whole, cutCommand, lengthAt, cutPiece};
 use command::fields::Command;
 use command::fields::Fields;
 use command::fields::Fragment;
@@ -13,14 +13,47 @@ use numbers::counters::Group;
 use numbers::counters::Reliable;
 use numbers::counters::Unreliable;
 use parts::groups::Channel;
-use peer::record::Peer;
-use setup::queueing;
+use parts::groups::ITSELF;
 use stamps::pieces::Piece;
+
+// 128 asks for acknowledgement, 64 says unsequenced.
+const ACKNOWLEDGE: u8 = 128;
+
+const UNSEQUENCED: u8 = 64;
+
+// Command bytes: a number of public ENet and its flag.
+const PING: u8 = 5 + ACKNOWLEDGE;
+
+const SEND_RELIABLE: u8 = 6 + ACKNOWLEDGE;
+
+const SEND_UNRELIABLE: u8 = 7;
+
+const SEND_FRAGMENT: u8 = 8 + ACKNOWLEDGE;
+
+const SEND_UNSEQUENCED: u8 = 9 + UNSEQUENCED;
+
+const SEND_UNRELIABLE_FRAGMENT: u8 = 12;
+
+// Command 5 with the acknowledge flag, channel 255, no packet.
+pub(crate) const PING_PIECE: Piece = Piece {
+    command: Command {
+        byte: PING,
+        channel: ITSELF,
+        number: Reliable(0),
+        fields: Fields::Ping,
+    },
+    packet: false,
+    offset: 0,
+    length: 0,
+};
+
+// The last number before a counter turns over.
+const LAST: u16 = 65535;
 
 // The number that a cut packet begins with, of the kind that its pieces count by.
 pub enum Start {
-    Acknowledged(Reliable),
-    Loose(Unreliable),
+    Reliable(Reliable),
+    Unreliable(Unreliable),
 }
 
 // A packet that is cut: its channel, its length, the fragment length, how many pieces, the start number.
@@ -34,7 +67,7 @@ pub struct Cut {
 
 // MTU - 28, less 4 with a checksum.
 pub(crate) fn fragment_length(mtu: u32, checksum: bool) -> u32
-    requires { ⌜ 576 ≤ mtu ⌝ }
+    requires { ⌜ leastMtu ≤ mtu ⌝ }
     ensures { λ r. ⌜ r ≡ fragmentLength mtu checksum ⌝ }
 {
     if checksum {
@@ -59,13 +92,13 @@ pub(crate) fn starting(flags: u32, c: Channel) -> Start
     let unreliable = c.outgoing_unreliable;
     if bits::is_set(flags, 3) {
         if !bits::is_set(flags, 0) {
-            if unreliable.0 < 65535 {
-                return Start::Loose(unreliable.next());
+            if unreliable.0 < LAST {
+                return Start::Unreliable(unreliable.next());
             }
         }
     }
     let reliable = c.outgoing_reliable;
-    Start::Acknowledged(reliable.next())
+    Start::Reliable(reliable.next())
 }
 
 // Flag 2 without flag 1.
@@ -84,7 +117,7 @@ fn whole_command(flags: u32, c: Channel, channel: u8, length: u16) -> Command
 {
     if unsequenced(flags) {
         return blank(
-            73,
+            SEND_UNSEQUENCED,
             channel,
             Fields::SendUnsequenced {
                 group: Group(0),
@@ -93,14 +126,14 @@ fn whole_command(flags: u32, c: Channel, channel: u8, length: u16) -> Command
         );
     }
     if bits::is_set(flags, 0) {
-        return blank(134, channel, Fields::SendReliable { length });
+        return blank(SEND_RELIABLE, channel, Fields::SendReliable { length });
     }
     let unreliable = c.outgoing_unreliable;
-    if 65535 <= unreliable.0 {
-        return blank(134, channel, Fields::SendReliable { length });
+    if LAST <= unreliable.0 {
+        return blank(SEND_RELIABLE, channel, Fields::SendReliable { length });
     }
     blank(
-        7,
+        SEND_UNRELIABLE,
         channel,
         Fields::SendUnreliable {
             number: Unreliable(0),
@@ -110,7 +143,7 @@ fn whole_command(flags: u32, c: Channel, channel: u8, length: u16) -> Command
 }
 
 // A command before it is set up.
-pub(crate) fn blank(byte: u8, channel: u8, fields: Fields) -> Command
+fn blank(byte: u8, channel: u8, fields: Fields) -> Command
     ensures { λ r. ⌜ r ≡ blank byte channel fields ⌝ }
 {
     Command {
@@ -139,9 +172,13 @@ fn cut_command(start: Start, channel: u8, fragment: Fragment) -> Command
     ensures { λ r. ⌜ r ≡ cutCommand start channel fragment ⌝ }
 {
     match start {
-        Start::Acknowledged(start) => blank(136, channel, Fields::SendFragment { start, fragment }),
-        Start::Loose(start) => blank(
-            12,
+        Start::Reliable(start) => blank(
+            SEND_FRAGMENT,
+            channel,
+            Fields::SendFragment { start, fragment },
+        ),
+        Start::Unreliable(start) => blank(
+            SEND_UNRELIABLE_FRAGMENT,
             channel,
             Fields::SendUnreliableFragment { start, fragment },
         ),
@@ -149,7 +186,7 @@ fn cut_command(start: Start, channel: u8, fragment: Fragment) -> Command
 }
 
 // A fragment length, or what is left.
-fn length_at(x: Cut, offset: u32) -> u32
+pub(crate) fn length_at(x: Cut, offset: u32) -> u32
     requires { ⌜ offset ≤ x .length ⌝ }
     ensures { λ r. ⌜ r ≡ lengthAt x offset ⌝ }
 {
@@ -161,7 +198,7 @@ fn length_at(x: Cut, offset: u32) -> u32
 }
 
 // Piece j, at its offset.
-fn piece(x: Cut, j: u32, offset: u32) -> Piece
+pub(crate) fn piece(x: Cut, j: u32, offset: u32) -> Piece
     requires { ⌜ offset ≤ x .length ⌝ }
     requires { ⌜ x .fragment ≤ 65535 ⌝ }
     ensures { λ r. ⌜ r ≡ cutPiece x j offset ⌝ }
@@ -182,20 +219,4 @@ fn piece(x: Cut, j: u32, offset: u32) -> Piece
         offset,
         length,
     }
-}
-
-// Every piece in its order.
-pub(crate) fn queue_all(peer: Peer, x: Cut) -> Peer
-    requires { ⌜ x .fragment ≤ 65535 ⌝ }
-    ensures { λ r. ⌜ r ≡ queuedAll (pieces x) peer ⌝ }
-{
-    let mut p = peer;
-    let mut j: u32 = 0;
-    let mut offset: u32 = 0;
-    while j < x.count {
-        p = queueing::queue(p, piece(x, j, offset));
-        offset = offset + length_at(x, offset);
-        j = j + 1;
-    }
-    p
 }

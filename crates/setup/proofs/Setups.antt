@@ -1,4 +1,4 @@
--- A setup comes out as its rule says: the parts that the code makes are the rule's, whatever made them.
+-- A setup or a ping comes out as its rule says: the parts that the code makes are the rule's, whatever made them.
 -- The argument: each part is given by its equation; behind both gates the record made of them is the one that Stored speaks of.
 use Prim.Native.Nat.{ℕ, _≤_, _<_}
 use mathlib.Core.Path.{_≡_, refl, ap, sym, _∙_}
@@ -10,8 +10,8 @@ use Rattle.slots.specs.Lists.{outgoing}
 use Rattle.parts.specs.Updates.{withOutgoingTotal, withReliable, withOutgoingGroup, withQueued}
 use Rattle.parts.specs.declared.groups.Channel.{Channel}
 use Rattle.parts.specs.declared.groups.Outgoing.{Outgoing}
-use Rattle.peer.specs.Outcome.{Came, finished}
-use Rattle.peer.specs.Gate.{fits, gateOf}
+use Rattle.peer.specs.Outcome.{Outcome, Came, finished}
+use Rattle.peer.specs.Gate.{fits, gateOf, behind, onRecord}
 use Rattle.peer.specs.Calls.{answerOf}
 use Rattle.peer.specs.Updates.{renewed}
 use Rattle.peer.specs.declared.settings.Settings.{Settings}
@@ -27,7 +27,7 @@ use Rattle.stamps.specs.declared.pieces.Piece.{Piece}
 use Rattle.stamps.specs.declared.outbox.Outbox.{Outbox}
 use Rattle.stamps.specs.declared.outbox.Queued.{Queued}
 use Rattle.setup.specs.Queueing.{room, queued}
-use Rattle.setup.specs.Calls.{setupGate, setsUp, setsUpSound}
+use Rattle.setup.specs.Calls.{setupGate}
 use Rattle.setup.proofs.Sound.{setup-open}
 use Rattle.setup.proofs.Stored.{one-exists, one-stored, open-room}
 
@@ -37,32 +37,35 @@ left p o cs at slot =
     renewed p (p .standing) (withOutgoingTotal (p .totals) (o .total)) (p .times) (p .loss) (withReliable (p .flow) (o .counters .own)) (o .lists)
     (withOutgoingGroup (p .groups) (o .counters .group)) (withQueued (p .waiting) (o .queued)) cs (set (p .outgoing) at slot)
 
--- ws, g, o, free and may are what the code answered, in this order
+-- a call that queues one piece behind a gate of its own: ws, g, o and may are what the code answered, in this order
 module _ (s : Settings) (x : Piece) (p : Peer) (ws : List ℕ) (v : ws ≡ worthsOf p) (g : Gate) (e : g ≡ gateOf (fits s Nothing) (soundBy p ws))
     (passed : g ≡ Open) (o : Outbox)
-    (oe : o ≡ outboxOf (p .totals) (p .waiting) (p .flow) (p .groups) (p .channels) (x .command .channel) (p .lists)) (free : ℕ)
-    (fe : free ≡ freeIn o) (may : Gate) (me : may ≡ setupGate x (p .standing .count) free) where
-  may-is : may ≡ setupGate x (p .standing .count) (room p)
-  may-is = me ∙ ap (setupGate x (p .standing .count)) (fe ∙ open-room p (x .command .channel) o oe)
+    (oe : o ≡ outboxOf (p .totals) (p .waiting) (p .flow) (p .groups) (p .channels) (x .command .channel) (p .lists)) (rule may : Gate) (me : may ≡ rule)
+    (some : rule ≡ Open → 1 ≤ room p) where
+  abbrev rest : Outcome Peer
+  rest = behind rule p (finished (queued x p))
 
-  pub setup-shut : (why : Refusal) → may ≡ Shut why → Came answerOf (setsUp s x p) (Refused why) p
-  setup-shut why q =
-      came-open s Nothing p ws v g e p (setsUpSound x p) answerOf (Refused why) p passed
-      (rw (behind-shut (setupGate x (p .standing .count) (room p)) p (finished (queued x p)) why (sym may-is ∙ q)) (record { answer = refl; after = refl }))
+  pub one-shut : (why : Refusal) → may ≡ Shut why → Came answerOf (onRecord s p rest) (Refused why) p
+  one-shut why q =
+      came-open s Nothing p ws v g e p rest answerOf (Refused why) p passed
+      (rw (behind-shut rule p (finished (queued x p)) why (sym me ∙ q)) (record { answer = refl; after = refl }))
 
   module _ (opened : may ≡ Open) (q : Queued) (qe : q ≡ queueing o x) where
-    gate : setupGate x (p .standing .count) (room p) ≡ Open
-    gate = sym may-is ∙ opened
+    pub one-at : q .at < outgoing
+    one-at = one-exists x p (some (sym me ∙ opened)) o oe q qe
 
-    some : 1 ≤ room p
-    some = leb-true 1 (room p) (setup-open x p gate .1)
+    pub one-left : (cs : List Channel) → cs ≡ numbered (p .channels) (x .command .channel) (q .outbox .counters)
+        → Came answerOf (onRecord s p rest) Done (left p (q .outbox) cs (q .at) (q .slot))
+    one-left cs ce =
+        came-open s Nothing p ws v g e p rest answerOf Done _ passed
+        (rw (behind-open rule p (finished (queued x p)) (sym me ∙ opened))
+        (record { answer = refl; after = rw ce (sym (one-stored x p (some (sym me ∙ opened)) o oe q qe)) }))
 
-    pub setup-exists : q .at < outgoing
-    setup-exists = one-exists x p some o oe q qe
+-- setup's own gate, on as many free slots as the code counted
+pub setup-gate : (x : Piece) (p : Peer) (o : Outbox)
+    → o ≡ outboxOf (p .totals) (p .waiting) (p .flow) (p .groups) (p .channels) (x .command .channel) (p .lists) → (free : ℕ) → free ≡ freeIn o
+    → (may : Gate) → may ≡ setupGate x (p .standing .count) free → may ≡ setupGate x (p .standing .count) (room p)
+setup-gate x p o oe free fe may me = me ∙ ap (setupGate x (p .standing .count)) (fe ∙ open-room p (x .command .channel) o oe)
 
-    pub setup-left : (cs : List Channel) → cs ≡ numbered (p .channels) (x .command .channel) (q .outbox .counters)
-        → Came answerOf (setsUp s x p) Done (left p (q .outbox) cs (q .at) (q .slot))
-    setup-left cs ce =
-        came-open s Nothing p ws v g e p (setsUpSound x p) answerOf Done _ passed
-        (rw (behind-open (setupGate x (p .standing .count) (room p)) p (finished (queued x p)) gate)
-        (record { answer = refl; after = rw ce (sym (one-stored x p some o oe q qe)) }))
+pub setup-some : (x : Piece) (p : Peer) → setupGate x (p .standing .count) (room p) ≡ Open → 1 ≤ room p
+setup-some x p e = leb-true 1 (room p) (setup-open x p e .1)

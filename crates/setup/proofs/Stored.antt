@@ -2,7 +2,7 @@
 -- The argument: the definitions say the same of each group; the marks tell the lowest free slot; a channel that is there gives back the
 -- numbers that it was given, so that groups stored once at the end are those stored after each piece.
 use Prim.Native.Nat.{ℕ, zero, suc, _+_, _≤_, _<_}
-use mathlib.Core.Path.{_≡_, refl, ap, sym, _∙_}
+use mathlib.Core.Path.{_≡_, refl, ap, sym, subst, _∙_}
 use mathlib.Core.Bool.{Bool, true, false}
 use mathlib.Core.List.{List, [], _∷_}
 use native.Mathlib.Omega.{arith}
@@ -185,9 +185,18 @@ module _ (x : Piece) (xs : List Piece) (p : Peer) (here : x .command .channel < 
           record {
             all = ap length m ∙ length-set (o .marks) s 1 ∙ says .all;
             each = λ k b.
-            ap (λ (l : List ℕ). isMarked l k) m
-            ∙ set-mark-past (o .marks) s k (omega (arith, says .all))
-            ∙ ap (pick (eqb s k) true) (says .each k b)
-            ∙ sym (queued-names x r s low (ready .good) k)
-            ∙ ap (λ (p : Peer). has (usedOut (p .lists)) k) n;
+                ap (λ (l : List ℕ). isMarked l k) m
+                ∙ set-mark-past (o .marks) s k (omega (arith, says .all))
+                ∙ ap (pick (eqb s k) true) (says .each k b)
+                ∙ sym (queued-names x r s low (ready .good) k)
+                ∙ ap (λ (p : Peer). has (usedOut (p .lists)) k) n;
           }
+
+-- the same, of a channel that is the piece's
+pub turn-on : (x : Piece) (xs : List Piece) (p : Peer) (channel : ℕ) → x .command .channel ≡ channel → channel < length (p .channels) → (o : Outbox)
+    → Says (o .marks) (usedOut (o .lists)) → Ready (x ∷ xs) (stored p channel o (p .outgoing)) → (q : Queued) → q ≡ queueing o x → Turned x xs p channel o q
+turn-on x xs p channel ce here o =
+    subst
+    (λ (c : ℕ).
+    c < length (p .channels) → Says (o .marks) (usedOut (o .lists)) → Ready (x ∷ xs) (stored p c o (p .outgoing)) → (q : Queued) → q ≡ queueing o x
+    → Turned x xs p c o q) ce (λ there. turn x xs p there o) here

@@ -72,7 +72,15 @@ pub fn setup(peer: Peer, settings: Settings, x: Piece) -> Called
         };
     }
     let c = x.command;
-    let o = outbox::open(p.totals, p.waiting, p.flow, p.groups, channels, c.channel, lists);
+    let o = outbox::open(
+        p.totals,
+        p.waiting,
+        p.flow,
+        p.groups,
+        channels,
+        c.channel,
+        lists,
+    );
     let may = judge(x, p.standing.count, outbox::room(o));
     if let Gate::Shut(why) = may {
         return Called {

@@ -1,60 +1,207 @@
--- `send` passes the gate, and goes on as the rule behind it, on a record that the gate found sound.
+-- `send` passes the gate and its own refusals; then its loop queues the packet's commands in order, and each group is what the outbox has.
+-- What the loop keeps is `Going`.
+use Prim.Native.Nat.{ℕ, _-_, _<_}
+use mathlib.Core.Path.{refl, sym, _∙_}
+use native.Mathlib.Omega.{arith}
+use lib.ListN.{length-map}
 use borrow.Author.Needs.{needs}
-use Rattle.peer.proofs.Gates.{open-sound}
+use Rattle.slots.specs.Lists.{outgoing}
+use Rattle.peer.specs.Calls.{answerOf}
+use Rattle.peer.specs.Sounds.{Whole}
+use Rattle.peer.specs.declared.gate.Lent.the-variants.{Nothing}
+use Rattle.peer.proofs.Gates.{came-shut, open-sound}
 use Rattle.sending.specs.Calls.{sendsSound}
-use Rattle.setup.proofs.Opens.{gate-range, gate-damage, gate-open}
+use Rattle.sending.proofs.Ranges.{mtu-low, mtu-high, count-high}
+use Rattle.sending.proofs.Going.{Going, going-start, going-exists, going-turn, send-shut, send-left}
 use Rattle.sending.proofs.calls.send.Statement.{statement}
 use Rattle.sending.proofs.calls.send.Tie as tie
 
-gate-requires : tie.Need-gate-requires
-gate-requires c κs = search needs
+abbrev Inv-loop : tie.InvT-loop
+Inv-loop channel length flags p₀ channels o₀ packet count j₀ offset₀ p o j offset = Going packet count channel p₀ p o j offset
 
-enum-told : tie.Need-enum-told
+abbrev μ-loop : tie.MeasureT-loop
+μ-loop channel length flags p₀ channels o₀ packet count j₀ offset₀ p o j offset = count - j
+
+worths-requires : tie.Need-worths-requires Inv-loop μ-loop
+worths-requires c κs = search needs
+
+pass-requires : tie.Need-pass-requires Inv-loop μ-loop
+pass-requires c κs = search needs
+
+enum-known-gate : tie.Need-enum-known-gate Inv-loop μ-loop
+enum-known-gate c = search needs
+
+returns : tie.Need-returns Inv-loop μ-loop
+returns c =
+    let g = c .before .before .before in
+    let w = g .before in
+    let b = w .before .before .before .before .before in
+    let a = b .args in
+    let k = c .before .gate .given in
+    came-shut (a .settings) Nothing (a .peer) (w .worths .result) (w .worths .ensures) (g .pass .result) (g .pass .ensures) (a .peer)
+    (sendsSound (a .settings) (a .channel) (a .length) (a .flags) (a .peer)) answerOf _ (k .0 .0) refl (k .1)
+
+enum-told : tie.Need-enum-told Inv-loop μ-loop
 enum-told c = search needs
 
-enum-told-2 : tie.Need-enum-told-2
-enum-told-2 c = search needs
+open-requires : tie.Need-open-requires Inv-loop μ-loop
+open-requires c κs = search needs
 
-enum-told-3 : tie.Need-enum-told-3
-enum-told-3 c = search needs
+judge-requires : tie.Need-judge-requires Inv-loop μ-loop
+judge-requires c κs =
+    let t = c .before .before .before .before .before .before .before in
+    let g = t .before .before in
+    let w = g .before in
+    let b = w .before .before .before .before .before in
+    let a = b .args in
+    let good = open-sound (a .settings) Nothing (a .peer) (w .worths .result) (w .worths .ensures) (g .pass .result) (g .pass .ensures) (t .enum-told .given .1) in
+    (mtu-low (a .peer) good, mtu-high (a .peer) good, count-high (a .peer) good)
 
-send-sound-requires : tie.Need-send-sound-requires
-send-sound-requires c κs =
-    let gate = c .before .before .gate in
-    let a = c .before .before .before .args in
-    open-sound (a .settings) (a .peer) (sendsSound (a .settings) (a .channel) (a .length) (a .flags) (a .peer)) (gate .result) (gate .ensures)
-    (c .enum-told3 .given .1)
+enum-known-plan : tie.Need-enum-known-plan Inv-loop μ-loop
+enum-known-plan c = search needs
 
-returns : tie.Need-returns
-returns c =
-    let gate = c .before .before .gate in
-    let a = c .before .before .before .args in
-    gate-range (a .settings) (a .peer) (sendsSound (a .settings) (a .channel) (a .length) (a .flags) (a .peer)) (gate .result) (gate .ensures)
-    (c .enum-told .given .1)
-
-returns-2 : tie.Need-returns-2
+returns-2 : tie.Need-returns-2 Inv-loop μ-loop
 returns-2 c =
-    let gate = c .before .before .gate in
-    let a = c .before .before .before .args in
-    gate-damage (a .settings) (a .peer) (sendsSound (a .settings) (a .channel) (a .length) (a .flags) (a .peer)) (gate .result) (gate .ensures)
-    (c .enum-told2 .given .1)
+    let j = c .before .before .before in
+    let o = j .before .before .before in
+    let t = o .before .before .before .before .before in
+    let g = t .before .before in
+    let w = g .before in
+    let b = w .before .before .before .before .before in
+    let a = b .args in
+    let k = c .before .plan .given in
+    send-shut (a .settings) (a .channel) (a .length) (a .flags) (a .peer) (w .worths .result) (w .worths .ensures) (g .pass .result) (g .pass .ensures)
+    (t .enum-told .given .1) (o .«open» .result) (o .«open» .ensures) (j .judge .result) (j .judge .ensures) (k .0 .0) (k .1)
 
-returns-3 : tie.Need-returns-3
+enum-known-plan-2 : tie.Need-enum-known-plan-2 Inv-loop μ-loop
+enum-known-plan-2 c = search needs
+
+count-of-requires : tie.Need-count-of-requires Inv-loop μ-loop
+count-of-requires c κs = search needs
+
+loop-holds : tie.Need-loop-holds Inv-loop μ-loop
+loop-holds c =
+    let j = c .before .before .before .before in
+    let o = j .before .before .before in
+    let t = o .before .before .before .before .before in
+    let g = t .before .before in
+    let w = g .before in
+    let b = w .before .before .before .before .before in
+    let a = b .args in
+    let f = b .good .0 .1 .1 .1 .1 .1 .1 .1 .1 .1 .1 .1 .1 .1 .1 .1 in
+    let whole : Whole (a .peer) =
+    record {
+      channels = sym (length-map (a .peer .channels) _) ∙ f .0 .1 .0 .1;
+      outgoing = sym (length-map (a .peer .outgoing) _) ∙ f .1 .0 .1 .0 .1;
+      incoming = sym (length-map (a .peer .incoming) _) ∙ f .1 .1 .0 .1 .0 .1;
+    }
+    in
+    let k = c .before .before .plan2 .given in
+    going-start (a .settings) (a .channel) (a .length) (a .flags) (a .peer) (w .worths .result) (w .worths .ensures) (g .pass .result) (g .pass .ensures)
+    (t .enum-told .given .1) (o .«open» .result) (o .«open» .ensures) (j .judge .result) (j .judge .ensures) whole (k .0 .0) (k .1) (c .count-of .result) (c .count-of .ensures)
+
+piece-at-requires : tie.Need-piece-at-requires Inv-loop μ-loop
+piece-at-requires c κs = c .before .loop .inv .within
+
+queue-requires : tie.Need-queue-requires Inv-loop μ-loop
+queue-requires c κs = search needs
+
+mul-slot : tie.Need-mul-slot Inv-loop μ-loop
+mul-slot c =
+    let q = c .before in
+    let y = q .before in
+    let l = y .before .before .loop in
+    let n = y .before .before .before in
+    let k = n .before .before .plan2 .given in
+    let h : q .queue .result .at < outgoing =
+    going-exists (k .0 .0) (n .count-of .result) _ _ (l .p) (l .o) (l .j) (l .offset) (l .inv) (y .before .loop-test .taken) (y .piece-at .result) (y .piece-at .ensures)
+    (q .queue .result) (q .queue .ensures) in
+    search needs
+
+element-set-from-slot : tie.Need-element-set-from-slot Inv-loop μ-loop
+element-set-from-slot c =
+    let q = c .before in
+    let y = q .before in
+    let l = y .before .before .loop in
+    let n = y .before .before .before in
+    let k = n .before .before .plan2 .given in
+    let h : q .queue .result .at < outgoing =
+    going-exists (k .0 .0) (n .count-of .result) _ _ (l .p) (l .o) (l .j) (l .offset) (l .inv) (y .before .loop-test .taken) (y .piece-at .result) (y .piece-at .ensures)
+    (q .queue .result) (q .queue .ensures) in
+    search needs
+
+next-at-requires : tie.Need-next-at-requires Inv-loop μ-loop
+next-at-requires c κs = c .before .before .before .before .before .loop .inv .within
+
+add-j : tie.Need-add-j Inv-loop μ-loop
+add-j c = search needs
+
+loop-less : tie.Need-loop-less Inv-loop μ-loop
+loop-less c = search needs
+
+loop-again : tie.Need-loop-again Inv-loop μ-loop
+loop-again c =
+    let q = c .before .before .before in
+    let y = q .before in
+    let l = y .before .before .loop in
+    let n = y .before .before .before in
+    let k = n .before .before .plan2 .given in
+    going-turn (k .0 .0) (n .count-of .result) _ _ (l .p) (l .o) (l .j) (l .offset) (l .inv) (y .before .loop-test .taken) (y .piece-at .result) (y .piece-at .ensures)
+    (q .queue .result) (q .queue .ensures) (c .next-at .result) (c .next-at .ensures)
+
+number-requires : tie.Need-number-requires Inv-loop μ-loop
+number-requires c κs = search needs
+
+returns-3 : tie.Need-returns-3 Inv-loop μ-loop
 returns-3 c =
-    let gate = c .before .before .before .gate in
-    let a = c .before .before .before .before .args in
-    gate-open (a .settings) (a .peer) (sendsSound (a .settings) (a .channel) (a .length) (a .flags) (a .peer)) (gate .result) (gate .ensures)
-    (c .before .enum-told3 .given .1) (c .send-sound .result) (c .send-sound .ensures)
+    let n = c .before .before .before in
+    let l = n .before .before .before .before .before .before .before in
+    let m = l .before in
+    let j = m .before .before .before .before in
+    let o = j .before .before .before in
+    let t = o .before .before .before .before .before in
+    let g = t .before .before in
+    let w = g .before in
+    let b = w .before .before .before .before .before in
+    let a = b .args in
+    let f = b .good .0 .1 .1 .1 .1 .1 .1 .1 .1 .1 .1 .1 .1 .1 .1 .1 in
+    let whole : Whole (a .peer) =
+    record {
+      channels = sym (length-map (a .peer .channels) _) ∙ f .0 .1 .0 .1;
+      outgoing = sym (length-map (a .peer .outgoing) _) ∙ f .1 .0 .1 .0 .1;
+      incoming = sym (length-map (a .peer .incoming) _) ∙ f .1 .1 .0 .1 .0 .1;
+    }
+    in
+    let k = m .before .before .plan2 .given in
+    send-left (a .settings) (a .channel) (a .length) (a .flags) (a .peer) (w .worths .result) (w .worths .ensures) (g .pass .result) (g .pass .ensures)
+    (t .enum-told .given .1) (o .«open» .result) (o .«open» .ensures) (j .judge .result) (j .judge .ensures) whole (k .0 .0) (k .1) (m .count-of .result) (l .loop .p) (l .loop .o) (l .loop .j) (l .loop .offset) (l .loop .inv)
+    (n .before .before .before .before .before .before .loop-test .left) (n .number .result) (n .number .ensures)
 
 pub send-spec : {M : Type 1} → statement M
 send-spec =
     tie.close
     (tie.spec
-    gate-requires
-    enum-told
-    enum-told-2
-    enum-told-3
-    send-sound-requires
+    Inv-loop
+    μ-loop
+    worths-requires
+    pass-requires
+    enum-known-gate
     returns
+    enum-told
+    open-requires
+    judge-requires
+    enum-known-plan
     returns-2
+    enum-known-plan-2
+    count-of-requires
+    loop-holds
+    piece-at-requires
+    queue-requires
+    mul-slot
+    element-set-from-slot
+    next-at-requires
+    add-j
+    loop-less
+    loop-again
+    number-requires
     returns-3)

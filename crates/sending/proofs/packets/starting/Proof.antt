@@ -4,7 +4,7 @@ use mathlib.Core.Path.{sym, ap, _∙_}
 use mathlib.Core.Logic.{⊎-elim}
 use borrow.Author.Needs.{needs}
 use borrow.Author.Tests.{not-true, not-false, le-leb, lt-leb}
-use Rattle.sending.specs.declared.packets.Start.the-variants.{Acknowledged, Loose}
+use Rattle.sending.specs.declared.packets.Start.the-variants as start
 use Rattle.sending.proofs.packets.starting.Statement.{statement}
 use Rattle.sending.proofs.packets.starting.Tie as tie
 
@@ -22,7 +22,7 @@ returns c =
     let loose = sym (c .before .before .before .before .before .before .is-set .ensures) ∙ c .before .before .before .before .before .if1 .taken in
     let quiet = sym (c .before .before .before .before .is-set2 .ensures) ∙ not-true _ (c .before .before .before .if2 .taken) in
     let fresh = lt-leb _ _ (c .before .if3 .taken) in
-    rw (loose, quiet, fresh) (ap (λ (n : ℕ). Loose (record { 0 = n })) (c .next .ensures))
+    rw (loose, quiet, fresh) (ap (λ (n : ℕ). start.Unreliable (record { 0 = n })) (c .next .ensures))
 
 next-requires-2 : tie.Need-next-requires-2
 next-requires-2 c κs = search needs
@@ -31,7 +31,7 @@ returns-2 : tie.Need-returns-2
 returns-2 c =
     let m = c .before .before in
     let set = sym (m .before .is-set .ensures) in
-    let number = ap (λ (n : ℕ). Acknowledged (record { 0 = n })) (c .next2 .ensures) in
+    let number = ap (λ (n : ℕ). start.Reliable (record { 0 = n })) (c .next2 .ensures) in
     ⊎-elim
     (λ w. rw (set ∙ w .0 .taken, sym (w .1 .ensures) ∙ not-true _ (w .2 .taken), le-leb _ _ (w .4 .left)) number)
     (⊎-elim (λ w. rw (set ∙ w .0 .taken, sym (w .1 .ensures) ∙ not-false _ (w .2 .left)) number) (λ w. rw (set ∙ w .left) number))

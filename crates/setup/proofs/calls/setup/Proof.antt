@@ -6,8 +6,9 @@ use Rattle.slots.specs.Lists.{outgoing}
 use Rattle.peer.specs.Calls.{answerOf}
 use Rattle.peer.specs.declared.gate.Lent.the-variants.{Nothing}
 use Rattle.peer.proofs.Gates.{came-shut}
-use Rattle.setup.specs.Calls.{setsUpSound}
-use Rattle.setup.proofs.Setups.{setup-shut, setup-exists, setup-left}
+use Rattle.setup.specs.Queueing.{room}
+use Rattle.setup.specs.Calls.{setupGate, setsUpSound}
+use Rattle.setup.proofs.Setups.{one-shut, one-at, one-left, setup-gate, setup-some}
 use Rattle.setup.proofs.calls.setup.Statement.{statement}
 use Rattle.setup.proofs.calls.setup.Tie as tie
 
@@ -53,8 +54,10 @@ returns-2 c =
     let w = g .before in
     let a = w .before .before .before .before .before .args in
     let k = c .before .may .given in
-    setup-shut (a .settings) (a .x) (a .peer) (w .worths .result) (w .worths .ensures) (g .pass .result) (g .pass .ensures) (t .enum-told .given .1)
-    (o .«open» .result) (o .«open» .ensures) (j .before .room .result) (j .before .room .ensures) (j .judge .result) (j .judge .ensures) (k .0 .0) (k .1)
+    one-shut (a .settings) (a .x) (a .peer) (w .worths .result) (w .worths .ensures) (g .pass .result) (g .pass .ensures) (t .enum-told .given .1)
+    (o .«open» .result) (o .«open» .ensures) (setupGate (a .x) (a .peer .standing .count) (room (a .peer))) (j .judge .result)
+    (setup-gate (a .x) (a .peer) (o .«open» .result) (o .«open» .ensures) (j .before .room .result) (j .before .room .ensures) (j .judge .result) (j .judge .ensures))
+    (setup-some (a .x) (a .peer)) (k .0 .0) (k .1)
 
 enum-told-2 : tie.Need-enum-told-2
 enum-told-2 c = search needs
@@ -72,8 +75,10 @@ mul-slot c =
     let w = g .before in
     let a = w .before .before .before .before .before .args in
     let h : q .queue .result .at < outgoing =
-    setup-exists (a .settings) (a .x) (a .peer) (w .worths .result) (w .worths .ensures) (g .pass .result) (g .pass .ensures) (t .enum-told .given .1)
-    (o .«open» .result) (o .«open» .ensures) (j .before .room .result) (j .before .room .ensures) (j .judge .result) (j .judge .ensures)
+    one-at (a .settings) (a .x) (a .peer) (w .worths .result) (w .worths .ensures) (g .pass .result) (g .pass .ensures) (t .enum-told .given .1)
+    (o .«open» .result) (o .«open» .ensures) (setupGate (a .x) (a .peer .standing .count) (room (a .peer))) (j .judge .result)
+    (setup-gate (a .x) (a .peer) (o .«open» .result) (o .«open» .ensures) (j .before .room .result) (j .before .room .ensures) (j .judge .result) (j .judge .ensures))
+    (setup-some (a .x) (a .peer))
     (q .before .enum-told2 .given .1) (q .queue .result) (q .queue .ensures) in
     search needs
 
@@ -87,8 +92,10 @@ element-set-from-slot c =
     let w = g .before in
     let a = w .before .before .before .before .before .args in
     let h : q .queue .result .at < outgoing =
-    setup-exists (a .settings) (a .x) (a .peer) (w .worths .result) (w .worths .ensures) (g .pass .result) (g .pass .ensures) (t .enum-told .given .1)
-    (o .«open» .result) (o .«open» .ensures) (j .before .room .result) (j .before .room .ensures) (j .judge .result) (j .judge .ensures)
+    one-at (a .settings) (a .x) (a .peer) (w .worths .result) (w .worths .ensures) (g .pass .result) (g .pass .ensures) (t .enum-told .given .1)
+    (o .«open» .result) (o .«open» .ensures) (setupGate (a .x) (a .peer .standing .count) (room (a .peer))) (j .judge .result)
+    (setup-gate (a .x) (a .peer) (o .«open» .result) (o .«open» .ensures) (j .before .room .result) (j .before .room .ensures) (j .judge .result) (j .judge .ensures))
+    (setup-some (a .x) (a .peer))
     (q .before .enum-told2 .given .1) (q .queue .result) (q .queue .ensures) in
     search needs
 
@@ -105,8 +112,10 @@ returns-3 c =
     let g = t .before .before in
     let w = g .before in
     let a = w .before .before .before .before .before .args in
-    setup-left (a .settings) (a .x) (a .peer) (w .worths .result) (w .worths .ensures) (g .pass .result) (g .pass .ensures) (t .enum-told .given .1)
-    (o .«open» .result) (o .«open» .ensures) (j .before .room .result) (j .before .room .ensures) (j .judge .result) (j .judge .ensures)
+    one-left (a .settings) (a .x) (a .peer) (w .worths .result) (w .worths .ensures) (g .pass .result) (g .pass .ensures) (t .enum-told .given .1)
+    (o .«open» .result) (o .«open» .ensures) (setupGate (a .x) (a .peer .standing .count) (room (a .peer))) (j .judge .result)
+    (setup-gate (a .x) (a .peer) (o .«open» .result) (o .«open» .ensures) (j .before .room .result) (j .before .room .ensures) (j .judge .result) (j .judge .ensures))
+    (setup-some (a .x) (a .peer))
     (q .before .enum-told2 .given .1) (q .queue .result) (q .queue .ensures) (n .number .result) (n .number .ensures)
 
 pub setup-spec : {M : Type 1} → statement M

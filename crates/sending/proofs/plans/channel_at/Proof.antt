@@ -4,8 +4,8 @@ use native.Mathlib.Omega.{arith}
 use lib.ListN.{length}
 use borrow.Author.Needs.{needs}
 use Rattle.stamps.proofs.CountLaws.{channel-here}
-use Rattle.sending.proofs.calls.channel_at.Statement.{statement}
-use Rattle.sending.proofs.calls.channel_at.Tie as tie
+use Rattle.sending.proofs.plans.channel_at.Statement.{statement}
+use Rattle.sending.proofs.plans.channel_at.Tie as tie
 
 mul-result : tie.Need-mul-result
 mul-result c = search needs

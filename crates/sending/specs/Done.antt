@@ -3,17 +3,13 @@ use Prim.Native.Nat.{ℕ, _+_}
 use mathlib.Core.Path.{_≡_}
 use mathlib.Core.Bool.{true}
 use mathlib.Core.List.{List, [], _∷_}
-use lib.Dec.{leb}
 use lib.ListN.{take}
-use Rattle.numbers.specs.Pick.{pick}
 use Rattle.peer.specs.declared.record.Peer.{Peer}
 use Rattle.parts.specs.declared.groups.Outgoing.{Outgoing}
-use Rattle.stamps.specs.Counting.{channelAt}
 use Rattle.stamps.specs.declared.pieces.Piece.{Piece}
 use Rattle.setup.specs.Queueing.{queuedAll}
 use Rattle.setup.specs.Taking.{Ready}
-use Rattle.sending.specs.Packets.{whole, startOf, cutCommand, pieces}
-use Rattle.sending.specs.Calls.{cutBy}
+use Rattle.sending.specs.Packets.{cutCommand, pieces}
 use Rattle.sending.specs.declared.packets.Cut.{Cut}
 
 -- how many bytes pieces carry together
@@ -34,12 +30,6 @@ pub record Bears (o : Outgoing) (r u : ℕ) : Type 0 where
   pub reliable : o .reliable .0 ≡ r
   pub unreliable : o .unreliable .0 ≡ u
   pub header : o .command .number .0 ≡ r
-
--- the commands of a packet, one or its pieces
-abbrev pub commands : ℕ → ℕ → ℕ → ℕ → Peer → List Piece
-commands fragment channel length flags p =
-    let c = channelAt (p .channels) channel in
-    pick (leb length fragment) (whole flags c channel length ∷ []) (pieces (cutBy (startOf flags c) channel length fragment))
 
 -- a done send: room for its commands, none of which setup refuses, and they are set up in order
 pub record Sent (xs : List Piece) (p after : Peer) : Type 0 where

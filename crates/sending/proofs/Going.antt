@@ -1,0 +1,274 @@
+-- A send's loop: after some of its commands, what all of them make of the record is what those left make of it as stored so far. And what
+-- the send then comes to. The argument: a turn is setup's `turn-on`; at the end none is left, and what is stored is the send's record.
+use Prim.Native.Nat.{ℕ, suc, _+_, _-_, _≤_, _<_}
+use mathlib.Core.Path.{_≡_, refl, ap, sym, _∙_}
+use mathlib.Core.Bool.{Bool, true, false, not}
+use mathlib.Core.List.{List, [], _∷_}
+use native.Mathlib.Omega.{arith}
+use lib.Dec.{leb}
+use lib.ListN.{length, set, replicate}
+use borrow.Author.Tests.{ltb-true, leb-true}
+use Rattle.numbers.specs.Pick.{pick, both}
+use Rattle.numbers.specs.Limits.{mostFragments}
+use Rattle.numbers.specs.declared.refusals.Refusal.{Refusal}
+use Rattle.numbers.specs.declared.refusals.Refusal.the-variants.{FailedToQueue}
+use Rattle.slots.specs.Lists.{outgoing}
+use Rattle.slots.specs.Free.{markedAll}
+use Rattle.parts.specs.Sizes.{channels}
+use Rattle.parts.specs.Damage.{usedOut}
+use Rattle.parts.specs.Updates.{withOutgoingTotal, withReliable, withOutgoingGroup, withQueued}
+use Rattle.parts.specs.declared.groups.Channel.{Channel}
+use Rattle.parts.specs.declared.groups.Outgoing.{Outgoing}
+use Rattle.peer.specs.Damage.{sound}
+use Rattle.peer.specs.Outcome.{Outcome, Came, finished}
+use Rattle.peer.specs.Gate.{fits, gateOf, then, behind}
+use Rattle.peer.specs.Sounds.{Whole}
+use Rattle.peer.specs.Calls.{answerOf}
+use Rattle.peer.specs.Updates.{renewed, withOutgoing}
+use Rattle.peer.specs.declared.settings.Settings.{Settings}
+use Rattle.peer.specs.declared.record.Peer.{Peer}
+use Rattle.peer.specs.declared.gate.Gate.{Gate}
+use Rattle.peer.specs.declared.gate.Gate.the-variants.{Open, Shut}
+use Rattle.peer.specs.declared.gate.Lent.the-variants.{Nothing}
+use Rattle.peer.specs.declared.calls.Reply.the-variants.{Done, Refused}
+use Rattle.peer.proofs.Gates.{worthsOf, soundBy, openness, open-sound, behind-shut, behind-open, then-behind, came-open}
+use Rattle.stamps.specs.Counting.{channelAt, numbered}
+use Rattle.stamps.specs.Outboxes.{queueing, outboxOf, freeIn}
+use Rattle.stamps.specs.declared.pieces.Piece.{Piece}
+use Rattle.stamps.specs.declared.outbox.Outbox.{Outbox}
+use Rattle.stamps.specs.declared.outbox.Queued.{Queued}
+use Rattle.setup.specs.Queueing.{room, queued, queuedAll}
+use Rattle.setup.specs.Taking.{Ready}
+use Rattle.setup.proofs.Stored.{stored, Says, says-first, stored-first, open-room, Turned, turn-on}
+use Rattle.sending.specs.Packets.{isReliable, isUnsequenced, spent, blank, reliableByte, unreliableByte, unsequencedByte, whole, startOf, cutCommand, pieces}
+use Rattle.sending.specs.Calls.{cutBy, fragment, commands, sendGate, queueGate, sendsSound, sends, pingPiece}
+use Rattle.sending.specs.Plans.{packetOf, piecesOf, countOf, leftOf, pieceAt, nextAt, Within, planBy, planOf}
+use Rattle.sending.specs.declared.packets.Start.{Start}
+use Rattle.sending.specs.declared.packets.Start.the-variants as start
+use Rattle.command.specs.declared.fields.Fragment.{Fragment}
+use Rattle.command.specs.declared.fields.Fields.the-variants.{SendReliable, SendUnreliable, SendUnsequenced}
+use Rattle.sending.specs.declared.plans.Packet.{Packet}
+use Rattle.sending.specs.declared.plans.Packet.the-variants.{One, Pieces}
+use Rattle.sending.specs.declared.plans.Plan.{Plan}
+use Rattle.sending.specs.declared.plans.Plan.the-variants as plan
+use Rattle.sending.proofs.Ranges.{mtu-high, count-high, length-high}
+use Rattle.sending.proofs.Planning.{left-all, left-length, left-turn, left-end, within-next}
+use Rattle.sending.proofs.Sound.{gate-channel, commands-fit}
+use Rattle.sending.proofs.Sends.{queue-room}
+
+-- what tells the two plans apart
+abbrev queues : Plan → ℕ
+queues (plan.Refused why) = 0
+queues (plan.Queue x) = 1
+
+abbrev whyIn : Plan → Refusal
+whyIn (plan.Refused why) = why
+whyIn (plan.Queue x) = FailedToQueue
+
+abbrev packetIn : Plan → Packet
+packetIn (plan.Refused why) = One pingPiece
+packetIn (plan.Queue x) = x
+
+module _ (x : Packet) (count channel : ℕ) (p₀ : Peer) where
+  pub record Going (p : Peer) (o : Outbox) (j offset : ℕ) : Type 0 where
+    pub low : j ≤ count
+    pub within : Within x offset
+    pub on : (j offset : ℕ) → pieceAt x j offset .command .channel ≡ channel
+    pub here : channel < length (p .channels)
+    pub says : Says (o .marks) (usedOut (o .lists))
+    pub ready : Ready (leftOf x (count - j) j offset) (stored p channel o (p .outgoing))
+    pub same : queuedAll (piecesOf x) p₀ ≡ queuedAll (leftOf x (count - j) j offset) (stored p channel o (p .outgoing))
+    pub kept : p .channels ≡ p₀ .channels
+
+  module _ (p : Peer) (o : Outbox) (j offset : ℕ) (g : Going p o j offset) where
+    module _ (h : j < count) (y : Piece) (ye : y ≡ pieceAt x j offset) (q : Queued) (qe : q ≡ queueing o y) where
+      rest : List Piece
+      rest = leftOf x (count - (j + 1)) (j + 1) (nextAt x offset)
+
+      split : leftOf x (count - j) j offset ≡ y ∷ rest
+      unfolding rest
+      split = left-turn x count j offset h ∙ ap (λ (z : Piece). z ∷ rest) (sym ye)
+
+      turned : Turned y rest p channel o q
+      turned =
+          turn-on y rest p channel (ap (λ (z : Piece). z .command .channel) ye ∙ g .on j offset) (g .here) o (g .says) (rw split at (g .ready)) q qe
+
+      pub going-exists : q .at < outgoing
+      going-exists = turned .exists
+
+      pub going-turn : (next : ℕ) → next ≡ nextAt x offset → Going (withOutgoing p (set (p .outgoing) (q .at) (q .slot))) (q .outbox) (j + 1) next
+      unfolding rest queuedAll
+      going-turn next ne =
+          rw ne
+          (record {
+            low = omega arith;
+            within = within-next x offset (g .within);
+            on = g .on;
+            here = g .here;
+            says = turned .says;
+            ready = turned .ready;
+            same =
+                g .same
+                ∙ ap (λ (l : List Piece). queuedAll l (stored p channel o (p .outgoing))) split
+                ∙ ap (queuedAll rest) (turned .next);
+            kept = g .kept;
+          })
+
+    pub going-end : count ≤ j → queuedAll (piecesOf x) p₀ ≡ stored p channel o (p .outgoing)
+    unfolding queuedAll
+    going-end h = g .same ∙ ap (λ (l : List Piece). queuedAll l (stored p channel o (p .outgoing))) (left-end x count j offset h)
+
+-- ---- what a packet's commands are
+pub packet-pieces : (fragment channel n flags : ℕ) (p : Peer)
+    → piecesOf (packetOf flags (channelAt (p .channels) channel) channel n fragment) ≡ commands fragment channel n flags p
+packet-pieces fragment channel n flags p = go (leb n fragment)
+  where
+    go : (b : Bool) → piecesOf (pick b (One (whole flags (channelAt (p .channels) channel) channel n)) (Pieces (cutBy (startOf flags (channelAt (p .channels) channel)) channel n fragment)))
+        ≡ pick b (whole flags (channelAt (p .channels) channel) channel n ∷ []) (pieces (cutBy (startOf flags (channelAt (p .channels) channel)) channel n fragment))
+    go true = refl
+    go false = refl
+
+cut-channel : (s : Start) (channel : ℕ) (f : Fragment) → cutCommand s channel f .channel ≡ channel
+cut-channel (start.Reliable n) channel f = refl
+cut-channel (start.Unreliable n) channel f = refl
+
+whole-channel : (flags : ℕ) (c : Channel) (channel n : ℕ) → whole flags c channel n .command .channel ≡ channel
+whole-channel flags c channel n = go (both (isUnsequenced flags) (not (isReliable flags))) (pick (isReliable flags) true (spent c))
+  where
+    go : (a b : Bool)
+        → pick a (blank unsequencedByte channel (SendUnsequenced (record { 0 = 0 }) n))
+        (pick b (blank reliableByte channel (SendReliable n)) (blank unreliableByte channel (SendUnreliable (record { 0 = 0 }) n))) .channel
+        ≡ channel
+    go true b = refl
+    go false true = refl
+    go false false = refl
+
+packet-on : (flags : ℕ) (c : Channel) (channel n fragment j offset : ℕ) → pieceAt (packetOf flags c channel n fragment) j offset .command .channel ≡ channel
+packet-on flags c channel n fragment j offset = go (leb n fragment)
+  where
+    go : (b : Bool) → pieceAt (pick b (One (whole flags c channel n)) (Pieces (cutBy (startOf flags c) channel n fragment))) j offset .command .channel ≡ channel
+    go true = whole-channel flags c channel n
+    go false = cut-channel (startOf flags c) channel _
+
+packet-within : (flags : ℕ) (c : Channel) (channel n fragment : ℕ) → fragment ≤ 65535 → Within (packetOf flags c channel n fragment) 0
+packet-within flags c channel n fragment h = go (leb n fragment)
+  where
+    go : (b : Bool) → Within (pick b (One (whole flags c channel n)) (Pieces (cutBy (startOf flags c) channel n fragment))) 0
+    go true = tt
+    go false = (omega arith, h)
+
+-- a plan to queue has passed both gates
+plan-open : (g : Gate) (k x : Packet) → planBy g k ≡ plan.Queue x → (g ≡ Open) × (k ≡ x)
+plan-open Open k x e = (refl, ap packetIn e)
+plan-open (Shut why) k x e = absurd (omega (arith, ap queues e))
+
+plan-shut : (g : Gate) (k : Packet) (why : Refusal) → planBy g k ≡ plan.Refused why → g ≡ Shut why
+plan-shut Open k why e = absurd (omega (arith, ap queues e))
+plan-shut (Shut r) k why e = ap Shut (ap whyIn e)
+
+then-first : (g h : Gate) → then g h ≡ Open → g ≡ Open
+then-first Open h e = refl
+then-first (Shut why) h e = e
+
+then-second : (g h : Gate) → then g h ≡ Open → h ≡ Open
+then-second Open h e = e
+then-second (Shut why) h e = absurd (omega (arith, ap openness e))
+
+-- ---- the send: ws, g, o and k are what the code answered
+module _ (s : Settings) (channel n flags : ℕ) (p : Peer) (ws : List ℕ) (v : ws ≡ worthsOf p) (g : Gate) (e : g ≡ gateOf (fits s Nothing) (soundBy p ws))
+    (passed : g ≡ Open) (o : Outbox) (oe : o ≡ outboxOf (p .totals) (p .waiting) (p .flow) (p .groups) (p .channels) channel (p .lists)) (k : Plan)
+    (ke : k ≡ planOf s (p .standing) (p .flow) (p .channels) o channel n flags) where
+  good : sound p ≡ true
+  good = open-sound s Nothing p ws v g e passed
+
+  abbrev packet : Packet
+  packet = packetOf flags (channelAt (p .channels) channel) channel n (fragment s p)
+
+  abbrev xs : List Piece
+  xs = commands (fragment s p) channel n flags p
+
+  count-is : countOf packet ≡ length xs
+  count-is = sym (left-length packet) ∙ ap length (packet-pieces (fragment s p) channel n flags p)
+
+  gates : Gate
+  gates = then (sendGate s channel n (p .standing)) (queueGate (length xs) (room p))
+
+  plan-is : k ≡ planBy gates packet
+  unfolding gates
+  plan-is =
+      ke
+      ∙ ap (λ (free : ℕ). planBy (then (sendGate s channel n (p .standing)) (queueGate (countOf packet) free)) packet) (open-room p channel o oe)
+      ∙ ap (λ (m : ℕ). planBy (then (sendGate s channel n (p .standing)) (queueGate m (room p))) packet) count-is
+
+  send-is : sendsSound s channel n flags p ≡ behind gates p (finished (queuedAll xs p))
+  unfolding gates
+  send-is = sym (then-behind (sendGate s channel n (p .standing)) (queueGate (length xs) (room p)) p (finished (queuedAll xs p)))
+
+  pub send-shut : (why : Refusal) → k ≡ plan.Refused why → Came answerOf (sends s channel n flags p) (Refused why) p
+  send-shut why q =
+      came-open s Nothing p ws v g e p (sendsSound s channel n flags p) answerOf (Refused why) p passed
+      (rw (send-is, behind-shut gates p (finished (queuedAll xs p)) why (plan-shut gates packet why (sym plan-is ∙ q))) (record { answer = refl; after = refl }))
+
+  module _ (w : Whole p) (x : Packet) (q : k ≡ plan.Queue x) where
+    opened : gates ≡ Open
+    opened = plan-open gates packet x (sym plan-is ∙ q) .0
+
+    is : packet ≡ x
+    is = plan-open gates packet x (sym plan-is ∙ q) .1
+
+    first : sendGate s channel n (p .standing) ≡ Open
+    unfolding gates
+    first = then-first (sendGate s channel n (p .standing)) (queueGate (length xs) (room p)) opened
+
+    few : length xs ≤ room p
+    unfolding gates
+    few =
+        leb-true (length xs) (room p)
+        (queue-room (leb (length xs) mostFragments) (leb (length xs) (room p))
+        (then-second (sendGate s channel n (p .standing)) (queueGate (length xs) (room p)) opened))
+
+    on : channel < p .standing .count
+    on = ltb-true channel (p .standing .count) (gate-channel s channel n (p .standing) first)
+
+    here : channel < length (p .channels)
+    here = omega (arith, on, count-high p good, w .channels)
+
+    pieces-are : piecesOf x ≡ xs
+    pieces-are = ap piecesOf (sym is) ∙ packet-pieces (fragment s p) channel n flags p
+
+    stored-is : stored p channel o (p .outgoing) ≡ p
+    stored-is = ap (λ (o : Outbox). stored p channel o (p .outgoing)) oe ∙ stored-first p channel here (markedAll (replicate outgoing 0) (usedOut (p .lists)))
+
+    start-left : leftOf x (countOf x - 0) 0 0 ≡ xs
+    start-left = left-all x ∙ pieces-are
+
+    pub going-start : (count : ℕ) → count ≡ countOf x → Going x count channel p p o 0 0
+    going-start count ce =
+        rw ce
+        (record {
+          low = omega arith;
+          within = rw (← is) (packet-within flags (channelAt (p .channels) channel) channel n (fragment s p) (length-high (p .flow .mtu) (s .checksum) (mtu-high p good)));
+          on = λ j offset. rw (← is) (packet-on flags (channelAt (p .channels) channel) channel n (fragment s p) j offset);
+          here = here;
+          says = rw oe (says-first (usedOut (p .lists)));
+          ready =
+              rw (start-left, stored-is)
+              (record { whole = w; good = good; fit = commands-fit (fragment s p) channel n flags p (gate-channel s channel n (p .standing) first); few = few });
+          same = rw (start-left, stored-is, pieces-are);
+          kept = refl;
+        })
+
+    pub send-left : (count : ℕ) (r : Peer) (o′ : Outbox) (j offset : ℕ) → Going x count channel p r o′ j offset → count ≤ j → (cs : List Channel)
+        → cs ≡ numbered (p .channels) channel (o′ .counters)
+        → Came answerOf (sends s channel n flags p) Done
+        (renewed r (r .standing) (withOutgoingTotal (r .totals) (o′ .total)) (r .times) (r .loss) (withReliable (r .flow) (o′ .counters .own)) (o′ .lists)
+        (withOutgoingGroup (r .groups) (o′ .counters .group)) (withQueued (r .waiting) (o′ .queued)) cs (r .outgoing))
+    send-left count r o′ j offset t h cs ce =
+        let c : cs ≡ numbered (r .channels) channel (o′ .counters) = ce ∙ ap (λ (l : List Channel). numbered l channel (o′ .counters)) (sym (t .kept)) in
+        came-open s Nothing p ws v g e p (sendsSound s channel n flags p) answerOf Done _ passed
+        (rw (send-is, behind-open gates p (finished (queuedAll xs p)) opened)
+        (record {
+          answer = refl;
+          after =
+              rw c (sym (ap (λ (l : List Piece). queuedAll l p) (sym pieces-are) ∙ going-end x count channel p r o′ j offset t h));
+        }))

@@ -1,0 +1,149 @@
+// What a send is to do: whether it is refused, and which commands it queues.
+ghost use mathlib.Core.Path.{_≡_};
+ghost use Prim.Native.Nat.{_≤_, _<_};
+ghost use Rattle.numbers.specs.Limits.{leastMtu, mostMtu};
+ghost use Rattle.parts.specs.Sizes.{channels as size};
+ghost use Rattle.stamps.specs.Counting.{channelAt};
+ghost use Rattle.sending.specs.Calls.{sendGate, queueGate};
+ghost use Rattle.sending.specs.Plans.{packetOf, countOf, pieceAt, nextAt, Within, planOf};
+use crate::packets;
+use crate::packets::Cut;
+use numbers::consts;
+use numbers::refusals::Refusal;
+use parts::groups::CHANNELS;
+use parts::groups::Channel;
+use parts::groups::Flow;
+use parts::groups::Standing;
+use peer::gate::Gate;
+use peer::record::Peer;
+use peer::settings::Settings;
+use stamps::outbox;
+use stamps::outbox::Outbox;
+use stamps::pieces::Piece;
+
+// A packet as it goes out: in one command, or cut.
+pub(crate) enum Packet {
+    One(Piece),
+    Pieces(Cut),
+}
+
+// What a send is to do.
+pub(crate) enum Plan {
+    Refused(Refusal),
+    Queue(Packet),
+}
+
+// 1, 2, 3.
+fn may_send(settings: Settings, standing: Standing, channel: u8, length: u32) -> Gate
+    ensures { λ r. ⌜ r ≡ sendGate settings channel length standing ⌝ }
+{
+    if standing.state != Peer::CONNECTED {
+        return Gate::Shut(Refusal::NotConnected);
+    }
+    if standing.count <= channel as u32 {
+        return Gate::Shut(Refusal::InvalidChannel);
+    }
+    if settings.packet < length {
+        return Gate::Shut(Refusal::PacketTooLarge);
+    }
+    Gate::Open
+}
+
+// 4, 5.
+pub(crate) fn may_queue(count: u32, free: usize) -> Gate
+    ensures { λ r. ⌜ r ≡ queueGate count free ⌝ }
+{
+    if consts::PROTOCOL_MAXIMUM_FRAGMENT_COUNT < count {
+        return Gate::Shut(Refusal::FragmentsExceeded);
+    }
+    if free < count as usize {
+        return Gate::Shut(Refusal::FailedToQueue);
+    }
+    Gate::Open
+}
+
+// Exactly the fragment length is one command, one more is pieces.
+fn packet_of(flags: u32, c: Channel, channel: u8, length: u32, fragment: u32) -> Packet
+    requires { ⌜ (1 ≤ fragment) × (fragment ≤ 65535) ⌝ }
+    ensures { λ r. ⌜ r ≡ packetOf flags c channel length fragment ⌝ }
+{
+    if length <= fragment {
+        return Packet::One(packets::whole(flags, c, channel, length as u16));
+    }
+    let count = packets::piece_count(fragment, length);
+    let start = packets::starting(flags, c);
+    Packet::Pieces(Cut {
+        channel,
+        length,
+        fragment,
+        count,
+        start,
+    })
+}
+
+pub(crate) fn count_of(packet: Packet) -> u32
+    ensures { λ r. ⌜ r ≡ countOf packet ⌝ }
+{
+    match packet {
+        Packet::One(_x) => 1,
+        Packet::Pieces(x) => x.count,
+    }
+}
+
+// Command j of a packet, at its offset.
+pub(crate) fn piece_at(packet: Packet, j: u32, offset: u32) -> Piece
+    requires { ⌜ Within packet offset ⌝ }
+    ensures { λ r. ⌜ r ≡ pieceAt packet j offset ⌝ }
+{
+    match packet {
+        Packet::One(x) => x,
+        Packet::Pieces(x) => packets::piece(x, j, offset),
+    }
+}
+
+// Where the next one begins.
+pub(crate) fn next_at(packet: Packet, offset: u32) -> u32
+    requires { ⌜ Within packet offset ⌝ }
+    ensures { λ r. ⌜ r ≡ nextAt packet offset ⌝ }
+{
+    match packet {
+        Packet::One(_x) => offset,
+        Packet::Pieces(x) => offset + packets::length_at(x, offset),
+    }
+}
+
+// A sound record's count keeps the number below the channels.
+fn channel_at(all: [Channel; CHANNELS], channel: u8) -> Channel
+    requires { ⌜ channel < size ⌝ }
+    ensures { λ r. ⌜ r ≡ channelAt all channel ⌝ }
+{
+    all[channel as usize]
+}
+
+// 1, 2, 3, then the packet, then 4, 5: all of them are judged before anything changes.
+pub(crate) fn judge(
+    settings: Settings,
+    standing: Standing,
+    flow: Flow,
+    channels: [Channel; CHANNELS],
+    o: Outbox,
+    channel: u8,
+    length: u32,
+    flags: u32,
+) -> Plan
+    requires { ⌜ (leastMtu ≤ flow .mtu) × (flow .mtu ≤ mostMtu) × (standing .count ≤ size) ⌝ }
+    ensures { λ r. ⌜ r ≡ planOf settings standing flow channels o channel length flags ⌝ }
+{
+    let gate = may_send(settings, standing, channel, length);
+    if let Gate::Shut(why) = gate {
+        return Plan::Refused(why);
+    }
+    let c = channel_at(channels, channel);
+    let fragment = packets::fragment_length(flow.mtu, settings.checksum);
+    let packet = packet_of(flags, c, channel, length, fragment);
+    let room = may_queue(count_of(packet), outbox::room(o));
+    if let Gate::Shut(why) = room {
+        return Plan::Refused(why);
+    }
+    Plan::Queue(packet)
+}
