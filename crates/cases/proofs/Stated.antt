@@ -2,8 +2,8 @@
 use mathlib.Core.Path.{refl}
 use mathlib.Core.List.{List}
 use Prim.Native.Nat.{ℕ}
-use Rattle.command.specs.Layout.{layout, total}
-use Rattle.slots.specs.Free.{firstFrom, countFrom, exist, once}
+use Rattle.table.specs.Layout.{layout, total}
+use Rattle.runs.specs.Free.{firstFrom, countFrom, exist, once}
 use Rattle.parts.specs.Fresh.{noLists, noChannel, noOutgoing, noIncoming}
 use Rattle.peer.specs.Fresh.{freshPeer}
 use Rattle.parts.specs.Damage.{all, held, heldFit, own, lengths}

@@ -14,7 +14,9 @@ use Rattle.window.specs.Window.{answerAfter, baseAfter}
 use Rattle.slots.specs.Lists.{outItems}
 use Rattle.parts.specs.Fresh.{noOutgoing}
 use Rattle.peer.specs.Fresh.{freshPeer}
-use Rattle.peer.specs.Calls.{Outcome, begins, setsState}
+use Rattle.peer.specs.States.{connected}
+use Rattle.peer.specs.Outcome.{Outcome}
+use Rattle.peer.specs.Calls.{begins, setsState}
 use Rattle.peer.specs.declared.settings.Settings.{Settings}
 use Rattle.peer.specs.declared.defaults.Kept.{Kept}
 use Rattle.peer.specs.declared.record.Peer.{Peer}
@@ -49,13 +51,13 @@ nobody = record { «incoming_peer» = 0; «outgoing_session» = 0; «incoming_se
 
 -- a peer as after a reset, begun with one channel and connected
 abbrev opened : ℕ → Peer
-opened mtu = setsState (settings mtu) 5 (begins (settings mtu) mtu 1 (freshPeer mtu nobody) .peer) .peer
+opened mtu = setsState (settings mtu) connected (begins (settings mtu) mtu 1 (freshPeer mtu nobody) .after) .after
 
 -- the reply's number, then the lengths of what waits in send-reliable
-abbrev waiting : Outcome → List ℤ
+abbrev waiting : Outcome Peer → List ℤ
 waiting o =
     pos (o .answer .number)
-    ∷ map (λ (s : ℕ). pos (getD (o .peer .outgoing) s noOutgoing .length)) (outItems (o .peer .lists .reliable))
+    ∷ map (λ (s : ℕ). pos (getD (o .after .outgoing) s noOutgoing .length)) (outItems (o .after .lists .reliable))
 
 -- a reliable send on channel 0, without a checksum
 abbrev queues : ℕ → ℕ → List ℤ

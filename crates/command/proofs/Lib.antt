@@ -1,6 +1,1 @@
-pub mod TableLaws
-pub mod LayoutLaws
-pub mod ByteLaws
-pub mod RowLaws
-pub mod ShapeLaws
-pub mod Answers
+pub mod Settled

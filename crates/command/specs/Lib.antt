@@ -1,4 +1,2 @@
-pub mod Layout
-pub mod Bytes
 pub mod Rows
 pub mod Shapes

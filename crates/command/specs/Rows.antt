@@ -1,20 +1,13 @@
 -- A command as the row of its numbers, in the record's order: byte, channel, number, then the fields as in its struct.
-use Prim.Native.Nat.{ℕ, zero, suc, _%_, _^_}
-use mathlib.Core.Bool.{Bool, true, false}
+use Prim.Native.Nat.{ℕ, _%_}
+use mathlib.Core.Bool.{Bool}
 use mathlib.Core.List.{List, [], _∷_}
-use lib.Dec.{ltb, eqb}
-use lib.ListN.{length, take}
-use Rattle.numbers.specs.Pick.{pick, both}
-use Rattle.numbers.specs.Answers.{Answer, done, refused}
-use Rattle.numbers.specs.declared.refusals.Refusal.the-variants.{BadCommand}
-use Rattle.command.specs.Layout.{known, layout}
+use lib.Dec.{eqb}
 use Rattle.command.specs.declared.fields.Command.{Command}
 use Rattle.command.specs.declared.fields.Connect.{Connect}
 use Rattle.command.specs.declared.fields.Fragment.{Fragment}
 use Rattle.command.specs.declared.fields.Fields.{Fields}
 use Rattle.command.specs.declared.fields.Fields.the-variants as vr
-use Rattle.command.specs.declared.rows.Built.{Built}
-use Rattle.command.specs.declared.rows.Built.the-variants as built
 
 abbrev pub kindOf : Fields → ℕ
 kindOf (vr.Acknowledge n t) = 1
@@ -58,24 +51,3 @@ rowOf c = c .byte ∷ c .channel ∷ c .number .0 ∷ fieldsRow (c .fields)
 -- "one whose byte names another than its fields" does not name its fields
 abbrev pub namesFields : Command → Bool
 namesFields c = eqb (c .byte % 16) (kindOf (c .fields))
-
--- a row at a length of n: cut, or zeros at its end
-unfoldable pub pad : ℕ → List ℕ → List ℕ
-pad zero xs = []
-pad (suc n) [] = 0 ∷ pad n []
-pad (suc n) (x ∷ xs) = x ∷ pad n xs
-
--- each number of the row fits the width at its place
-unfoldable pub fits : List ℕ → List ℕ → Bool
-fits [] xs = true
-fits (w ∷ ws) [] = false
-fits (w ∷ ws) (x ∷ xs) = both (ltb x (256 ^ w)) (fits ws xs)
-
--- a built command: 0, its kind and its row; else 9
-abbrev pub answerOf : Built → Answer
-answerOf (built.Done c) = done (kindOf (c .fields) ∷ rowOf c)
-answerOf built.Refused = refused BadCommand
-
--- from a kind and a row: the command of that kind that has the row's first numbers, if there is one
-abbrev pub builtFrom : ℕ → List ℕ → Answer
-builtFrom k xs = pick (both (known k) (fits (layout k) xs)) (done (k ∷ take (length (layout k)) xs)) (refused BadCommand)

@@ -1,4 +1,4 @@
--- The fields of a kind from a row's numbers 3 and on, with the narrow numbers cut by two given functions.
+-- For private functions of `build` and for proofs alone: the fields of a kind from a row's numbers 3 and on, the narrow numbers cut by two given functions.
 -- `build` cuts each to its width before it knows that nothing is lost; with nothing cut it is the inverse of `fieldsRow`.
 use Prim.Native.Nat.{ℕ, _%_}
 use mathlib.Core.List.{List, [], _∷_}

@@ -1,4 +1,3 @@
 // What the twelve commands hold, and each as a row of numbers.
 pub mod fields;
-pub mod layout;
 pub mod rows;

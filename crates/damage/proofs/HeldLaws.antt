@@ -15,7 +15,7 @@ use Rattle.parts.specs.declared.groups.Channel.{Channel}
 use Rattle.parts.specs.declared.groups.Incoming.{Incoming}
 use Rattle.parts.specs.Fresh.{noIncoming}
 use Rattle.parts.specs.Damage.{all, held, heldFit, inFit, own, lengths}
-use Rattle.slots.specs.Free.{markedAll}
+use Rattle.runs.specs.Free.{markedAll}
 use Rattle.damage.specs.Walks.{belowCount, passes, inPasses, heldPass}
 use Rattle.damage.proofs.WalkLaws.{part-step, part-end, any, middle, pass-append, pass-two, all-append}
 use Rattle.damage.proofs.SumLaws.{sum-append}

@@ -11,7 +11,7 @@ use lib.Seq.{take-suc, take-suc-set}
 use native.Mathlib.Numerals.{add-one}
 use Rattle.numbers.proofs.BoolLaws.{both-assoc, both-with-true}
 use Rattle.numbers.specs.Pick.{pick, both}
-use Rattle.slots.specs.Free.{exist, once, markedAll}
+use Rattle.runs.specs.Free.{exist, once, markedAll}
 use Rattle.slots.specs.Lists.{outgoing, incoming, outItems, inItems}
 use Rattle.slots.specs.declared.outgoing.OutList.{OutList}
 use Rattle.parts.specs.declared.groups.Lists.{Lists}

@@ -8,7 +8,7 @@ use native.Mathlib.Omega.{arith}
 use lib.ListN.{length, take, drop, getD}
 use borrow.Author.Tests.{leb-true}
 use Rattle.numbers.specs.Pick.{both}
-use Rattle.slots.proofs.WalkLaws.{view-step, view-end}
+use Rattle.runs.proofs.WalkLaws.{view-step, view-end}
 use Rattle.parts.specs.declared.groups.Incoming.{Incoming}
 use Rattle.damage.specs.declared.InWalk.{InWalk}
 use Rattle.parts.specs.Fresh.{noIncoming}

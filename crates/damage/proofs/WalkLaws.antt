@@ -12,9 +12,9 @@ use lib.Seq.{drop-cons, getD-take}
 use borrow.Author.Tests.{lt-ltb, le-ltb, ne-eqb}
 use Rattle.numbers.proofs.BoolLaws.{both-assoc, both-with-true}
 use Rattle.numbers.specs.Pick.{pick, both}
-use Rattle.slots.specs.Free.{isMarked, markedAll, scanned, exist, once}
-use Rattle.slots.proofs.WalkLaws.{view-step, view-end}
-use Rattle.slots.proofs.Scans.{scan-rule}
+use Rattle.runs.specs.Free.{isMarked, markedAll, scanned, exist, once}
+use Rattle.runs.proofs.WalkLaws.{view-step, view-end}
+use Rattle.runs.proofs.Scans.{scan-rule}
 use Rattle.parts.specs.Damage.{all}
 use Rattle.damage.specs.Walks.{passes, Walks}
 

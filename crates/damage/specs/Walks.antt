@@ -7,7 +7,7 @@ use mathlib.Core.List.{List, [], _∷_}
 use lib.Dec.{leb, ltb, eqb}
 use lib.ListN.{length, getD, set, replicate}
 use Rattle.numbers.specs.Pick.{pick, both}
-use Rattle.slots.specs.Free.{isMarked, markedAll}
+use Rattle.runs.specs.Free.{isMarked, markedAll}
 use Rattle.slots.specs.Lists.{outgoing, outItems, inItems}
 use Rattle.slots.specs.declared.outgoing.OutList.{OutList}
 use Rattle.parts.specs.declared.groups.Lists.{Lists}

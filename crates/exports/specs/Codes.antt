@@ -1,4 +1,4 @@
--- The turns and the verdicts as the numbers of the replies.
+-- For private functions alone: the turns and the verdicts as the numbers of the replies.
 use Prim.Native.Nat.{ℕ}
 use Rattle.throttle.specs.declared.Turn.{Turn}
 use Rattle.throttle.specs.declared.Turn.the-variants.{Held, Raised, Lowered}

@@ -3,21 +3,27 @@ ghost use mathlib.Core.Path.{_≡_};
 ghost use mathlib.Core.List.{_∷_};
 ghost use Prim.Native.Nat.{_+_, _*_, _≤_, _<_};
 ghost use lib.ListN.{length, replicate};
-ghost use Rattle.command.specs.Bytes.{numberAt, putNumber, putRow};
-ghost use Rattle.command.specs.Rows.{kindOf, pad, rowOf};
-ghost use Rattle.exports.specs.Buffers.{MarkCall, ReadCall, WindowCall, numbersIn, throttleOf, throttleReply, withNumbers};
+ghost use Rattle.table.specs.Bytes.{numberAt, putNumber, putRow, pad};
+ghost use Rattle.command.specs.Rows.{kindOf, rowOf};
+ghost use Rattle.numbers.specs.Limits.{windowWords};
+ghost use Rattle.exports.specs.Buffers.{MarkCall, ReadCall, WindowCall, numbersIn, rowBytes, rowNumbers, throttleOf, throttleReply, windowBytes, withNumbers};
 ghost use Rattle.exports.specs.Codes.{turnCode, verdictCode};
 use command::fields::Command;
+use numbers::consts::UNSEQUENCED_WORDS;
 use numbers::counters::Group;
+use numbers::refusals::Refusal;
 use throttle::Throttle;
 use throttle::Turn;
 use window::Verdict;
 use wire::reader::Reading;
 
-// The refusal of a buffer of another length.
-const BUFFER: u32 = 11;
+// The buffers' lengths, four bytes a number: a window's words; a command's size, its kind and its row.
+const WINDOW_BYTES: usize = 4 * UNSEQUENCED_WORDS;
 
-const REFUSED: u32 = 9;
+const ROW_BYTES: usize = 72;
+
+// What a refusal's number is shifted by above a base and a verdict.
+const ABOVE: u32 = 16777216;
 
 // The throttle: its new value, and above 32 bits how it turned.
 #[no_mangle]
@@ -61,8 +67,8 @@ fn turn_code(turn: Turn) -> u64
 pub extern "C" fn lyn_window(base: u16, group: u16, words: &mut [u8]) -> u32
     ensures { λ r. ⌜ WindowCall base group (now (words .entry)) r (now (words .exit)) ⌝ }
 {
-    if words.len() != 128 {
-        return BUFFER * 16777216;
+    if words.len() != WINDOW_BYTES {
+        return Refusal::OutOfRange.number() * ABOVE;
     }
     let before = read_words(words);
     let judged = window::judge(Group(base), before, Group(group));
@@ -88,25 +94,25 @@ fn verdict_code(verdict: Verdict) -> u32
 pub extern "C" fn lyn_mark(group: u16, words: &mut [u8]) -> u32
     ensures { λ r. ⌜ MarkCall group (now (words .entry)) r (now (words .exit)) ⌝ }
 {
-    if words.len() == 128 {
+    if words.len() == WINDOW_BYTES {
         let marks = read_words(words);
         let marked = window::mark(marks, Group(group));
         write_words(words, 0, &marked);
         return 0;
     }
-    BUFFER
+    Refusal::OutOfRange.number()
 }
 
-// The command at a place of the bytes, as 18 numbers.
+// The command at a place of the bytes, as the numbers of its size, its kind and its row.
 #[no_mangle]
 pub extern "C" fn lyn_read(bytes: &[u8], place: usize, row: &mut [u8]) -> u32
     ensures { λ r. ⌜ ReadCall (now (bytes .entry)) place (now (row .entry)) r (now (row .exit)) ⌝ }
 {
-    if row.len() != 72 {
-        return BUFFER;
+    if row.len() != ROW_BYTES {
+        return Refusal::OutOfRange.number();
     }
     let Reading::Found { command, next } = wire::reader::read(bytes, place) else {
-        return REFUSED;
+        return Refusal::BadCommand.number();
     };
     put_command(row, next - place, command);
     0
@@ -114,8 +120,8 @@ pub extern "C" fn lyn_read(bytes: &[u8], place: usize, row: &mut [u8]) -> u32
 
 // A command's size, its kind and its row.
 fn put_command(out: &mut [u8], size: usize, command: Command)
-    requires { ⌜ (length (now out) ≡ 72) × (size < 256) ⌝ }
-    ensures { λ _. ⌜ now (out .exit) ≡ withNumbers 18 (now (out .entry)) (size ∷ kindOf (command .fields) ∷ pad 16 (rowOf command)) ⌝ }
+    requires { ⌜ (length (now out) ≡ rowBytes) × (size < 256) ⌝ }
+    ensures { λ _. ⌜ now (out .exit) ≡ withNumbers rowNumbers (now (out .entry)) (size ∷ kindOf (command .fields) ∷ pad 16 (rowOf command)) ⌝ }
 {
     put_word(out, 0, size as u32);
     let fields = command.fields;
@@ -124,14 +130,14 @@ fn put_command(out: &mut [u8], size: usize, command: Command)
     write_words(out, 8, &row);
 }
 
-// The 32 words of a window's buffer.
-fn read_words(s: &[u8]) -> [u32; 32]
-    requires { ⌜ length (now s) ≡ 128 ⌝ }
-    ensures { λ r. ⌜ r ≡ numbersIn 32 (now (s .entry)) ⌝ }
+// The words of a window's buffer.
+fn read_words(s: &[u8]) -> [u32; UNSEQUENCED_WORDS]
+    requires { ⌜ length (now s) ≡ windowBytes ⌝ }
+    ensures { λ r. ⌜ r ≡ numbersIn windowWords (now (s .entry)) ⌝ }
 {
-    let mut words = [0u32; 32];
+    let mut words = [0u32; UNSEQUENCED_WORDS];
     let mut i: usize = 0;
-    while i < 32 {
+    while i < UNSEQUENCED_WORDS {
         words[i] = word_at(s, 4 * i);
         i = i + 1;
     }

@@ -7,7 +7,7 @@ use lib.ListN.{getD, take}
 use Rattle.numbers.specs.Pick.{pick, both}
 use Rattle.command.specs.Rows.{namesFields}
 use Rattle.slots.specs.Lists.{outgoing, incoming, outItems, inItems}
-use Rattle.slots.specs.Free.{exist, once}
+use Rattle.runs.specs.Free.{exist, once}
 use Rattle.parts.specs.declared.groups.Lists.{Lists}
 use Rattle.parts.specs.declared.groups.Channel.{Channel}
 use Rattle.parts.specs.declared.groups.Outgoing.{Outgoing}

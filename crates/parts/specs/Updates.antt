@@ -4,7 +4,7 @@ use Rattle.numbers.specs.declared.counters.Reliable.{Reliable}
 use Rattle.numbers.specs.declared.counters.Unreliable.{Unreliable}
 use Rattle.numbers.specs.declared.counters.Group.{Group}
 use Rattle.slots.specs.Lists.{outgoing, outItems, outKeep}
-use Rattle.slots.specs.Runs.{pushed, without}
+use Rattle.runs.specs.Runs.{pushed, without}
 use Rattle.slots.specs.declared.outgoing.OutList.{OutList}
 use Rattle.parts.specs.declared.groups.Standing.{Standing}
 use Rattle.parts.specs.declared.groups.Totals.{Totals}

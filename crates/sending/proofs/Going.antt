@@ -13,7 +13,7 @@ use Rattle.numbers.specs.Limits.{mostFragments}
 use Rattle.numbers.specs.declared.refusals.Refusal.{Refusal}
 use Rattle.numbers.specs.declared.refusals.Refusal.the-variants.{FailedToQueue}
 use Rattle.slots.specs.Lists.{outgoing}
-use Rattle.slots.specs.Free.{markedAll}
+use Rattle.runs.specs.Free.{markedAll}
 use Rattle.parts.specs.Sizes.{channels}
 use Rattle.parts.specs.Damage.{usedOut}
 use Rattle.parts.specs.Updates.{withOutgoingTotal, withReliable, withOutgoingGroup, withQueued}

@@ -14,8 +14,8 @@ use Rattle.numbers.specs.Counters.{step}
 use Rattle.numbers.specs.declared.counters.Reliable.{Reliable}
 use Rattle.numbers.specs.declared.counters.Unreliable.{Unreliable}
 use Rattle.slots.specs.Lists.{outgoing}
-use Rattle.slots.specs.Free.{lowest}
-use Rattle.slots.specs.declared.Free.the-variants.{Lowest}
+use Rattle.runs.specs.Free.{lowest}
+use Rattle.runs.specs.declared.Free.the-variants.{Lowest}
 use Rattle.parts.specs.Fresh.{noChannel, noOutgoing}
 use Rattle.parts.specs.Sizes.{channels, itself}
 use Rattle.parts.specs.Damage.{usedOut}

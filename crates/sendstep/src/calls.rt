@@ -11,7 +11,7 @@ use peer::gate::Gate;
 use peer::gate::Lent;
 use peer::record::Peer;
 use peer::settings::Settings;
-use slots::First;
+use runs::First;
 
 pub enum Reply {
     Nothing,

@@ -11,12 +11,12 @@ use borrow.Author.Tests.{lt-ltb}
 use Rattle.numbers.specs.Pick.{pick}
 use Rattle.numbers.proofs.BoolLaws.{both-true}
 use Rattle.slots.specs.Lists.{outgoing, outItems}
-use Rattle.slots.specs.Runs.{has, pushed}
-use Rattle.slots.specs.Free.{lowest, exist, once}
-use Rattle.slots.specs.declared.Free.the-variants.{Lowest}
+use Rattle.runs.specs.Runs.{has, pushed}
+use Rattle.runs.specs.Free.{lowest, exist, once}
+use Rattle.runs.specs.declared.Free.the-variants.{Lowest}
 use Rattle.slots.proofs.Keeps.{one, times, times-append, times-pushed, once-more, exist-more}
 use Rattle.slots.proofs.Views.{out-items-keep}
-use Rattle.slots.proofs.Lowest.{lowest-exists, lowest-free, free-and-named}
+use Rattle.runs.proofs.Lowest.{lowest-exists, lowest-free, free-and-named}
 use Rattle.parts.specs.Damage.{usedOut}
 use Rattle.peer.specs.Damage.{sound}
 use Rattle.peer.specs.declared.record.Peer.{Peer}

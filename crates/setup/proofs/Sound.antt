@@ -18,13 +18,13 @@ use Rattle.command.specs.Rows.{kindOf, namesFields}
 use Rattle.command.specs.declared.fields.Fields.{Fields}
 use Rattle.command.specs.declared.fields.Fields.the-variants as vr
 use Rattle.slots.specs.Lists.{outgoing, incoming, outItems, inItems}
-use Rattle.slots.specs.Free.{lowest, exist, once}
-use Rattle.slots.specs.declared.Free.{Free}
-use Rattle.slots.specs.declared.Free.the-variants.{Lowest, Full}
+use Rattle.runs.specs.Free.{lowest, exist, once}
+use Rattle.runs.specs.declared.Free.{Free}
+use Rattle.runs.specs.declared.Free.the-variants.{Lowest, Full}
 use Rattle.slots.specs.declared.outgoing.OutList.{OutList}
 use Rattle.slots.specs.declared.incoming.InList.{InList}
 use Rattle.slots.proofs.Keeps.{times, times-append, times-none}
-use Rattle.slots.proofs.Lengths.{pushed-fits}
+use Rattle.runs.proofs.Lengths.{pushed-fits}
 use Rattle.parts.specs.Fresh.{noChannel, noOutgoing, noIncoming}
 use Rattle.parts.specs.Damage.{listsFit, heldFit, held, below, all, own, lengths, outFit, tried, inFit, inSound, usedOut, usedIn}
 use Rattle.peer.specs.Damage.{sound}

@@ -12,13 +12,13 @@ use lib.Seq.{getD-set-same, set-getD}
 use borrow.Author.Tests.{eqb-true, eqb-false, eq-eqb, ne-eqb}
 use Rattle.numbers.specs.Pick.{pick}
 use Rattle.slots.specs.Lists.{outgoing}
-use Rattle.slots.specs.Runs.{has}
-use Rattle.slots.specs.Free.{isMarked, markedAll, firstFrom, lowest}
-use Rattle.slots.specs.declared.Free.{Free}
-use Rattle.slots.specs.declared.Free.the-variants.{Lowest, Full}
-use Rattle.slots.proofs.Lowest.{lowest-exists}
-use Rattle.slots.proofs.Scans.{first-same, set-mark-past}
-use Rattle.slots.proofs.Marked.{marked-length, marked-says, marked-count}
+use Rattle.runs.specs.Runs.{has}
+use Rattle.runs.specs.Free.{isMarked, markedAll, firstFrom, lowest}
+use Rattle.runs.specs.declared.Free.{Free}
+use Rattle.runs.specs.declared.Free.the-variants.{Lowest, Full}
+use Rattle.runs.proofs.Lowest.{lowest-exists}
+use Rattle.runs.proofs.Scans.{first-same, set-mark-past}
+use Rattle.runs.proofs.Marked.{marked-length, marked-says, marked-count}
 use Rattle.parts.specs.Fresh.{noChannel}
 use Rattle.parts.specs.Damage.{usedOut}
 use Rattle.parts.specs.Updates.{withOutgoingTotal, withReliable, withOutgoingGroup, withQueued, withNumbers}

@@ -13,12 +13,12 @@ use borrow.Author.Tests.{eqb-true, eqb-false, eq-eqb, ne-eqb, le-leb}
 use Rattle.numbers.specs.Pick.{pick}
 use Rattle.command.specs.Rows.{namesFields}
 use Rattle.slots.specs.Lists.{outgoing}
-use Rattle.slots.specs.Runs.{has}
-use Rattle.slots.specs.Free.{firstFrom, countFrom, lowest}
-use Rattle.slots.specs.declared.Free.{Free}
-use Rattle.slots.specs.declared.Free.the-variants.{Lowest, Full}
+use Rattle.runs.specs.Runs.{has}
+use Rattle.runs.specs.Free.{firstFrom, countFrom, lowest}
+use Rattle.runs.specs.declared.Free.{Free}
+use Rattle.runs.specs.declared.Free.the-variants.{Lowest, Full}
 use Rattle.slots.proofs.Keeps.{has-times}
-use Rattle.slots.proofs.Lowest.{lowest-exists, lowest-free, free-and-named}
+use Rattle.runs.proofs.Lowest.{lowest-exists, lowest-free, free-and-named}
 use Rattle.peer.specs.Settings.{fitSettings}
 use Rattle.parts.specs.Fresh.{noOutgoing}
 use Rattle.parts.specs.Damage.{usedOut}

@@ -4,9 +4,9 @@ use mathlib.Core.List.{List, [], _∷_}
 use lib.ListN.{set}
 use Rattle.numbers.specs.Modulo.{sum}
 use Rattle.slots.specs.Lists.{outgoing}
-use Rattle.slots.specs.Free.{lowest}
-use Rattle.slots.specs.declared.Free.{Free}
-use Rattle.slots.specs.declared.Free.the-variants.{Lowest, Full}
+use Rattle.runs.specs.Free.{lowest}
+use Rattle.runs.specs.declared.Free.{Free}
+use Rattle.runs.specs.declared.Free.the-variants.{Lowest, Full}
 use Rattle.parts.specs.Damage.{usedOut}
 use Rattle.parts.specs.Updates.{withOutgoingTotal, withReliable, withOutgoingGroup, withQueued}
 use Rattle.parts.specs.declared.groups.Outgoing.{Outgoing}

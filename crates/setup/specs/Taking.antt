@@ -7,10 +7,10 @@ use lib.ListN.{length}
 use Rattle.numbers.specs.Pick.{pick, both}
 use Rattle.command.specs.Rows.{namesFields}
 use Rattle.slots.specs.Lists.{outgoing}
-use Rattle.slots.specs.Runs.{has}
-use Rattle.slots.specs.Free.{lowest}
-use Rattle.slots.specs.declared.Free.{Free}
-use Rattle.slots.specs.declared.Free.the-variants.{Lowest, Full}
+use Rattle.runs.specs.Runs.{has}
+use Rattle.runs.specs.Free.{lowest}
+use Rattle.runs.specs.declared.Free.{Free}
+use Rattle.runs.specs.declared.Free.the-variants.{Lowest, Full}
 use Rattle.parts.specs.Damage.{usedOut}
 use Rattle.peer.specs.Damage.{sound}
 use Rattle.peer.specs.Sounds.{Whole}

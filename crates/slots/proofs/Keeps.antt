@@ -11,8 +11,8 @@ use lib.ListN.{length, take, drop, getD, take-append-drop}
 use lib.Seq.{drop-cons, drop-drop}
 use borrow.Author.Tests.{eqb-true, eq-eqb, ltb-true, lt-ltb, le-leb, not-true, ltb-false}
 use Rattle.numbers.specs.Pick.{pick, both}
-use Rattle.slots.specs.Runs.{has, pushed, inserted, without, prepended, movedFrom, movedTo}
-use Rattle.slots.specs.Free.{exist, once}
+use Rattle.runs.specs.Runs.{has, pushed, inserted, without, prepended, movedFrom, movedTo}
+use Rattle.runs.specs.Free.{exist, once}
 use Rattle.numbers.proofs.BoolLaws.{both-left, both-right, both-assoc}
 
 -- 1 where the two are the same slot

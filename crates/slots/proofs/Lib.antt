@@ -1,10 +1,2 @@
-pub mod CellLaws
-pub mod MakeLaws
-pub mod WalkLaws
-pub mod ListLaws
 pub mod Views
-pub mod Scans
-pub mod Marked
-pub mod Lowest
 pub mod Keeps
-pub mod Lengths

@@ -1,22 +1,37 @@
--- A list that was kept names what it was given, and its cells stay as many.
+-- A list is what its cells became; one that was kept names what it was given, and its cells stay as many.
 -- The argument: `over xs cells` begins with xs and goes on with what is past them.
 use Prim.Native.Nat.{ℕ, _≤_}
 use mathlib.Core.Path.{_≡_}
 use mathlib.Core.List.{List}
 use native.Mathlib.Omega.{arith}
-use lib.ListN.{length, take, drop, length-append, length-drop}
+use lib.ListN.{length, take, drop, length-append, length-take, length-drop}
 use lib.Seq.{take-append-seam, length-take-le}
-use Rattle.slots.specs.Runs.{over}
+use Rattle.runs.specs.Runs.{over, Makes}
 use Rattle.slots.specs.Lists.{outItems, outKeep, inItems, inKeep}
 use Rattle.slots.specs.declared.outgoing.OutList.{OutList}
 use Rattle.slots.specs.declared.incoming.InList.{InList}
-use Rattle.slots.proofs.CellLaws.{over-view}
+use Rattle.runs.proofs.CellLaws.{over-view}
 
 pub view-over : (xs cells : List ℕ) → take (length xs) (over xs cells) ≡ xs
 view-over xs cells = take-append-seam xs (drop (length xs) cells)
 
 pub length-over : (xs cells : List ℕ) → length xs ≤ length cells → length (over xs cells) ≡ length cells
 length-over xs cells h = simp (length-append, length-drop) (omega arith)
+
+-- the list of the cells that an operation made
+pub out-made : (l : OutList) (xs ys cells : List ℕ) (r : ℕ) → Makes (l .slots) xs r cells → xs ≡ ys
+    → _≡_ {A = OutList} (record { len = r; slots = cells }) (outKeep l ys)
+out-made l xs ys cells r m e = rw (m .count, m .cells, e)
+
+pub in-made : (l : InList) (xs ys cells : List ℕ) (r : ℕ) → Makes (l .slots) xs r cells → xs ≡ ys
+    → _≡_ {A = InList} (record { len = r; slots = cells }) (inKeep l ys)
+in-made l xs ys cells r m e = rw (m .count, m .cells, e)
+
+pub out-fits : (l : OutList) → length (outItems l) ≤ length (l .slots)
+out-fits l = simp length-take (omega arith)
+
+pub in-fits : (l : InList) → length (inItems l) ≤ length (l .slots)
+in-fits l = simp length-take (omega arith)
 
 pub out-items-keep : (l : OutList) (xs : List ℕ) → outItems (outKeep l xs) ≡ xs
 out-items-keep l xs = view-over xs (l .slots)

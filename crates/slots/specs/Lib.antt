@@ -1,3 +1,1 @@
-pub mod Runs
-pub mod Free
 pub mod Lists

@@ -3,7 +3,7 @@ use Prim.Native.Nat.{ℕ, _≤_}
 use mathlib.Core.Path.{_≡_}
 use mathlib.Core.List.{List}
 use lib.ListN.{length, take}
-use Rattle.slots.specs.Runs.{over, without, first, movedFrom, movedTo}
+use Rattle.runs.specs.Runs.{over, without, first, movedFrom, movedTo}
 use Rattle.slots.specs.declared.outgoing.OutList.{OutList}
 use Rattle.slots.specs.declared.outgoing.OutTook.{OutTook}
 use Rattle.slots.specs.declared.outgoing.OutShifted.{OutShifted}

@@ -1,13 +1,13 @@
 // The lists of the incoming pool.
 ghost use mathlib.Core.Path.{_≡_};
-ghost use Rattle.slots.specs.Runs.{pushed, inserted, without, prepended, has, findFrom};
+ghost use Rattle.runs.specs.Runs.{pushed, inserted, without, prepended, has, findFrom};
 ghost use Rattle.slots.specs.Lists.{incoming, inItems, inKeep, InTaken, InMoved, InCounted};
-ghost use Rattle.slots.specs.Free.{Scans};
-use crate::First;
-use crate::Found;
+ghost use Rattle.runs.specs.Free.{Scans};
 use crate::INCOMING;
-use crate::cells;
-use crate::marks;
+use runs::First;
+use runs::Found;
+use runs::cells;
+use runs::marks;
 
 pub struct InList {
     pub len: u16,
@@ -43,7 +43,7 @@ impl InList {
         ensures { λ r. ⌜ r ≡ inKeep self (pushed incoming (inItems self) s) ⌝ }
     {
         let mut slots = self.slots;
-        let n = cells::push(&mut slots, self.count(), s);
+        let n = cells::push(&mut slots, self.len as usize, s);
         InList {
             len: n as u16,
             slots,
@@ -55,7 +55,7 @@ impl InList {
         ensures { λ r. ⌜ r ≡ inKeep self (inserted incoming (inItems self) i s) ⌝ }
     {
         let mut slots = self.slots;
-        let n = cells::insert(&mut slots, self.count(), i, s);
+        let n = cells::insert(&mut slots, self.len as usize, i, s);
         InList {
             len: n as u16,
             slots,
@@ -67,7 +67,7 @@ impl InList {
         ensures { λ r. ⌜ r ≡ inKeep self (without (inItems self) i) ⌝ }
     {
         let mut slots = self.slots;
-        let n = cells::remove(&mut slots, self.count(), i);
+        let n = cells::remove(&mut slots, self.len as usize, i);
         InList {
             len: n as u16,
             slots,
@@ -98,7 +98,7 @@ impl InList {
     {
         let mut slots = self.slots;
         let cells = run.slots;
-        let n = cells::prepend(&mut slots, self.count(), &cells, run.count());
+        let n = cells::prepend(&mut slots, self.len as usize, &cells, run.len as usize);
         InList {
             len: n as u16,
             slots,
@@ -111,8 +111,8 @@ impl InList {
     {
         let mut slots = self.slots;
         let mut ends = to.slots;
-        let n = self.count();
-        let m = cells::append(&mut ends, to.count(), &slots, cells::least(k, n));
+        let n = self.len as usize;
+        let m = cells::append(&mut ends, to.len as usize, &slots, n, k);
         let left = cells::cut(&mut slots, n, m - to.count());
         InShifted {
             from: InList {
@@ -131,7 +131,7 @@ impl InList {
         ensures { λ r. ⌜ r ≡ findFrom 0 (inItems self) s ⌝ }
     {
         let slots = self.slots;
-        cells::find(&slots, self.count(), s)
+        cells::find(&slots, self.len as usize, s)
     }
 
     // Whether the list names s.
@@ -150,6 +150,6 @@ impl InList {
         ensures { λ r. ⌜ Scans (now (marks .entry)) (inItems self) r (now (marks .exit)) ⌝ }
     {
         let slots = self.slots;
-        marks::scan(marks, &slots, self.count())
+        marks::scan(marks, &slots, self.len as usize)
     }
 }

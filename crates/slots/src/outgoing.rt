@@ -1,13 +1,13 @@
 // The lists of the outgoing pool.
 ghost use mathlib.Core.Path.{_≡_};
-ghost use Rattle.slots.specs.Runs.{pushed, inserted, without, prepended, has, findFrom};
+ghost use Rattle.runs.specs.Runs.{pushed, inserted, without, prepended, has, findFrom};
 ghost use Rattle.slots.specs.Lists.{outgoing, outItems, outKeep, OutTaken, OutMoved, OutCounted};
-ghost use Rattle.slots.specs.Free.{Scans, markedAll};
-use crate::First;
-use crate::Found;
+ghost use Rattle.runs.specs.Free.{Scans, markedAll};
 use crate::OUTGOING;
-use crate::cells;
-use crate::marks;
+use runs::First;
+use runs::Found;
+use runs::cells;
+use runs::marks;
 
 pub struct OutList {
     pub len: u16,
@@ -43,7 +43,7 @@ impl OutList {
         ensures { λ r. ⌜ r ≡ outKeep self (pushed outgoing (outItems self) s) ⌝ }
     {
         let mut slots = self.slots;
-        let n = cells::push(&mut slots, self.count(), s);
+        let n = cells::push(&mut slots, self.len as usize, s);
         OutList {
             len: n as u16,
             slots,
@@ -55,7 +55,7 @@ impl OutList {
         ensures { λ r. ⌜ r ≡ outKeep self (inserted outgoing (outItems self) i s) ⌝ }
     {
         let mut slots = self.slots;
-        let n = cells::insert(&mut slots, self.count(), i, s);
+        let n = cells::insert(&mut slots, self.len as usize, i, s);
         OutList {
             len: n as u16,
             slots,
@@ -67,7 +67,7 @@ impl OutList {
         ensures { λ r. ⌜ r ≡ outKeep self (without (outItems self) i) ⌝ }
     {
         let mut slots = self.slots;
-        let n = cells::remove(&mut slots, self.count(), i);
+        let n = cells::remove(&mut slots, self.len as usize, i);
         OutList {
             len: n as u16,
             slots,
@@ -98,7 +98,7 @@ impl OutList {
     {
         let mut slots = self.slots;
         let cells = run.slots;
-        let n = cells::prepend(&mut slots, self.count(), &cells, run.count());
+        let n = cells::prepend(&mut slots, self.len as usize, &cells, run.len as usize);
         OutList {
             len: n as u16,
             slots,
@@ -111,8 +111,8 @@ impl OutList {
     {
         let mut slots = self.slots;
         let mut ends = to.slots;
-        let n = self.count();
-        let m = cells::append(&mut ends, to.count(), &slots, cells::least(k, n));
+        let n = self.len as usize;
+        let m = cells::append(&mut ends, to.len as usize, &slots, n, k);
         let left = cells::cut(&mut slots, n, m - to.count());
         OutShifted {
             from: OutList {
@@ -131,7 +131,7 @@ impl OutList {
         ensures { λ r. ⌜ r ≡ findFrom 0 (outItems self) s ⌝ }
     {
         let slots = self.slots;
-        cells::find(&slots, self.count(), s)
+        cells::find(&slots, self.len as usize, s)
     }
 
     // Whether the list names s.
@@ -150,7 +150,7 @@ impl OutList {
         ensures { λ r. ⌜ Scans (now (marks .entry)) (outItems self) r (now (marks .exit)) ⌝ }
     {
         let slots = self.slots;
-        marks::scan(marks, &slots, self.count())
+        marks::scan(marks, &slots, self.len as usize)
     }
 
     // Marks each slot that the list names and that exists.
@@ -158,6 +158,6 @@ impl OutList {
         ensures { λ r. ⌜ now (marks .exit) ≡ markedAll (now (marks .entry)) (outItems self) ⌝ }
     {
         let slots = self.slots;
-        marks::mark(marks, &slots, self.count());
+        marks::mark(marks, &slots, self.len as usize);
     }
 }

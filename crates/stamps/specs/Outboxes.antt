@@ -5,9 +5,9 @@ use mathlib.Core.List.{List}
 use lib.ListN.{set, replicate}
 use Rattle.numbers.specs.Modulo.{sum}
 use Rattle.slots.specs.Lists.{outgoing}
-use Rattle.slots.specs.Free.{isMarked, markedAll, firstFrom, countFrom}
-use Rattle.slots.specs.declared.Free.{Free}
-use Rattle.slots.specs.declared.Free.the-variants.{Lowest, Full}
+use Rattle.runs.specs.Free.{isMarked, markedAll, firstFrom, countFrom}
+use Rattle.runs.specs.declared.Free.{Free}
+use Rattle.runs.specs.declared.Free.the-variants.{Lowest, Full}
 use Rattle.parts.specs.Damage.{usedOut}
 use Rattle.parts.specs.declared.groups.Totals.{Totals}
 use Rattle.parts.specs.declared.groups.Waiting.{Waiting}

@@ -5,7 +5,7 @@ use Rattle.numbers.specs.Pick.{pick, both}
 use Rattle.numbers.specs.Modulo.{sum}
 use Rattle.numbers.specs.declared.counters.Unreliable.{Unreliable}
 use Rattle.numbers.specs.declared.counters.Group.{Group}
-use Rattle.command.specs.Layout.{sizeOf}
+use Rattle.table.specs.Layout.{sizeOf}
 use Rattle.command.specs.declared.fields.Fields.{Fields}
 use Rattle.command.specs.declared.fields.Fields.the-variants as vr
 use Rattle.parts.specs.Updates.{withReliableList, withOutgoingList, longer}

@@ -16,7 +16,7 @@ use parts::groups::Lists;
 use parts::groups::Outgoing;
 use parts::groups::Totals;
 use parts::groups::Waiting;
-use slots::Free;
+use runs::Free;
 use slots::OUTGOING;
 use slots::marks;
 
@@ -141,5 +141,5 @@ pub fn room(o: Outbox) -> usize
     ensures { λ r. ⌜ r ≡ freeIn o ⌝ }
 {
     let marks = o.marks;
-    marks::clear(&marks)
+    runs::marks::clear(&marks)
 }

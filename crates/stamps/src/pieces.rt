@@ -4,10 +4,10 @@ ghost use Rattle.stamps.specs.Pieces.{fieldsNow, slotOf, grown};
 use crate::counting::Stamped;
 use command::fields::Command;
 use command::fields::Fields;
-use command::layout;
 use numbers::counters::Group;
 use numbers::counters::Unreliable;
 use parts::groups::Outgoing;
+use table::layout;
 
 // What setting up is given: a command, whether a packet goes with it, and which part of the packet.
 pub struct Piece {

@@ -1,7 +1,7 @@
 // The free slots of the outgoing pool: those that none of the three lists names.
 ghost use mathlib.Core.Path.{_≡_};
 ghost use lib.ListN.{replicate};
-ghost use Rattle.slots.specs.Free.{markedAll};
+ghost use Rattle.runs.specs.Free.{markedAll};
 ghost use Rattle.slots.specs.Lists.{outgoing};
 ghost use Rattle.parts.specs.Damage.{usedOut};
 use parts::groups::Lists;

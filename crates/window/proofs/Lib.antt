@@ -1,3 +1,3 @@
 pub mod Marks
 pub mod Moves
-pub mod Verdicts
+pub mod Settled

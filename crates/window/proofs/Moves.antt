@@ -1,5 +1,5 @@
 -- What a judgement leaves: after a move nothing is marked; a taken group leaves the base at the first group of its window,
--- a multiple of 1,024; from such a base it moved fewer than 32 windows.
+-- a multiple of a window's size; from such a base it moved fewer windows than are free.
 -- The argument: the tests' answers pick the rule's case, and the rest is sums and remainders.
 use mathlib.Core.Path.{_≡_, refl, ap, sym}
 use mathlib.Core.Bool.{Bool, true, false}
@@ -11,6 +11,7 @@ use lib.ListN.{getD}
 use borrow.Author.Tests.{eqb-true, leb-false, ltb-true, ltb-false}
 use Rattle.numbers.specs.Pick.{pick}
 use Rattle.numbers.specs.Modulo.{sum, minus}
+use Rattle.numbers.specs.Limits.{windowSize, freeWindows}
 use Rattle.numbers.specs.Answers.{Answer, done}
 use Rattle.window.specs.Window.{first, counted, distant, marked, baseAfter, wordsAfter, answerAfter, windowsMoved}
 use Rattle.window.proofs.Marks.{marked-cleared}
@@ -42,20 +43,20 @@ module _ (base : ℕ) (words : List ℕ) (g : ℕ) where
             again false m = simp m (sym (eqb-true (first g) base t))
         go false t = simp (near, t)
 
-    pub taken-multiple : baseAfter base words g % 1024 ≡ 0
+    pub taken-multiple : baseAfter base words g % windowSize ≡ 0
     taken-multiple = rw taken-base (omega arith)
 
-    pub taken-moved : base % 1024 ≡ 0 → base < 65536 → g < 65536 → windowsMoved base (baseAfter base words g) < 32
+    pub taken-moved : base % windowSize ≡ 0 → base < 65536 → g < 65536 → windowsMoved base (baseAfter base words g) < freeWindows
     taken-moved even small fits = rw taken-base (omega (arith, reach (ltb g base) refl))
       where
-        near : counted base g < base + 32768
-        near = leb-false (base + 32768) (counted base g) taken-near
+        near : counted base g < base + windowSize * freeWindows
+        near = leb-false (base + windowSize * freeWindows) (counted base g) taken-near
 
-        reach : (b : Bool) → ltb g base ≡ b → minus 16 (first g) base / 1024 < 32
-        reach true t = let low = ltb-true g base t in let far : g + 65536 < base + 32768 = simp t at near in omega arith
-        reach false t = let low = ltb-false g base t in let far : g < base + 32768 = simp t at near in omega arith
+        reach : (b : Bool) → ltb g base ≡ b → minus 16 (first g) base / windowSize < freeWindows
+        reach true t = let low = ltb-true g base t in let far : g + 65536 < base + windowSize * freeWindows = simp t at near in omega arith
+        reach false t = let low = ltb-false g base t in let far : g < base + windowSize * freeWindows = simp t at near in omega arith
 
     -- so far, and no other way
-    pub taken-by : base % 1024 ≡ 0 → base < 65536 → g < 65536
-        → baseAfter base words g ≡ sum 16 base (1024 * windowsMoved base (baseAfter base words g))
+    pub taken-by : base % windowSize ≡ 0 → base < 65536 → g < 65536
+        → baseAfter base words g ≡ sum 16 base (windowSize * windowsMoved base (baseAfter base words g))
     taken-by even small fits = rw taken-base (omega arith)

@@ -1,6 +1,6 @@
 -- "Unsequenced: a group g below the base counts as g + 65,536. At base + 32,768 or more it is passed over, nothing changed.
 -- If the base is not the first group of g's window, it moves there and all 32 words are cleared; else a marked group is passed over."
-use Prim.Native.Nat.{ℕ, _+_, _-_, _/_, _%_}
+use Prim.Native.Nat.{ℕ, _+_, _-_, _*_, _/_, _%_}
 use mathlib.Core.Path.{_≡_}
 use mathlib.Core.Bool.{Bool}
 use mathlib.Core.List.{List, [], _∷_}
@@ -9,6 +9,7 @@ use lib.ListN.{getD, set, replicate}
 use Rattle.numbers.specs.Pick.{pick}
 use Rattle.numbers.specs.Modulo.{minus}
 use Rattle.numbers.specs.Bits.{bit, withBit}
+use Rattle.numbers.specs.Limits.{windowSize, windowWords, freeWindows}
 use Rattle.numbers.specs.Answers.{Answer, done}
 use Rattle.numbers.specs.declared.counters.Group.{Group}
 use Rattle.window.specs.declared.Verdict.{Verdict}
@@ -20,21 +21,25 @@ abbrev pub counted : ℕ → ℕ → ℕ
 counted base g = pick (ltb g base) (g + 65536) g
 
 abbrev pub distant : ℕ → ℕ → Bool
-distant base g = leb (base + 32768) (counted base g)
+distant base g = leb (base + windowSize * freeWindows) (counted base g)
 
 -- the first group of g's window
 abbrev pub first : ℕ → ℕ
-first g = g - g % 1024
+first g = g - g % windowSize
 
--- group g stands at place g mod 1,024 of its window, 32 groups a word
+-- the groups of a word
+abbrev pub wordBits : ℕ
+wordBits = 32
+
+-- group g stands at its place of the window, counted from the window's first group
 unfoldable pub marked : List ℕ → ℕ → Bool
-marked words g = bit (getD words (g % 1024 / 32) 0) (g % 1024 % 32)
+marked words g = bit (getD words (g % windowSize / wordBits) 0) (g % windowSize % wordBits)
 
 unfoldable pub marking : List ℕ → ℕ → List ℕ
-marking words g = set words (g % 1024 / 32) (withBit (getD words (g % 1024 / 32) 0) (g % 1024 % 32))
+marking words g = set words (g % windowSize / wordBits) (withBit (getD words (g % windowSize / wordBits) 0) (g % windowSize % wordBits))
 
 abbrev pub cleared : List ℕ
-cleared = replicate 32 0
+cleared = replicate windowWords 0
 
 -- by the tests in their order: too far, in another window than the base's, marked, not marked
 abbrev pub byTests : {A : Type 0} → ℕ → List ℕ → ℕ → A → A → A → A → A
@@ -62,6 +67,6 @@ pub record Judges (b : Group) (ws : List ℕ) (g : Group) (r : Judged) : Type 0 
   pub words : r .words ≡ wordsAfter (b .0) ws (g .0)
   pub answer : answerOf (r .verdict) ≡ answerAfter (b .0) ws (g .0)
 
--- how far the base moved, in windows of 1,024 groups, past 65,535 to 0
+-- how far the base moved, in windows, past 65,535 to 0
 abbrev pub windowsMoved : ℕ → ℕ → ℕ
-windowsMoved before after = minus 16 after before / 1024
+windowsMoved before after = minus 16 after before / windowSize

@@ -1,11 +1,19 @@
-// The unsequenced window: which groups were delivered, as a base and the marks of 1,024 groups from it on.
+// The unsequenced window: which groups were delivered, as a base and the marks of a window of groups from it on.
 ghost use mathlib.Core.Path.{_≡_};
 ghost use Rattle.window.specs.Window.{Judges, distant, marked, marking};
+use numbers::consts::PEER_FREE_UNSEQUENCED_WINDOWS;
+use numbers::consts::PEER_UNSEQUENCED_WINDOW_SIZE;
+use numbers::consts::UNSEQUENCED_WORDS;
 use numbers::counters::Group;
 
-const WINDOW: u16 = 1024;
+// The groups of a window.
+const WINDOW: u16 = PEER_UNSEQUENCED_WINDOW_SIZE as u16;
 
-const REACH: u32 = 32768;
+// How far past the base a group is still near.
+const REACH: u32 = PEER_UNSEQUENCED_WINDOW_SIZE * PEER_FREE_UNSEQUENCED_WINDOWS;
+
+// The groups of a word.
+const BITS: u16 = 32;
 
 pub enum Verdict {
     Distant,
@@ -15,21 +23,21 @@ pub enum Verdict {
 
 pub struct Judged {
     pub base: Group,
-    pub words: [u32; 32],
+    pub words: [u32; UNSEQUENCED_WORDS],
     pub verdict: Verdict,
 }
 
 // Whether the group is marked in the words.
-fn is_marked(words: [u32; 32], group: Group) -> bool
+fn is_marked(words: [u32; UNSEQUENCED_WORDS], group: Group) -> bool
     ensures { λ r. ⌜ r ≡ marked words (group .0) ⌝ }
 {
     let index = group.0 % WINDOW;
-    let word = words[(index / 32) as usize];
-    numbers::bits::is_set(word, (index % 32) as u32)
+    let word = words[(index / BITS) as usize];
+    numbers::bits::is_set(word, (index % BITS) as u32)
 }
 
 // An unsequenced arrival's group against the window. The move and the clearing come first, whatever becomes of the packet.
-pub fn judge(base: Group, words: [u32; 32], group: Group) -> Judged
+pub fn judge(base: Group, words: [u32; UNSEQUENCED_WORDS], group: Group) -> Judged
     ensures { λ r. ⌜ Judges base words group r ⌝ }
 {
     if is_distant(base, group) {
@@ -42,7 +50,7 @@ pub fn judge(base: Group, words: [u32; 32], group: Group) -> Judged
     let first = group.0 - group.0 % WINDOW;
     if first != base.0 {
         let moved = Group(first);
-        let cleared = [0u32; 32];
+        let cleared = [0u32; UNSEQUENCED_WORDS];
         return Judged {
             base: moved,
             words: cleared,
@@ -63,7 +71,7 @@ pub fn judge(base: Group, words: [u32; 32], group: Group) -> Judged
     }
 }
 
-// Whether the group lies 32 windows or more past the base; below it, it counts as 65,536 more.
+// Whether the group lies past all free windows from the base on; below the base, it counts as 65,536 more.
 fn is_distant(base: Group, group: Group) -> bool
     ensures { λ r. ⌜ r ≡ distant (base .0) (group .0) ⌝ }
 {
@@ -76,13 +84,13 @@ fn is_distant(base: Group, group: Group) -> bool
 }
 
 // The words with the group marked: done once it is stored.
-pub fn mark(words: [u32; 32], group: Group) -> [u32; 32]
+pub fn mark(words: [u32; UNSEQUENCED_WORDS], group: Group) -> [u32; UNSEQUENCED_WORDS]
     ensures { λ r. ⌜ r ≡ marking words (group .0) ⌝ }
 {
     let index = group.0 % WINDOW;
-    let place = (index / 32) as usize;
+    let place = (index / BITS) as usize;
     let mut marks = words;
     let word = marks[place];
-    marks[place] = numbers::bits::set(word, (index % 32) as u32);
+    marks[place] = numbers::bits::set(word, (index % BITS) as u32);
     marks
 }

@@ -1,4 +1,4 @@
 pub mod ReadLaws
 pub mod WriteLaws
+pub mod Settled
 pub mod RoundTrip
-pub mod Answers

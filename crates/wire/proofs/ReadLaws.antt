@@ -11,21 +11,20 @@ use borrow.Author.Tests.{lt-leb, le-leb, leb-true}
 use Rattle.numbers.specs.Pick.{pick, both}
 use Rattle.numbers.specs.Answers.{done, refused}
 use Rattle.numbers.specs.declared.refusals.Refusal.the-variants.{BadCommand}
-use Rattle.command.specs.Layout.{known, layout, sizeOf}
-use Rattle.command.specs.Bytes.{rowAt}
-use Rattle.command.specs.Rows.{pad, fits, builtFrom}
+use Rattle.table.specs.Layout.{known, layout, sizeOf}
+use Rattle.table.specs.Bytes.{rowAt, pad, fits, Bytes}
+use Rattle.build.specs.Built.{builtFrom}
 use Rattle.wire.specs.Reading.{kindAt, readable, readAt}
 use Rattle.wire.specs.Steps.{wholeKind, placed}
 use Rattle.numbers.proofs.BoolLaws.{both-left, both-right, both-true, both-false}
-use Rattle.command.proofs.ByteLaws.{Bytes}
-use Rattle.command.proofs.LayoutLaws.{known-low, layout-length}
-use Rattle.command.proofs.RowLaws.{row-length, take-pad, fits-read}
+use Rattle.table.proofs.LayoutLaws.{known-low, layout-length}
+use Rattle.table.proofs.RowLaws.{row-length, take-pad, fits-read}
 
 module _ (s : List ℕ) (i : ℕ) where
   abbrev pub whole : List ℕ
   whole = kindAt s i ∷ rowAt s i (layout (kindAt s i))
 
-  chosen : (b : Bool) → readable s i ≡ b → readAt s i ≡ pick b (done ((i + sizeOf (kindAt s i)) ∷ whole)) (refused BadCommand)
+  pub chosen : (b : Bool) → readable s i ≡ b → readAt s i ≡ pick b (done ((i + sizeOf (kindAt s i)) ∷ whole)) (refused BadCommand)
   chosen b e = ap (λ (t : Bool). pick t (done ((i + sizeOf (kindAt s i)) ∷ whole)) (refused BadCommand)) e
 
   unread : readable s i ≡ false → 0 ≡ wholeKind s i

@@ -1,31 +1,36 @@
--- Writing, then reading, gives the command and the place again; reading, then writing, gives the bytes again; a command has one encoding.
--- No byte outside the written part changes.
--- The argument: induction on the widths, with a number's own round trip at each.
-use mathlib.Core.Path.{_≡_, refl, ap, _∙_, sym}
+-- The two round trips: what was written is read, and what was read is written, into any buffer. A write changes no byte outside its place.
+-- The argument: induction on the widths, with a number's own round trip at each; then the answers, which tell the results apart.
+use mathlib.Core.Path.{_≡_, refl, ap, subst, _∙_, sym}
 use mathlib.Core.Bool.{Bool, true, false}
-use mathlib.Core.List.{List, [], _∷_}
+use mathlib.Core.List.{List, [], _∷_, _++_}
 use Prim.Native.Nat.{ℕ, _+_, _%_, _^_, _≤_, _<_}
 use native.Mathlib.Omega.{arith}
 use lib.Dec.{ltb, leb}
-use lib.ListN.{length, getD, take, drop}
-use lib.Seq.{take-add, take-length, drop-drop}
-use borrow.Author.Tests.{ltb-true, leb-true, le-leb, eq-eqb}
+use lib.ListN.{length, getD, take, drop, length-drop}
+use lib.Seq.{sets, sets-eq, take-add, take-length, drop-drop, length-take-le}
+use borrow.Author.Tests.{ltb-true, leb-true, le-leb, lt-leb, eq-eqb}
 use Rattle.numbers.specs.Pick.{pick, both}
 use Rattle.numbers.specs.Answers.{Answer, done, refused}
 use Rattle.numbers.specs.declared.refusals.Refusal.the-variants.{BadCommand}
-use Rattle.command.specs.Layout.{known, layout, total, sizeOf}
-use Rattle.command.specs.Bytes.{numberAt, putNumber, rowAt, putRow}
-use Rattle.command.specs.Rows.{kindOf, rowOf, fits, namesFields}
+use Rattle.table.specs.Layout.{known, layout, total, sizeOf}
+use Rattle.table.specs.Bytes.{numberAt, putNumber, rowAt, putRow, fits, Bytes}
+use Rattle.command.specs.Rows.{kindOf, rowOf, namesFields}
 use Rattle.wire.specs.Reading.{kindAt, readable, readAt, answerOf}
-use Rattle.wire.specs.Writing.{writable, writeBytes, writeAnswer}
+use Rattle.wire.specs.Writing.{writable, writeBytes, Written}
+use Rattle.wire.specs.RoundTrip.{Fitting, WriteThenRead, ReadThenWrite}
 use Rattle.command.specs.declared.fields.Command.{Command}
 use Rattle.command.specs.declared.fields.Fields.{Fields}
 use Rattle.command.specs.declared.fields.Fields.the-variants as vr
 use Rattle.wire.specs.declared.reader.Reading.the-variants as rd
-use Rattle.numbers.proofs.BoolLaws.{both-left, both-right, both-true}
-use Rattle.command.proofs.ByteLaws.{Bytes, put-length, put-below, put-above, number-same, number-put, put-number, number-bytes}
-use Rattle.command.proofs.LayoutLaws.{named, layout-known}
-use Rattle.wire.proofs.WriteLaws.{left, named-kind, row-of-length}
+use Rattle.wire.specs.declared.writer.Writing.{Writing}
+use Rattle.wire.specs.declared.writer.Writing.the-variants as wr
+use Rattle.numbers.proofs.BoolLaws.{both-left, both-right, both-true, both-false}
+use Rattle.table.proofs.ByteLaws.{put-length, put-below, put-above, number-same, number-put, put-read, sets-append}
+use Rattle.table.proofs.LayoutLaws.{named, layout-known}
+use Rattle.command.proofs.Settled.{apart}
+use Rattle.wire.proofs.ReadLaws.{chosen, whole-room}
+use Rattle.wire.proofs.WriteLaws.{answered, left, named-kind, row-of-length}
+use Rattle.wire.proofs.Settled.{readings-apart, writings-apart}
 
 -- ---- a row in bytes
 pub row-put-length : (s ws xs : List ℕ) (i : ℕ) → length (putRow s i ws xs) ≡ length s
@@ -64,26 +69,21 @@ row-put s (w ∷ ws) (x ∷ xs) i f h =
     in
     rw (n, r)
 
--- what is read is put back
-pub put-row-back : (s ws : List ℕ) (i : ℕ) → Bytes s → putRow s i ws (rowAt s i ws) ≡ s
-unfolding putRow rowAt
-put-row-back s [] i b = refl
-put-row-back s (w ∷ ws) i b = rw (put-number s i w b) (put-row-back s ws (i + w) b)
-
--- equal rows have equal bytes
-pub row-bytes :
-    (s t ws : List ℕ) (i j : ℕ) → Bytes s → Bytes t → i + total ws ≤ length s → j + total ws ≤ length t
-    → rowAt s i ws ≡ rowAt t j ws → take (total ws) (drop i s) ≡ take (total ws) (drop j t)
-unfolding rowAt total
-row-bytes s t [] i j bs bt hs ht e = refl
-row-bytes s t (w ∷ ws) i j bs bt hs ht e =
-    let n : numberAt s i w ≡ numberAt t j w = ap (λ (l : List ℕ). getD l 0 0) e in
-    let r : rowAt s (i + w) ws ≡ rowAt t (j + w) ws = ap (λ (l : List ℕ). drop 1 l) e in
-    let p : take w (drop i s) ≡ take w (drop j t) = number-bytes s t i j w bs bt (omega arith) (omega arith) n in
-    let q : take (total ws) (drop (i + w) s) ≡ take (total ws) (drop (j + w) t) =
-    row-bytes s t ws (i + w) (j + w) bs bt (omega arith) (omega arith) r
-    in
-    rw (take-add w (total ws) (drop i s), take-add w (total ws) (drop j t), drop-drop w i s, drop-drop w j t, p, q)
+-- what is read of bytes is put as those bytes, wherever
+pub row-copy : (s t ws : List ℕ) (i j : ℕ) → Bytes s → i + total ws ≤ length s → putRow t j ws (rowAt s i ws) ≡ sets t j (take (total ws) (drop i s))
+unfolding putRow rowAt total
+row-copy s t [] i j b h = refl
+row-copy s t (w ∷ ws) i j b h =
+    let l : w ≤ length (drop i s) = rw (length-drop i s) (omega arith) in
+    let v : length (take w (drop i s)) ≡ w = length-take-le w (drop i s) l in
+    rw (
+      put-read s t i j w b (omega arith),
+      row-copy s (sets t j (take w (drop i s))) ws (i + w) (j + w) b (omega arith),
+      take-add w (total ws) (drop i s),
+      sets-append (take w (drop i s)) (take (total ws) (drop w (drop i s))) t j,
+      v,
+      drop-drop w i s,
+    )
 
 -- ---- commands
 kind-known : (f : Fields) → known (kindOf f) ≡ true
@@ -109,13 +109,15 @@ first t i k e =
     let h : getD (rowAt t i (named k)) 0 0 ≡ getD t i 0 = omega arith in
     ap (λ (ws : List ℕ). getD (rowAt t i ws) 0 0) (layout-known k e) ∙ h
 
+-- the bytes of a command
+abbrev span : Command → ℕ
+span c = sizeOf (kindOf (c .fields))
+
 module _ (s : List ℕ) (i : ℕ) (c : Command) where
   abbrev kind : ℕ
   kind = kindOf (c .fields)
 
-  pub write-read :
-      fits (layout kind) (rowOf c) ≡ true → writable s i c ≡ true
-      → readAt (writeBytes s i c) i ≡ done ((i + sizeOf kind) ∷ kind ∷ rowOf c)
+  write-read : Fitting c → writable s i c ≡ true → readAt (writeBytes s i c) i ≡ done ((i + sizeOf kind) ∷ kind ∷ rowOf c)
   write-read f w =
       let named = both-left (namesFields c) (leb (i + sizeOf kind) (length s)) w in
       let room = leb-true (i + sizeOf kind) (length s) (both-right (namesFields c) (leb (i + sizeOf kind) (length s)) w) in
@@ -137,76 +139,91 @@ module _ (s : List ℕ) (i : ℕ) (c : Command) where
       ∙ ap (λ (b : Bool). pick b (done ((i + sizeOf kind) ∷ kind ∷ rowAt t i (layout kind))) (refused BadCommand)) r
       ∙ ap (λ (l : List ℕ). done ((i + sizeOf kind) ∷ kind ∷ l)) row
 
-  pub write-length : length (writeBytes s i c) ≡ length s
-  write-length = go (writable s i c) refl
+  -- a write changes no other byte
+  module _ (r : Writing) (after : List ℕ) (w : Written s i c r after) where
+    either : (P : List ℕ → Type 0) → P s → P (putRow s i (layout kind) (rowOf c)) → P after
+    either P hs hp = subst P (sym (w .buffer)) (go (writable s i c))
+      where
+        go : (b : Bool) → P (pick b (putRow s i (layout kind) (rowOf c)) s)
+        go true = hp
+        go false = hs
+
+    pub written-length : length after ≡ length s
+    written-length = either (λ (l : List ℕ). length l ≡ length s) refl (row-put-length s (layout kind) (rowOf c) i)
+
+    pub written-below : (j : ℕ) → j < i → getD after j 0 ≡ getD s j 0
+    written-below j h = either (λ (l : List ℕ). getD l j 0 ≡ getD s j 0) refl (row-below s (layout kind) (rowOf c) i j h)
+
+    pub written-above : (j : ℕ) → i + sizeOf kind ≤ j → getD after j 0 ≡ getD s j 0
+    written-above j h = either (λ (l : List ℕ). getD l j 0 ≡ getD s j 0) refl (row-above s (layout kind) (rowOf c) i j h)
+
+pub write-then-read : WriteThenRead
+write-then-read s after i next c r f w q = readings-apart r (rd.Found c next) (q ∙ go (writable s i c) refl)
+  where
+    go : (b : Bool) → writable s i c ≡ b → readAt after i ≡ done (next ∷ kindOf (c .fields) ∷ rowOf c)
+    go true e =
+        let n : next ≡ i + span c = ap (λ (a : Answer). getD (a .values) 0 0) (w .answer ∙ answered s i c true e) in
+        ap (λ (l : List ℕ). readAt l i) (w .buffer) ∙ write-read s i c f e ∙ ap (λ (m : ℕ). done (m ∷ kindOf (c .fields) ∷ rowOf c)) (sym n)
+    go false e = absurd (apart _ _ (w .answer ∙ answered s i c false e) refl refl)
+
+-- what a read found: the bytes it stands on, whole
+module _ (s : List ℕ) (i next : ℕ) (c : Command) (e : answerOf (rd.Found c next) ≡ readAt s i) where
+  found-readable : readable s i ≡ true
+  found-readable = go (readable s i) refl
     where
-      go : (b : Bool) → writable s i c ≡ b → length (writeBytes s i c) ≡ length s
-      go true e = ap length (left s i c true e) ∙ row-put-length s (layout kind) (rowOf c) i
-      go false e = ap length (left s i c false e)
-
-  pub write-below : (j : ℕ) → j < i → getD (writeBytes s i c) j 0 ≡ getD s j 0
-  write-below j h = go (writable s i c) refl
-    where
-      go : (b : Bool) → writable s i c ≡ b → getD (writeBytes s i c) j 0 ≡ getD s j 0
-      go true e = ap (λ (l : List ℕ). getD l j 0) (left s i c true e) ∙ row-below s (layout kind) (rowOf c) i j h
-      go false e = ap (λ (l : List ℕ). getD l j 0) (left s i c false e)
-
-  pub write-above : (j : ℕ) → i + sizeOf kind ≤ j → getD (writeBytes s i c) j 0 ≡ getD s j 0
-  write-above j h = go (writable s i c) refl
-    where
-      go : (b : Bool) → writable s i c ≡ b → getD (writeBytes s i c) j 0 ≡ getD s j 0
-      go true e = ap (λ (l : List ℕ). getD l j 0) (left s i c true e) ∙ row-above s (layout kind) (rowOf c) i j h
-      go false e = ap (λ (l : List ℕ). getD l j 0) (left s i c false e)
-
-pub read-write :
-    (s : List ℕ) (i : ℕ) → Bytes s → putRow s i (layout (kindAt s i)) (rowAt s i (layout (kindAt s i))) ≡ s
-read-write s i b = put-row-back s (layout (kindAt s i)) i b
-
-pub one-encoding :
-    (s t : List ℕ) (i j : ℕ) → Bytes s → Bytes t → readable s i ≡ true → readable t j ≡ true → kindAt s i ≡ kindAt t j
-    → rowAt s i (layout (kindAt s i)) ≡ rowAt t j (layout (kindAt t j))
-    → take (sizeOf (kindAt s i)) (drop i s) ≡ take (sizeOf (kindAt s i)) (drop j t)
-one-encoding s t i j bs bt rs rt k e =
-    let hs = leb-true (i + sizeOf (kindAt s i)) (length s) (both-right (known (kindAt s i)) (leb (i + sizeOf (kindAt s i)) (length s)) rs) in
-    let ht = leb-true (j + sizeOf (kindAt t j)) (length t) (both-right (known (kindAt t j)) (leb (j + sizeOf (kindAt t j)) (length t)) rt) in
-    let z : sizeOf (kindAt s i) ≡ sizeOf (kindAt t j) = ap sizeOf k in
-    row-bytes s t (layout (kindAt s i)) i j bs bt hs (omega arith) (e ∙ ap (λ (x : ℕ). rowAt t j (layout x)) (sym k))
-
--- the writer, given what the reader found at a place, leaves the bytes as they are and answers the reader's next place
-module _ (s : List ℕ) (i next : ℕ) (c : Command) (b : Bytes s) (r : readable s i ≡ true)
-    (e : answerOf (rd.Found c next) ≡ readAt s i) where
-  same : done (next ∷ kindOf (c .fields) ∷ rowOf c) ≡ done ((i + sizeOf (kindAt s i)) ∷ kindAt s i ∷ rowAt s i (layout (kindAt s i)))
-  same = e ∙ simp r
+      go : (b : Bool) → readable s i ≡ b → b ≡ true
+      go true t = refl
+      go false t = absurd (apart _ _ (e ∙ chosen s i false t) refl refl)
 
   values : (next ∷ kindOf (c .fields) ∷ rowOf c) ≡ ((i + sizeOf (kindAt s i)) ∷ kindAt s i ∷ rowAt s i (layout (kindAt s i)))
-  values = ap (λ (a : Answer). a .values) same
+  values = ap (λ (a : Answer). a .values) (e ∙ chosen s i true found-readable)
 
   kinds : kindOf (c .fields) ≡ kindAt s i
   kinds = ap (λ (l : List ℕ). getD l 1 0) values
 
-  rows : rowOf c ≡ rowAt s i (layout (kindAt s i))
-  rows = ap (λ (l : List ℕ). drop 2 l) values
+  found-next : next ≡ i + span c
+  found-next = ap (λ (l : List ℕ). getD l 0 0) values ∙ ap (λ (k : ℕ). i + sizeOf k) (sym kinds)
 
-  byte-is : c .byte ≡ getD s i 0
-  byte-is =
-      ap (λ (l : List ℕ). getD l 0 0) rows
-      ∙ first s i (kindAt s i) (both-left (known (kindAt s i)) (leb (i + sizeOf (kindAt s i)) (length s)) r)
+  found-room : i + span c ≤ length s
+  found-room = rw kinds (whole-room s i found-readable)
 
-  pub found-writable : writable s i c ≡ true
-  found-writable =
-      both-true (namesFields c) (leb (i + sizeOf (kindOf (c .fields))) (length s))
-      (eq-eqb (c .byte % 16) (kindOf (c .fields)) (ap (λ (x : ℕ). x % 16) byte-is ∙ sym kinds))
-      (ap (λ (k : ℕ). leb (i + sizeOf k) (length s)) kinds
-      ∙ both-right (known (kindAt s i)) (leb (i + sizeOf (kindAt s i)) (length s)) r)
+  rows : rowOf c ≡ rowAt s i (layout (kindOf (c .fields)))
+  rows = ap (λ (l : List ℕ). drop 2 l) values ∙ ap (λ (k : ℕ). rowAt s i (layout k)) (sym kinds)
 
-  pub found-bytes : writeBytes s i c ≡ s
-  found-bytes =
-      left s i c true found-writable
-      ∙ ap (λ (k : ℕ). putRow s i (layout k) (rowOf c)) kinds
-      ∙ ap (putRow s i (layout (kindAt s i))) rows
-      ∙ read-write s i b
+  found-named : namesFields c ≡ true
+  found-named =
+      let byte : c .byte ≡ getD s i 0 = ap (λ (l : List ℕ). getD l 0 0) rows ∙ first s i (kindOf (c .fields)) (kind-known (c .fields)) in
+      eq-eqb (c .byte % 16) (kindOf (c .fields)) (ap (λ (x : ℕ). x % 16) byte ∙ sym kinds)
 
-  pub found-next : writeAnswer s i c ≡ done (next ∷ [])
-  found-next =
-      simp found-writable
-      (ap (λ (n : ℕ). done (n ∷ [])) (ap (λ (k : ℕ). i + sizeOf k) kinds ∙ sym (ap (λ (l : List ℕ). getD l 0 0) values)))
+  -- put anywhere, its row is those bytes
+  found-copy : (t : List ℕ) (j : ℕ) → Bytes s → putRow t j (layout (kindOf (c .fields))) (rowOf c) ≡ sets t j (take (span c) (drop i s))
+  found-copy t j b = ap (putRow t j (layout (kindOf (c .fields)))) rows ∙ row-copy s t (layout (kindOf (c .fields))) i j b found-room
+
+pub read-then-write : ReadThenWrite
+read-then-write s t after i j size c r b e w = record { room = there; short = none }
+  where
+    same : size ≡ span c
+    same = omega (arith, found-next s i (i + size) c e)
+
+    wide : length (take (span c) (drop i s)) ≡ span c
+    wide =
+        length-take-le (span c) (drop i s)
+        (rw (length-drop i s) (omega (arith, found-room s i (i + size) c e)))
+
+    there : j + size ≤ length t → (r ≡ wr.Done (j + size)) × (after ≡ take j t ++ take size (drop i s) ++ drop (j + size) t)
+    there h =
+        let k : j + span c ≤ length t = omega (arith, same) in
+        let ok : writable t j c ≡ true = both-true (namesFields c) (leb (j + span c) (length t)) (found-named s i (i + size) c e) (le-leb _ _ k) in
+        let put : sets t j (take (span c) (drop i s)) ≡ take j t ++ take (span c) (drop i s) ++ drop (j + span c) t =
+        rw wide at (sets-eq (take (span c) (drop i s)) t j (omega (arith, wide)))
+        in (
+          writings-apart r (wr.Done (j + size)) (w .answer ∙ answered t j c true ok ∙ rw same),
+          rw same (w .buffer ∙ left t j c true ok ∙ found-copy s i (i + size) c e t j b ∙ put),
+        )
+
+    none : length t < j + size → (r ≡ wr.Refused) × (after ≡ t)
+    none h =
+        let no : writable t j c ≡ false =
+        both-false (namesFields c) (leb (j + span c) (length t)) (lt-leb (j + span c) (length t) (omega (arith, same)))
+        in
+        (writings-apart r wr.Refused (w .answer ∙ answered t j c false no), w .buffer ∙ left t j c false no)

@@ -11,17 +11,17 @@ use borrow.Author.Tests.{lt-leb, le-leb, eqb-true}
 use Rattle.numbers.specs.Pick.{pick, both}
 use Rattle.numbers.specs.Answers.{done, refused}
 use Rattle.numbers.specs.declared.refusals.Refusal.the-variants.{BadCommand}
-use Rattle.command.specs.Layout.{layout, sizeOf}
-use Rattle.command.specs.Bytes.{putRow}
-use Rattle.command.specs.Rows.{kindOf, fieldsRow, rowOf, namesFields, pad}
+use Rattle.table.specs.Layout.{layout, sizeOf}
+use Rattle.table.specs.Bytes.{putRow, pad}
+use Rattle.command.specs.Rows.{kindOf, fieldsRow, rowOf, namesFields}
 use Rattle.wire.specs.Writing.{writable, writeAnswer, writeBytes, Written}
 use Rattle.command.specs.declared.fields.Command.{Command}
 use Rattle.command.specs.declared.fields.Fields.{Fields}
 use Rattle.command.specs.declared.fields.Fields.the-variants as vr
 use Rattle.wire.specs.declared.writer.Writing.the-variants as writing
 use Rattle.numbers.proofs.BoolLaws.{both-true, both-false}
-use Rattle.command.proofs.LayoutLaws.{layout-length}
-use Rattle.command.proofs.RowLaws.{put-pad}
+use Rattle.table.proofs.LayoutLaws.{layout-length}
+use Rattle.table.proofs.RowLaws.{put-pad}
 
 fields-length : (f : Fields) → length (layout (kindOf f)) ≡ 3 + length (fieldsRow f)
 unfolding layout
@@ -45,7 +45,7 @@ module _ (s : List ℕ) (i : ℕ) (c : Command) where
   abbrev kind : ℕ
   kind = kindOf (c .fields)
 
-  answered : (b : Bool) → writable s i c ≡ b → writeAnswer s i c ≡ pick b (done ((i + sizeOf kind) ∷ [])) (refused BadCommand)
+  pub answered : (b : Bool) → writable s i c ≡ b → writeAnswer s i c ≡ pick b (done ((i + sizeOf kind) ∷ [])) (refused BadCommand)
   answered b e = ap (λ (t : Bool). pick t (done ((i + sizeOf kind) ∷ [])) (refused BadCommand)) e
 
   pub left : (b : Bool) → writable s i c ≡ b → writeBytes s i c ≡ pick b (putRow s i (layout kind) (rowOf c)) s

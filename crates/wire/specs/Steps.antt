@@ -1,4 +1,4 @@
--- The reader's two steps: which kind stands whole at a place, and the place after a built command.
+-- For private functions of the reader alone, its two steps: which kind stands whole at a place, and the place after a built command.
 use Prim.Native.Nat.{ℕ}
 use mathlib.Core.List.{List, _∷_}
 use lib.Dec.{eqb}

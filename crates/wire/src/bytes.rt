@@ -2,10 +2,9 @@
 ghost use mathlib.Core.Path.{_≡_};
 ghost use Prim.Native.Nat.{_+_, _≤_, _<_, _^_};
 ghost use lib.ListN.{length};
-ghost use Rattle.command.specs.Layout.{known, layout, sizeOf};
-ghost use Rattle.command.specs.Bytes.{numberAt, putNumber, rowAt, putRow};
-ghost use Rattle.command.specs.Rows.{pad};
-use command::layout;
+ghost use Rattle.table.specs.Layout.{known, layout, sizeOf};
+ghost use Rattle.table.specs.Bytes.{numberAt, putNumber, rowAt, putRow, pad};
+use table::layout;
 
 fn wide(x: u8) -> u32
     ensures { λ r. ⌜ (r ≡ x) × (r < 256) ⌝ }

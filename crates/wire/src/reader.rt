@@ -1,13 +1,12 @@
 // The reader: a command from bytes at a place.
 ghost use mathlib.Core.Path.{_≡_};
 ghost use Rattle.wire.specs.Reading.{answerOf, readAt};
-ghost use Rattle.command.specs.Rows.{builtFrom};
+ghost use Rattle.build.specs.Built.{builtFrom};
 ghost use Rattle.wire.specs.Steps.{placed, wholeKind};
 use crate::bytes;
+use build::Built;
 use command::fields::Command;
-use command::layout;
-use command::rows;
-use command::rows::Built;
+use table::layout;
 
 pub enum Reading {
     Found { command: Command, next: usize },
@@ -48,7 +47,7 @@ fn whole_kind(s: &[u8], at: usize) -> u8
 fn found(kind: u8, row: [u32; 16], next: usize) -> Reading
     ensures { λ r. ⌜ answerOf r ≡ placed next (builtFrom kind row) ⌝ }
 {
-    let Built::Done(command) = rows::build(kind, row) else {
+    let Built::Done(command) = build::build(kind, row) else {
         return Reading::Refused;
     };
     Reading::Found { command, next }

@@ -3,8 +3,8 @@ ghost use mathlib.Core.Path.{_≡_};
 ghost use Rattle.wire.specs.Writing.{Written};
 use crate::bytes;
 use command::fields::Command;
-use command::layout;
 use command::rows;
+use table::layout;
 
 pub enum Writing {
     Done(usize),

@@ -6,9 +6,9 @@ use lib.Dec.{eqb}
 use lib.ListN.{length, take, drop, replicate, length-set}
 use borrow.Author.Needs.{needs}
 use borrow.Author.Tests.{not-true, not-false}
-use Rattle.slots.specs.Free.{markedAll}
+use Rattle.runs.specs.Free.{markedAll}
 use Rattle.slots.specs.Lists.{outgoing}
-use Rattle.slots.proofs.Marked.{mark-turn, mark-end}
+use Rattle.runs.proofs.Marked.{mark-turn, mark-end}
 use Rattle.damage.specs.Walks.{passes, worthPasses, outPass}
 use Rattle.damage.proofs.WalkLaws.{pass-past, pass-twice, pass-unfit, pass-turn, pass-end}
 use Rattle.damage.proofs.PoolLaws.{out-stop, out-turn, out-end}

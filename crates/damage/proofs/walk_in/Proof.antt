@@ -7,8 +7,8 @@ use borrow.Author.Needs.{needs}
 use borrow.Author.Tests.{not-true, not-false}
 use Rattle.parts.specs.Fresh.{noIncoming}
 use Rattle.parts.specs.Damage.{lengths}
-use Rattle.slots.specs.Free.{markedAll}
-use Rattle.slots.proofs.Marked.{mark-turn, mark-end}
+use Rattle.runs.specs.Free.{markedAll}
+use Rattle.runs.proofs.Marked.{mark-turn, mark-end}
 use Rattle.damage.specs.Walks.{passes, inPasses}
 use Rattle.damage.proofs.WalkLaws.{pass-past, pass-twice, pass-unfit, pass-turn, pass-end, walks-stop, walks-end}
 use Rattle.damage.proofs.SumLaws.{sum-turn, sum-end, pass-short, sums-stop}

@@ -3,6 +3,7 @@ use mathlib.Core.Path.{_≡_, _∙_}
 use lib.ListN.{length}
 use borrow.Author.Needs.{needs}
 use borrow.Author.Tests.{eq-eqb, ne-eqb}
+use Rattle.numbers.specs.Limits.{windowWords}
 use Rattle.exports.proofs.Words.{put-all}
 use Rattle.exports.proofs.lyn_mark.Statement.{statement}
 use Rattle.exports.proofs.lyn_mark.Tie as tie
@@ -26,15 +27,18 @@ returns : tie.Need-returns
 returns c =
     let full = eq-eqb _ _ (c .before .before .before .before .before .before .before .before .if1 .taken) in
     let marked = c .before .before .before .before .before .mark in
-    let long : length (marked .result) ≡ 32 = search needs in
+    let long : length (marked .result) ≡ windowWords = search needs in
     let write = c .before .before .write-words in
-    let wrote = put-all 0 32 (c .before .before .before .before .before .before .before .before .before .before .args .words .now) (marked .result) (write .last .0) long (write .ensures) in
+    let wrote = put-all 0 windowWords (c .before .before .before .before .before .before .before .before .before .before .args .words .now) (marked .result) (write .last .0) long (write .ensures) in
     record { reply = simp full; buffer = wrote ∙ simp (full, marked .ensures, c .before .before .before .before .before .before .read-words .ensures) }
+
+number-requires : tie.Need-number-requires
+number-requires c κs = search needs
 
 returns-2 : tie.Need-returns-2
 returns-2 c =
-    let full = ne-eqb _ _ (c .if1 .left) in
-    record { reply = simp full; buffer = simp full }
+    let full = ne-eqb _ _ (c .before .if1 .left) in
+    record { reply = simp (full, c .number .ensures); buffer = simp full }
 
 pub lyn-mark-spec : {M : Type 1} → statement M
 lyn-mark-spec =
@@ -46,4 +50,5 @@ lyn-mark-spec =
     write-words-requires
     same-length
     returns
+    number-requires
     returns-2)

@@ -8,10 +8,13 @@ use Rattle.exports.proofs.Readings.{nothing, something, next-is, number
 use Rattle.exports.proofs.lyn_read.Statement.{statement}
 use Rattle.exports.proofs.lyn_read.Tie as tie
 
+number-requires : tie.Need-number-requires
+number-requires c κs = search needs
+
 returns : tie.Need-returns
 returns c =
-    let full = ne-eqb _ _ (c .if1 .taken) in
-    record { reply = simp full; buffer = simp full }
+    let full = ne-eqb _ _ (c .before .if1 .taken) in
+    record { reply = simp (full, c .number .ensures); buffer = simp full }
 
 read-requires : tie.Need-read-requires
 read-requires c κs = search needs
@@ -22,12 +25,16 @@ enum-known-command c = search needs
 enum-told : tie.Need-enum-told
 enum-told c = search needs
 
+number-requires-2 : tie.Need-number-requires-2
+number-requires-2 c κs = search needs
+
 returns-2 : tie.Need-returns-2
 returns-2 c =
-    let full = eq-eqb _ _ (c .before .before .before .if1 .left) in
-    let read = c .before .before .read in
-    let none = nothing (c .before .before .before .before .before .before .args .bytes .now) (c .before .before .before .before .before .before .args .place) (read .result) (read .ensures) (c .enum-told .given .1) in
-    record { reply = simp (full, none); buffer = simp (full, none) }
+    let full = eq-eqb _ _ (c .before .before .before .before .if1 .left) in
+    let read = c .before .before .before .read in
+    let args = c .before .before .before .before .before .before .before .args in
+    let none = nothing (args .bytes .now) (args .place) (read .result) (read .ensures) (c .before .enum-told .given .1) in
+    record { reply = simp (full, none, c .number2 .ensures); buffer = simp (full, none) }
 
 sub-put-command : tie.Need-sub-put-command
 sub-put-command c =
@@ -61,10 +68,12 @@ pub lyn-read-spec : {M : Type 1} → statement M
 lyn-read-spec =
     tie.close
     (tie.spec
+    number-requires
     returns
     read-requires
     enum-known-command
     enum-told
+    number-requires-2
     returns-2
     sub-put-command
     put-command-requires

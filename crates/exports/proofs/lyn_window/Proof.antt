@@ -4,19 +4,23 @@ use native.Mathlib.Omega.{arith}
 use lib.ListN.{length}
 use borrow.Author.Needs.{needs}
 use borrow.Author.Tests.{eq-eqb, ne-eqb}
+use Rattle.numbers.specs.Limits.{windowWords}
 use Rattle.window.specs.Window.{baseAfter, byTests}
 use Rattle.exports.proofs.Words.{put-all}
 use Rattle.exports.proofs.Codes.{verdict-code, verdict-small}
 use Rattle.exports.proofs.lyn_window.Statement.{statement}
 use Rattle.exports.proofs.lyn_window.Tie as tie
 
+number-requires : tie.Need-number-requires
+number-requires c κs = search needs
+
 mul-result : tie.Need-mul-result
 mul-result c = search needs
 
 returns : tie.Need-returns
 returns c =
-    let full = ne-eqb _ _ (c .if1 .taken) in
-    record { reply = simp full; buffer = simp full }
+    let full = ne-eqb _ _ (c .before .if1 .taken) in
+    record { reply = simp (full, c .number .ensures); buffer = simp full }
 
 read-words-requires : tie.Need-read-words-requires
 read-words-requires c κs = search needs
@@ -28,7 +32,7 @@ slice-aggregate-write-words : tie.Need-slice-aggregate-write-words
 slice-aggregate-write-words c = search needs
 
 write-words-requires : tie.Need-write-words-requires
-write-words-requires c κs = let long : length (c .before .before .before .judge .result .words) ≡ 32 = search needs in omega arith
+write-words-requires c κs = let long : length (c .before .before .before .judge .result .words) ≡ windowWords = search needs in omega arith
 
 cast-result : tie.Need-cast-result
 cast-result c = search needs
@@ -59,15 +63,16 @@ returns-2 c =
     let code : c .verdict-code .result ≡ byTests (args .base) (before .result) (args .group) 0 2 1 2 =
     c .verdict-code .ensures ∙ verdict-code (args .base) (before .result) (args .group) (judge .result .verdict) (judge .ensures .answer)
     in
-    let long : length (judge .result .words) ≡ 32 = search needs in
+    let long : length (judge .result .words) ≡ windowWords = search needs in
     let write = c .before .before .before .before .before .write-words in
-    let wrote = put-all 0 32 (args .words .now) (judge .result .words) (write .last .0) long (write .ensures) in
+    let wrote = put-all 0 windowWords (args .words .now) (judge .result .words) (write .last .0) long (write .ensures) in
     record { reply = rw (moved, code, before .ensures, full); buffer = wrote ∙ simp (full, judge .ensures .words, before .ensures) }
 
 pub lyn-window-spec : {M : Type 1} → statement M
 lyn-window-spec =
     tie.close
     (tie.spec
+    number-requires
     mul-result
     returns
     read-words-requires

@@ -1,8 +1,8 @@
--- `put_command` writes size, kind and row one after the other, which is how the row of 18 begins.
+-- `put_command` writes size, kind and row one after the other, which is how the row of all its numbers begins.
 use mathlib.Core.Path.{_≡_, _∙_}
 use lib.ListN.{length}
 use borrow.Author.Needs.{needs}
-use Rattle.command.specs.Bytes.{putRow}
+use Rattle.table.specs.Bytes.{putRow}
 use Rattle.exports.proofs.Words.{put-all}
 use Rattle.exports.proofs.put_command.Statement.{statement}
 use Rattle.exports.proofs.put_command.Tie as tie

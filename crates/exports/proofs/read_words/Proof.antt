@@ -5,19 +5,20 @@ use Prim.Native.Nat.{_-_, _≤_}
 use native.Mathlib.Omega.{arith}
 use lib.ListN.{length, take, replicate, length-set}
 use borrow.Author.Needs.{needs}
+use Rattle.numbers.specs.Limits.{windowWords}
 use Rattle.exports.specs.Buffers.{numbersIn}
 use Rattle.exports.proofs.Words.{left, read-start, read-step, read-done}
 use Rattle.exports.proofs.read_words.Statement.{statement}
 use Rattle.exports.proofs.read_words.Tie as tie
 
 abbrev Inv-loop : tie.InvT-loop
-Inv-loop s words₀ i₀ words i = (i ≤ 32) × (length words ≡ 32) × (take i words ++ left s 32 i ≡ numbersIn 32 s)
+Inv-loop s words₀ i₀ words i = (i ≤ windowWords) × (length words ≡ windowWords) × (take i words ++ left s windowWords i ≡ numbersIn windowWords s)
 
 abbrev μ-loop : tie.MeasureT-loop
-μ-loop s words₀ i₀ words i = 32 - i
+μ-loop s words₀ i₀ words i = windowWords - i
 
 loop-holds : tie.Need-loop-holds Inv-loop μ-loop
-loop-holds c = (search needs, search needs, read-start (c .before .args .s .now) 32 (replicate 32 0))
+loop-holds c = (search needs, search needs, read-start (c .before .args .s .now) windowWords (replicate windowWords 0))
 
 mul-word-at : tie.Need-mul-word-at Inv-loop μ-loop
 mul-word-at c = search needs
@@ -41,12 +42,12 @@ loop-again : tie.Need-loop-again Inv-loop μ-loop
 loop-again c = (
   search needs,
   simp length-set (c .before .before .loop .inv .1),
-  read-step (c .before .before .before .before .args .s .now) 32 (c .before .before .loop .words) (c .before .before .loop .i) (c .word-at .result) (omega arith) (omega arith) (c .word-at .ensures)
+  read-step (c .before .before .before .before .args .s .now) windowWords (c .before .before .loop .words) (c .before .before .loop .i) (c .word-at .result) (omega arith) (omega arith) (c .word-at .ensures)
       ∙ c .before .before .loop .inv .2,
 )
 
 returns : tie.Need-returns Inv-loop μ-loop
-returns c = sym (read-done (c .before .before .before .args .s .now) 32 (c .before .loop .words) (c .before .loop .i) (omega arith) (omega arith)) ∙ c .before .loop .inv .2
+returns c = sym (read-done (c .before .before .before .args .s .now) windowWords (c .before .loop .words) (c .before .loop .i) (omega arith) (omega arith)) ∙ c .before .loop .inv .2
 
 pub read-words-spec : {M : Type 1} → statement M
 read-words-spec =

@@ -1,4 +1,4 @@
--- `is_distant` compares the counted group with the base and 32 windows.
+-- `is_distant` compares the counted group with the base and the free windows from it on.
 use mathlib.Core.Logic.{⊎-elim}
 use borrow.Author.Tests.{lt-ltb, le-ltb}
 use borrow.Author.Needs.{needs}

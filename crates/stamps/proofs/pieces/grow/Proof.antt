@@ -2,7 +2,7 @@
 use Prim.Native.Nat.{_≤_}
 use mathlib.Core.Path.{_∙_}
 use Rattle.numbers.proofs.ModuloLaws.{sum-in-turn}
-use Rattle.command.proofs.LayoutLaws.{size-le}
+use Rattle.table.proofs.LayoutLaws.{size-le}
 use borrow.Author.Needs.{needs}
 use Rattle.stamps.proofs.pieces.grow.Statement.{statement}
 use Rattle.stamps.proofs.pieces.grow.Tie as tie

@@ -4,8 +4,8 @@ use mathlib.Core.List.{_++_}
 use lib.ListN.{replicate}
 use borrow.Author.Needs.{needs}
 use Rattle.slots.specs.Lists.{outgoing, outItems}
-use Rattle.slots.specs.Free.{markedAll}
-use Rattle.slots.proofs.Marked.{marked-append}
+use Rattle.runs.specs.Free.{markedAll}
+use Rattle.runs.proofs.Marked.{marked-append}
 use Rattle.stamps.proofs.room.marks.Statement.{statement}
 use Rattle.stamps.proofs.room.marks.Tie as tie
 

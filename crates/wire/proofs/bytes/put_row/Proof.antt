@@ -3,10 +3,10 @@ use mathlib.Core.Path.{_≡_, sym, ap, _∙_}
 use Prim.Native.Nat.{_+_, _-_, _≤_}
 use mathlib.Core.List.{[]}
 use lib.ListN.{length, drop, getD, drop-of-length-le}
-use Rattle.command.specs.Layout.{layout, total, sizeOf}
-use Rattle.command.specs.Bytes.{putRow}
-use Rattle.command.proofs.ByteLaws.{put-length}
-use Rattle.command.proofs.RowLaws.{total-step, total-turn, put-turn, put-end}
+use Rattle.table.specs.Layout.{layout, total, sizeOf}
+use Rattle.table.specs.Bytes.{putRow}
+use Rattle.table.proofs.ByteLaws.{put-length}
+use Rattle.table.proofs.RowLaws.{total-step, total-turn, put-turn, put-end}
 use borrow.Author.Needs.{needs}
 use native.Mathlib.Omega.{arith}
 use Rattle.wire.proofs.bytes.put_row.Statement.{statement}

@@ -4,11 +4,10 @@ use Prim.Native.Nat.{ℕ, _+_, _-_, _≤_}
 use mathlib.Core.List.{List, [], _++_, append-nil}
 use lib.ListN.{length, take, drop, length-set}
 use lib.Seq.{take-all}
-use Rattle.command.specs.Layout.{layout, total, sizeOf}
-use Rattle.command.specs.Bytes.{rowAt}
-use Rattle.command.specs.Rows.{pad}
-use Rattle.command.proofs.LayoutLaws.{width-le}
-use Rattle.command.proofs.RowLaws.{total-step, row-turn, total-turn}
+use Rattle.table.specs.Layout.{layout, total, sizeOf}
+use Rattle.table.specs.Bytes.{rowAt, pad}
+use Rattle.table.proofs.LayoutLaws.{width-le}
+use Rattle.table.proofs.RowLaws.{total-step, row-turn, total-turn}
 use borrow.Author.Needs.{needs}
 use native.Mathlib.Omega.{arith}
 use Rattle.wire.proofs.bytes.row_at.Statement.{statement}

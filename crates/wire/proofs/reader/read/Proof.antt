@@ -2,12 +2,11 @@
 use mathlib.Core.Path.{_≡_, ap, _∙_}
 use Prim.Native.Nat.{ℕ, _+_}
 use mathlib.Core.List.{List}
-use Rattle.command.specs.Layout.{layout, sizeOf}
-use Rattle.command.specs.Bytes.{rowAt}
-use Rattle.command.specs.Rows.{builtFrom, pad}
+use Rattle.table.specs.Layout.{layout, sizeOf}
+use Rattle.table.specs.Bytes.{rowAt, pad, Bytes}
+use Rattle.build.specs.Built.{builtFrom}
 use Rattle.wire.specs.Reading.{kindAt}
 use Rattle.wire.specs.Steps.{placed}
-use Rattle.command.proofs.ByteLaws.{Bytes}
 use Rattle.wire.proofs.ReadLaws.{whole-none, whole-some, whole-kind, whole-room, read-found}
 use native.Mathlib.Omega.{arith}
 use borrow.Author.Needs.{needs}

@@ -1,6 +1,6 @@
 -- Each 0 is a test of the definition that fails; past them all hold.
 use Rattle.wire.specs.Reading.{kindAt}
-use Rattle.command.proofs.LayoutLaws.{known-size, size-known}
+use Rattle.table.proofs.LayoutLaws.{known-size, size-known}
 use Rattle.wire.proofs.ReadLaws.{kind-past, kind-unknown, kind-short, kind-whole}
 use native.Mathlib.Omega.{arith}
 use borrow.Author.Needs.{needs}

@@ -2,8 +2,8 @@
 use mathlib.Core.Path.{sym, ap, _∙_}
 use Prim.Native.Nat.{_%_}
 use borrow.Author.Tests.{not-true, not-false}
-use Rattle.command.specs.Layout.{layout, sizeOf}
-use Rattle.command.specs.Bytes.{putRow}
+use Rattle.table.specs.Layout.{layout, sizeOf}
+use Rattle.table.specs.Bytes.{putRow}
 use Rattle.wire.proofs.WriteLaws.{write-unnamed, write-short, write-done, named-kind}
 use native.Mathlib.Omega.{arith}
 use borrow.Author.Needs.{needs}

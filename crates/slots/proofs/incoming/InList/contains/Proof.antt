@@ -2,7 +2,7 @@
 use mathlib.Core.Path.{sym, _∙_}
 use borrow.Author.Needs.{needs}
 use Rattle.slots.specs.Lists.{inItems}
-use Rattle.slots.proofs.ListLaws.{found-has, nowhere-has}
+use Rattle.runs.proofs.ListLaws.{found-has, nowhere-has}
 use Rattle.slots.proofs.incoming.InList.contains.Statement.{statement}
 use Rattle.slots.proofs.incoming.InList.contains.Tie as tie
 

@@ -1,0 +1,4 @@
+pub mod TableLaws
+pub mod LayoutLaws
+pub mod ByteLaws
+pub mod RowLaws
