@@ -1,8 +1,15 @@
 -- "States are 0 to 9 in public ENet's order."
 use Prim.Native.Nat.{ℕ}
+use mathlib.Core.Bool.{Bool}
+use lib.Dec.{eqb}
+use Rattle.parts.specs.declared.groups.Standing.{Standing}
 
 abbrev pub connected : ℕ
 connected = 5
 
 abbrev pub lastState : ℕ
 lastState = 9
+
+-- "NotConnected: send, ping, state not 5"
+abbrev pub isConnected : Standing → Bool
+isConnected standing = eqb (standing .state) connected

@@ -40,19 +40,19 @@ use Rattle.stamps.specs.declared.outbox.Queued.{Queued}
 use Rattle.setup.specs.Queueing.{room, queued, queuedAll}
 use Rattle.setup.specs.Taking.{Ready}
 use Rattle.setup.proofs.Stored.{stored, Says, says-first, stored-first, open-room, Turned, turn-on}
-use Rattle.sending.specs.Packets.{isReliable, isUnsequenced, spent, blank, reliableByte, unreliableByte, unsequencedByte, whole, startOf, cutCommand, pieces}
-use Rattle.sending.specs.Calls.{cutBy, fragment, commands, sendGate, queueGate, sendsSound, sends, pingPiece}
-use Rattle.sending.specs.Plans.{packetOf, piecesOf, countOf, leftOf, pieceAt, nextAt, Within, planBy, planOf}
-use Rattle.sending.specs.declared.packets.Start.{Start}
-use Rattle.sending.specs.declared.packets.Start.the-variants as start
+use Rattle.packets.specs.Packets.{isReliable, isUnsequenced, spent, blank, reliableByte, unreliableByte, unsequencedByte, whole, startOf, cutCommand, pieces}
+use Rattle.sending.specs.Calls.{cutBy, fragment, commands, sendGate, queueGate, sendsSound, sends}
+use Rattle.sending.specs.Plans.{packetOf, piecesOf, countOf, leftOf, pieceAt, nextAt, planBy, planOf}
+use Rattle.packets.specs.declared.Start.{Start}
+use Rattle.packets.specs.declared.Start.the-variants as start
 use Rattle.command.specs.declared.fields.Fragment.{Fragment}
 use Rattle.command.specs.declared.fields.Fields.the-variants.{SendReliable, SendUnreliable, SendUnsequenced}
 use Rattle.sending.specs.declared.plans.Packet.{Packet}
 use Rattle.sending.specs.declared.plans.Packet.the-variants.{One, Pieces}
 use Rattle.sending.specs.declared.plans.Plan.{Plan}
 use Rattle.sending.specs.declared.plans.Plan.the-variants as plan
-use Rattle.sending.proofs.Ranges.{mtu-high, count-high, length-high}
-use Rattle.sending.proofs.Planning.{left-all, left-length, left-turn, left-end, within-next}
+use Rattle.sending.proofs.Ranges.{count-high}
+use Rattle.sending.proofs.Planning.{left-all, left-length, left-turn, left-end}
 use Rattle.sending.proofs.Sound.{gate-channel, commands-fit}
 use Rattle.sending.proofs.Sends.{queue-room}
 
@@ -65,14 +65,13 @@ abbrev whyIn : Plan → Refusal
 whyIn (plan.Refused why) = why
 whyIn (plan.Queue x) = FailedToQueue
 
-abbrev packetIn : Plan → Packet
-packetIn (plan.Refused why) = One pingPiece
-packetIn (plan.Queue x) = x
+abbrev packetIn : Packet → Plan → Packet
+packetIn k (plan.Refused why) = k
+packetIn k (plan.Queue x) = x
 
 module _ (x : Packet) (count channel : ℕ) (p₀ : Peer) where
   pub record Going (p : Peer) (o : Outbox) (j offset : ℕ) : Type 0 where
     pub low : j ≤ count
-    pub within : Within x offset
     pub on : (j offset : ℕ) → pieceAt x j offset .command .channel ≡ channel
     pub here : channel < length (p .channels)
     pub says : Says (o .marks) (usedOut (o .lists))
@@ -102,7 +101,6 @@ module _ (x : Packet) (count channel : ℕ) (p₀ : Peer) where
           rw ne
           (record {
             low = omega arith;
-            within = within-next x offset (g .within);
             on = g .on;
             here = g .here;
             says = turned .says;
@@ -150,16 +148,9 @@ packet-on flags c channel n fragment j offset = go (leb n fragment)
     go true = whole-channel flags c channel n
     go false = cut-channel (startOf flags c) channel _
 
-packet-within : (flags : ℕ) (c : Channel) (channel n fragment : ℕ) → fragment ≤ 65535 → Within (packetOf flags c channel n fragment) 0
-packet-within flags c channel n fragment h = go (leb n fragment)
-  where
-    go : (b : Bool) → Within (pick b (One (whole flags c channel n)) (Pieces (cutBy (startOf flags c) channel n fragment))) 0
-    go true = tt
-    go false = (omega arith, h)
-
 -- a plan to queue has passed both gates
 plan-open : (g : Gate) (k x : Packet) → planBy g k ≡ plan.Queue x → (g ≡ Open) × (k ≡ x)
-plan-open Open k x e = (refl, ap packetIn e)
+plan-open Open k x e = (refl, ap (packetIn k) e)
 plan-open (Shut why) k x e = absurd (omega (arith, ap queues e))
 
 plan-shut : (g : Gate) (k : Packet) (why : Refusal) → planBy g k ≡ plan.Refused why → g ≡ Shut why
@@ -247,7 +238,6 @@ module _ (s : Settings) (channel n flags : ℕ) (p : Peer) (ws : List ℕ) (v : 
         rw ce
         (record {
           low = omega arith;
-          within = rw (← is) (packet-within flags (channelAt (p .channels) channel) channel n (fragment s p) (length-high (p .flow .mtu) (s .checksum) (mtu-high p good)));
           on = λ j offset. rw (← is) (packet-on flags (channelAt (p .channels) channel) channel n (fragment s p) j offset);
           here = here;
           says = rw oe (says-first (usedOut (p .lists)));

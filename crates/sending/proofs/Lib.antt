@@ -1,8 +1,6 @@
 pub mod Ranges
-pub mod Cuts
 pub mod Planning
 pub mod Numbers
 pub mod Sound
 pub mod Sends
 pub mod Going
-pub mod Pings

@@ -27,10 +27,10 @@ use Rattle.setup.specs.Taking.{filled, Ready}
 use Rattle.stamps.specs.declared.pieces.Piece.{Piece}
 use Rattle.setup.proofs.Taking.{queued-at}
 use Rattle.setup.proofs.Taking.{step as setup}
-use Rattle.sending.specs.Packets.{lengthAt, cutPiece, cutFrom, pieces}
+use Rattle.packets.specs.Packets.{lengthAt, cutPiece, cutFrom, pieces}
 use Rattle.sending.specs.Done.{Bears}
-use Rattle.sending.specs.declared.packets.Start.the-variants as start
-use Rattle.sending.specs.declared.packets.Cut.{Cut}
+use Rattle.packets.specs.declared.Start.the-variants as start
+use Rattle.packets.specs.declared.Cut.{Cut}
 
 -- a channel after a setup on it: its two outgoing numbers, and that it is still there
 record Next (y : Piece) (p : Peer) (channel r u : ℕ) : Type 0 where

@@ -19,14 +19,14 @@ use Rattle.stamps.specs.Counting.{channelAt}
 use Rattle.stamps.specs.Outboxes.{freeIn}
 use Rattle.stamps.specs.declared.pieces.Piece.{Piece}
 use Rattle.stamps.specs.declared.outbox.Outbox.{Outbox}
-use Rattle.sending.specs.Packets.{fragmentLength, lengthAt, whole, startOf, cutFrom, pieces}
+use Rattle.packets.specs.Packets.{fragmentLength, lengthAt, whole, startOf, cutFrom, pieces}
 use Rattle.sending.specs.Calls.{cutBy, sendGate, queueGate}
-use Rattle.sending.specs.Plans.{packetOf, piecesOf, countOf, leftOf, pieceAt, nextAt, Within, planBy, planOf}
+use Rattle.sending.specs.Plans.{packetOf, piecesOf, countOf, leftOf, pieceAt, nextAt, planBy, planOf}
 use Rattle.sending.specs.declared.plans.Packet.{Packet}
 use Rattle.sending.specs.declared.plans.Packet.the-variants.{One, Pieces}
 use Rattle.sending.specs.declared.plans.Plan.{Plan}
 use Rattle.sending.specs.declared.plans.Plan.the-variants.{Refused, Queue}
-use Rattle.sending.proofs.Cuts.{cut-length}
+use Rattle.packets.proofs.Cuts.{cut-length}
 
 module _ (s : Settings) (standing : Standing) (flow : Flow) (cs : List Channel) (o : Outbox) (channel n flags : ℕ) where
   abbrev packet : Packet
@@ -68,7 +68,3 @@ pub left-end : (x : Packet) (n j offset : ℕ) → n ≤ j → leftOf x (n - j) 
 unfolding cutFrom
 left-end (One x) n j offset h = let e : n - j ≡ 0 = omega arith in rw e
 left-end (Pieces x) n j offset h = let e : n - j ≡ 0 = omega arith in rw e
-
-pub within-next : (x : Packet) (offset : ℕ) → Within x offset → Within x (nextAt x offset)
-within-next (One x) offset w = w
-within-next (Pieces x) offset w = (omega (arith, w .0), w .1)

@@ -11,7 +11,7 @@ use Rattle.parts.specs.Damage.{ranged}
 use Rattle.peer.specs.Damage.{sound}
 use Rattle.peer.specs.declared.record.Peer.{Peer}
 use Rattle.parts.specs.Sizes.{channels}
-use Rattle.sending.specs.Packets.{fragmentLength}
+use Rattle.packets.specs.Packets.{fragmentLength}
 
 module _ (p : Peer) (h : sound p ≡ true) where
   in-range : ranged (p .flow .mtu) (p .standing .count) ≡ true

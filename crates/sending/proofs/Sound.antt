@@ -1,6 +1,6 @@
--- Soundness through send and ping: done, the record is sound, and a sound one stays so.
--- The argument: each piece of a send is on the packet's channel, tested to be below the count, and its byte names its fields; a ping is the
--- peer's own. So setting them all up keeps soundness.
+-- Soundness through a send: done, the record is sound, and a sound one stays so.
+-- The argument: each piece of a send is on the packet's channel, tested to be below the count, and its byte names its fields. So setting
+-- them all up keeps soundness.
 use Prim.Native.Nat.{ℕ, zero, suc, _+_, _≤_}
 use mathlib.Core.Path.{_≡_, refl, ap, _∙_}
 use native.Mathlib.Omega.{arith}
@@ -25,21 +25,21 @@ use Rattle.peer.proofs.Gates.{openness, behind-has}
 use Rattle.peer.specs.declared.settings.Settings.{Settings}
 use Rattle.peer.specs.declared.record.Peer.{Peer}
 use Rattle.numbers.specs.declared.refusals.Refusal.the-variants.{NotConnected, InvalidChannel, PacketTooLarge}
-use Rattle.parts.specs.Sizes.{itself}
 use Rattle.parts.specs.declared.groups.Standing.{Standing}
 use Rattle.parts.specs.declared.groups.Channel.{Channel}
-use Rattle.stamps.specs.Counting.{channelAt, isItself}
+use Rattle.stamps.specs.Counting.{channelAt}
 use Rattle.setup.specs.Queueing.{room, queuedAll}
 use Rattle.setup.specs.Calls.{onChannel}
 use Rattle.setup.specs.Taking.{allFit, Ready}
 use Rattle.stamps.specs.declared.pieces.Piece.{Piece}
 use Rattle.peer.proofs.Sound.{gated-sounds}
 use Rattle.setup.proofs.Sound.{queuedAll-sound, queuedAll-whole}
-use Rattle.sending.specs.Packets.{isReliable, isUnsequenced, spent, blank, reliableByte, unreliableByte, unsequencedByte, whole, startOf, fragmentOf, cutCommand, lengthAt, cutFrom, pieces}
-use Rattle.sending.specs.Calls.{isConnected, queueGate, queuesAll, fragment, cutBy, commands, sendGate, sendsSound, sends, pingPiece, pingGate, pingsSound, pings}
-use Rattle.sending.specs.declared.packets.Start.{Start}
-use Rattle.sending.specs.declared.packets.Start.the-variants as start
-use Rattle.sending.specs.declared.packets.Cut.{Cut}
+use Rattle.packets.specs.Packets.{isReliable, isUnsequenced, spent, blank, reliableByte, unreliableByte, unsequencedByte, whole, startOf, fragmentOf, cutCommand, lengthAt, cutFrom, pieces}
+use Rattle.peer.specs.States.{isConnected}
+use Rattle.sending.specs.Calls.{queueGate, queuesAll, fragment, cutBy, commands, sendGate, sendsSound, sends}
+use Rattle.packets.specs.declared.Start.{Start}
+use Rattle.packets.specs.declared.Start.the-variants as start
+use Rattle.packets.specs.declared.Cut.{Cut}
 
 -- a command that setup refuses neither for its channel nor for its fields
 abbrev fits : ℕ → Command → Bool
@@ -78,14 +78,6 @@ pub cut-ready : (x : Cut) (p : Peer) → Whole p → sound p ≡ true → ltb (x
     → Ready (pieces x) p
 cut-ready x p pool h on few =
     record { whole = pool; good = h; fit = cut-fit x (p .standing .count) on (x .count) 0 0; few = few }
-
-pub ping-fit : (count : ℕ) → allFit count (pingPiece ∷ []) ≡ true
-unfolding allFit
-ping-fit count = go (ltb itself count)
-  where
-    go : (b : Bool) → both (both (pick b true (isItself itself)) (namesFields (pingPiece .command))) true ≡ true
-    go true = refl
-    go false = refl
 
 -- a send's gate tells that the channel is there
 send-gate : (a b c : Bool) → pick a (pick b (pick c Open (Shut PacketTooLarge)) (Shut InvalidChannel)) (Shut NotConnected) ≡ Open → b ≡ true
@@ -136,8 +128,3 @@ module _ (s : Settings) (channel length flags : ℕ) (p : Peer) (w : Whole p) wh
 pub send-sounds : (s : Settings) (channel length flags : ℕ) → Sounds (sends s channel length flags)
 send-sounds s channel length flags =
     gated-sounds s (sendsSound s channel length flags) (λ p w h. send-keeps s channel length flags p w h) (λ p w. send-whole s channel length flags p w)
-
-pub ping-sounds : (s : Settings) → Sounds (pings s)
-ping-sounds s =
-    gated-sounds s pingsSound (λ p w h. all-keeps (pingPiece ∷ []) p w (pingGate (p .standing) (room p)) h (ping-fit (p .standing .count)))
-    (λ p w. all-whole (pingPiece ∷ []) p w (pingGate (p .standing) (room p)))

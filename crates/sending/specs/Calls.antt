@@ -1,18 +1,16 @@
--- Send and ping. A send is its commands set up in order, or none of them.
+-- A send is its commands set up in order, or none of them.
 use Prim.Native.Nat.{ℕ}
-use mathlib.Core.Bool.{Bool, false}
+use mathlib.Core.Bool.{Bool}
 use mathlib.Core.List.{List, [], _∷_}
-use lib.Dec.{leb, ltb, eqb}
+use lib.Dec.{leb, ltb}
 use lib.ListN.{length}
 use Rattle.numbers.specs.Pick.{pick}
 use Rattle.numbers.specs.Limits.{mostFragments}
 use Rattle.numbers.specs.declared.refusals.Refusal.the-variants.{NotConnected, InvalidChannel, PacketTooLarge, FragmentsExceeded, FailedToQueue}
-use Rattle.command.specs.declared.fields.Fields.the-variants.{Ping}
-use Rattle.parts.specs.Sizes.{itself}
 use Rattle.parts.specs.declared.groups.Standing.{Standing}
-use Rattle.peer.specs.States.{connected}
+use Rattle.peer.specs.States.{isConnected}
 use Rattle.peer.specs.Outcome.{Outcome, finished}
-use Rattle.peer.specs.Gate.{then, behind, onRecord}
+use Rattle.peer.specs.Gate.{behind, onRecord}
 use Rattle.peer.specs.declared.settings.Settings.{Settings}
 use Rattle.peer.specs.declared.record.Peer.{Peer}
 use Rattle.peer.specs.declared.gate.Gate.{Gate}
@@ -20,13 +18,9 @@ use Rattle.peer.specs.declared.gate.Gate.the-variants.{Open, Shut}
 use Rattle.stamps.specs.Counting.{channelAt}
 use Rattle.stamps.specs.declared.pieces.Piece.{Piece}
 use Rattle.setup.specs.Queueing.{room, queuedAll}
-use Rattle.sending.specs.Packets.{fragmentLength, pieceCount, blank, pingByte, whole, startOf, pieces}
-use Rattle.sending.specs.declared.packets.Start.{Start}
-use Rattle.sending.specs.declared.packets.Cut.{Cut}
-
--- "NotConnected: send, ping, state not 5"
-abbrev pub isConnected : Standing → Bool
-isConnected standing = eqb (standing .state) connected
+use Rattle.packets.specs.Packets.{fragmentLength, pieceCount, whole, startOf, pieces}
+use Rattle.packets.specs.declared.Start.{Start}
+use Rattle.packets.specs.declared.Cut.{Cut}
 
 -- the fragment length comes from the record's MTU, the checksum from the settings
 abbrev pub fragment : Settings → Peer → ℕ
@@ -64,17 +58,3 @@ sendsSound s channel length flags p =
 
 abbrev pub sends : Settings → ℕ → ℕ → ℕ → Peer → Outcome Peer
 sends s channel length flags p = onRecord s p (sendsSound s channel length flags p)
-
--- "Ping queues command 5 with the acknowledge flag, channel 255, no packet."
-abbrev pub pingPiece : Piece
-pingPiece = record { command = blank pingByte itself Ping; packet = false; offset = 0; length = 0 }
-
--- 1, 5
-abbrev pub pingGate : Standing → ℕ → Gate
-pingGate standing free = pick (isConnected standing) (queueGate 1 free) (Shut NotConnected)
-
-abbrev pub pingsSound : Peer → Outcome Peer
-pingsSound p = behind (pingGate (p .standing) (room p)) p (finished (queuedAll (pingPiece ∷ []) p))
-
-abbrev pub pings : Settings → Peer → Outcome Peer
-pings s p = onRecord s p (pingsSound p)

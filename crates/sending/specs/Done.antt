@@ -9,21 +9,8 @@ use Rattle.parts.specs.declared.groups.Outgoing.{Outgoing}
 use Rattle.stamps.specs.declared.pieces.Piece.{Piece}
 use Rattle.setup.specs.Queueing.{queuedAll}
 use Rattle.setup.specs.Taking.{Ready}
-use Rattle.sending.specs.Packets.{cutCommand, pieces}
-use Rattle.sending.specs.declared.packets.Cut.{Cut}
-
--- how many bytes pieces carry together
-unfoldable pub span : List Piece → ℕ
-span [] = 0
-span (y ∷ ys) = y .length + span ys
-
--- piece i of a packet: it begins where the pieces before it end, and its command tells the packet, the piece's place and its bytes
-pub record Part (x : Cut) (i : ℕ) (y : Piece) : Type 0 where
-  pub packet : y .packet ≡ true
-  pub offset : y .offset ≡ span (take i (pieces x))
-  pub command :
-      y .command
-      ≡ cutCommand (x .start) (x .channel) (record { length = y .length; count = x .count; number = i; total = x .length; offset = y .offset })
+use Rattle.packets.specs.Packets.{cutCommand, pieces}
+use Rattle.packets.specs.declared.Cut.{Cut}
 
 -- the numbers that a slot bears; the header's is the reliable one
 pub record Bears (o : Outgoing) (r u : ℕ) : Type 0 where

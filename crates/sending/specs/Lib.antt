@@ -1,4 +1,3 @@
-pub mod Packets
 pub mod Calls
 pub mod Plans
 pub mod Done

@@ -1,5 +1,5 @@
 -- Only the code's own: a packet as one value, its commands one after another, and what a send is to do. The rule is in Calls.
-use Prim.Native.Nat.{ℕ, _+_, _≤_}
+use Prim.Native.Nat.{ℕ, _+_}
 use mathlib.Core.List.{List, [], _∷_}
 use lib.Dec.{leb}
 use lib.ListN.{replicate}
@@ -15,7 +15,7 @@ use Rattle.stamps.specs.Counting.{channelAt}
 use Rattle.stamps.specs.Outboxes.{freeIn}
 use Rattle.stamps.specs.declared.pieces.Piece.{Piece}
 use Rattle.stamps.specs.declared.outbox.Outbox.{Outbox}
-use Rattle.sending.specs.Packets.{fragmentLength, whole, startOf, lengthAt, cutPiece, cutFrom, pieces}
+use Rattle.packets.specs.Packets.{fragmentLength, whole, startOf, lengthAt, cutPiece, cutFrom, pieces}
 use Rattle.sending.specs.Calls.{cutBy, sendGate, queueGate}
 use Rattle.sending.specs.declared.plans.Packet.{Packet}
 use Rattle.sending.specs.declared.plans.Packet.the-variants.{One, Pieces}
@@ -46,11 +46,6 @@ pieceAt (Pieces x) j offset = cutPiece x j offset
 abbrev pub nextAt : Packet → ℕ → ℕ
 nextAt (One x) offset = offset
 nextAt (Pieces x) offset = offset + lengthAt x offset
-
--- an offset in a packet whose pieces fit their length's 16 bits
-abbrev pub Within : Packet → ℕ → Type 0
-Within (One x) offset = Unit {0}
-Within (Pieces x) offset = (offset ≤ x .length) × (x .fragment ≤ 65535)
 
 abbrev pub planBy : Gate → Packet → Plan
 planBy Open packet = Queue packet

@@ -1,4 +1,3 @@
-// Send and ping: a packet becomes commands, one or a piece each.
+// Send: a packet becomes commands, one or a piece each.
 pub mod calls;
-pub mod packets;
 mod plans;

@@ -4,10 +4,10 @@ ghost use Prim.Native.Nat.{_≤_, _<_};
 ghost use Rattle.numbers.specs.Limits.{leastMtu, mostMtu};
 ghost use Rattle.parts.specs.Sizes.{channels as size};
 ghost use Rattle.stamps.specs.Counting.{channelAt};
+ghost use Rattle.packets.specs.Packets.{pieceCount};
 ghost use Rattle.sending.specs.Calls.{sendGate, queueGate};
-ghost use Rattle.sending.specs.Plans.{packetOf, countOf, pieceAt, nextAt, Within, planOf};
-use crate::packets;
-use crate::packets::Cut;
+ghost use Rattle.sending.specs.Plans.{packetOf, countOf, pieceAt, nextAt, planOf};
+use packets::Cut;
 use numbers::consts;
 use numbers::refusals::Refusal;
 use parts::groups::CHANNELS;
@@ -62,15 +62,24 @@ pub(crate) fn may_queue(count: u32, free: usize) -> Gate
     Gate::Open
 }
 
+// How many pieces of the fragment length a packet makes, the last one perhaps shorter.
+fn piece_count(fragment: u16, length: u32) -> u32
+    requires { ⌜ 1 ≤ fragment ⌝ }
+    ensures { λ r. ⌜ r ≡ pieceCount fragment length ⌝ }
+{
+    let wide = (length as u64) + (fragment as u64) - 1;
+    (wide / (fragment as u64)) as u32
+}
+
 // Exactly the fragment length is one command, one more is pieces.
-fn packet_of(flags: u32, c: Channel, channel: u8, length: u32, fragment: u32) -> Packet
-    requires { ⌜ (1 ≤ fragment) × (fragment ≤ 65535) ⌝ }
+fn packet_of(flags: u32, c: Channel, channel: u8, length: u32, fragment: u16) -> Packet
+    requires { ⌜ 1 ≤ fragment ⌝ }
     ensures { λ r. ⌜ r ≡ packetOf flags c channel length fragment ⌝ }
 {
-    if length <= fragment {
+    if length <= fragment as u32 {
         return Packet::One(packets::whole(flags, c, channel, length as u16));
     }
-    let count = packets::piece_count(fragment, length);
+    let count = piece_count(fragment, length);
     let start = packets::starting(flags, c);
     Packet::Pieces(Cut {
         channel,
@@ -92,7 +101,6 @@ pub(crate) fn count_of(packet: Packet) -> u32
 
 // Command j of a packet, at its offset.
 pub(crate) fn piece_at(packet: Packet, j: u32, offset: u32) -> Piece
-    requires { ⌜ Within packet offset ⌝ }
     ensures { λ r. ⌜ r ≡ pieceAt packet j offset ⌝ }
 {
     match packet {
@@ -103,12 +111,11 @@ pub(crate) fn piece_at(packet: Packet, j: u32, offset: u32) -> Piece
 
 // Where the next one begins.
 pub(crate) fn next_at(packet: Packet, offset: u32) -> u32
-    requires { ⌜ Within packet offset ⌝ }
     ensures { λ r. ⌜ r ≡ nextAt packet offset ⌝ }
 {
     match packet {
         Packet::One(_x) => offset,
-        Packet::Pieces(x) => offset + packets::length_at(x, offset),
+        Packet::Pieces(x) => offset + packets::length_at(x, offset) as u32,
     }
 }
 
@@ -140,7 +147,7 @@ pub(crate) fn judge(
     }
     let c = channel_at(channels, channel);
     let fragment = packets::fragment_length(flow.mtu, settings.checksum);
-    let packet = packet_of(flags, c, channel, length, fragment);
+    let packet = packet_of(flags, c, channel, length, fragment as u16);
     let room = may_queue(count_of(packet), outbox::room(o));
     if let Gate::Shut(why) = room {
         return Plan::Refused(why);

@@ -101,7 +101,7 @@ loop-holds c =
     (t .enum-told .given .1) (o .«open» .result) (o .«open» .ensures) (j .judge .result) (j .judge .ensures) whole (k .0 .0) (k .1) (c .count-of .result) (c .count-of .ensures)
 
 piece-at-requires : tie.Need-piece-at-requires Inv-loop μ-loop
-piece-at-requires c κs = c .before .loop .inv .within
+piece-at-requires c κs = search needs
 
 queue-requires : tie.Need-queue-requires Inv-loop μ-loop
 queue-requires c κs = search needs
@@ -131,7 +131,7 @@ element-set-from-slot c =
     search needs
 
 next-at-requires : tie.Need-next-at-requires Inv-loop μ-loop
-next-at-requires c κs = c .before .before .before .before .before .loop .inv .within
+next-at-requires c κs = search needs
 
 add-j : tie.Need-add-j Inv-loop μ-loop
 add-j c = search needs

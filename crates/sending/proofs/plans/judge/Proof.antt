@@ -1,4 +1,5 @@
 -- `judge` asks the first three refusals, makes the packet of a channel that is then there, and asks the last two.
+use Prim.Native.Nat.{_≤_}
 use mathlib.Core.Path.{sym, _∙_}
 use native.Mathlib.Omega.{arith}
 use borrow.Author.Needs.{needs}
@@ -35,12 +36,18 @@ channel-at-requires c κs =
 fragment-length-requires : tie.Need-fragment-length-requires
 fragment-length-requires c κs = search needs
 
+cast-packet-of : tie.Need-cast-packet-of
+cast-packet-of c =
+    let m = c .before .before .before .before .before in
+    let a = m .args in
+    let h : c .fragment-length .result ≤ 65535 = rw (c .fragment-length .ensures) (length-high (a .flow .mtu) (a .settings .checksum) (m .pre .1)) in
+    search needs
+
 packet-of-requires : tie.Need-packet-of-requires
 packet-of-requires c κs =
     let m = c .before .before .before .before .before in
     let a = m .args in
-    rw (c .fragment-length .ensures)
-    (length-low (a .flow .mtu) (a .settings .checksum) (m .pre .0), length-high (a .flow .mtu) (a .settings .checksum) (m .pre .1))
+    rw (c .fragment-length .ensures) (length-low (a .flow .mtu) (a .settings .checksum) (m .pre .0))
 
 count-of-requires : tie.Need-count-of-requires
 count-of-requires c κs = search needs
@@ -92,6 +99,7 @@ judge-spec =
     enum-told
     channel-at-requires
     fragment-length-requires
+    cast-packet-of
     packet-of-requires
     count-of-requires
     room-requires

@@ -10,10 +10,10 @@ enum-known-packet-2 : tie.Need-enum-known-packet-2
 enum-known-packet-2 c = search needs
 
 length-at-requires : tie.Need-length-at-requires
-length-at-requires c κs =
-    let m = c .before .before .before in
-    let w = rw (c .before .packet2 .given .1) at (m .pre) in
-    w .0
+length-at-requires c κs = search needs
+
+cast-result : tie.Need-cast-result
+cast-result c = search needs
 
 add-result : tie.Need-add-result
 add-result c = search needs
@@ -26,4 +26,4 @@ returns-2 c = rw (c .before .before .packet2 .given .1, c .length-at .ensures)
 
 pub next-at-spec : {M : Type 1} → statement M
 next-at-spec =
-    tie.close (tie.spec enum-known-packet enum-known-packet-2 length-at-requires add-result returns returns-2)
+    tie.close (tie.spec enum-known-packet enum-known-packet-2 length-at-requires cast-result add-result returns returns-2)

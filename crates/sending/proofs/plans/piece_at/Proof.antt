@@ -1,8 +1,6 @@
 -- `piece_at` meets its contract: the packet itself picks the case.
 use mathlib.Core.Path.{ap, sym, _∙_}
 use borrow.Author.Needs.{needs}
-use Rattle.sending.specs.Plans.{Within, pieceAt}
-use Rattle.sending.specs.declared.plans.Packet.{Packet}
 use Rattle.sending.proofs.plans.piece_at.Statement.{statement}
 use Rattle.sending.proofs.plans.piece_at.Tie as tie
 
@@ -13,9 +11,7 @@ enum-known-packet-2 : tie.Need-enum-known-packet-2
 enum-known-packet-2 c = search needs
 
 piece-requires : tie.Need-piece-requires
-piece-requires c κs =
-    let m = c .before .before .before in
-    rw (c .before .packet2 .given .1) at (m .pre)
+piece-requires c κs = search needs
 
 returns : tie.Need-returns
 returns c = rw (c .before .packet .given .1)

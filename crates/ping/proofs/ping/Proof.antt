@@ -6,12 +6,12 @@ use Rattle.slots.specs.Lists.{outgoing}
 use Rattle.peer.specs.Calls.{answerOf}
 use Rattle.peer.specs.declared.gate.Lent.the-variants.{Nothing}
 use Rattle.peer.proofs.Gates.{came-shut}
-use Rattle.setup.specs.Queueing.{room, queuedAll}
+use Rattle.setup.specs.Queueing.{room}
 use Rattle.setup.proofs.Setups.{one-shut, one-at, one-left}
-use Rattle.sending.specs.Calls.{pingPiece, pingGate, pingsSound}
-use Rattle.sending.proofs.Pings.{ping-gate, ping-some}
-use Rattle.sending.proofs.calls.ping.Statement.{statement}
-use Rattle.sending.proofs.calls.ping.Tie as tie
+use Rattle.ping.specs.Calls.{pingPiece, pingGate, pingsSound}
+use Rattle.ping.proofs.Pings.{ping-gate, ping-some}
+use Rattle.ping.proofs.ping.Statement.{statement}
+use Rattle.ping.proofs.ping.Tie as tie
 
 worths-requires : tie.Need-worths-requires
 worths-requires c κs = search needs
@@ -47,7 +47,6 @@ enum-known-may : tie.Need-enum-known-may
 enum-known-may c = search needs
 
 returns-2 : tie.Need-returns-2
-unfolding queuedAll
 returns-2 c =
     let j = c .before .before .before in
     let o = j .before .before .before in
@@ -105,7 +104,6 @@ number-requires : tie.Need-number-requires
 number-requires c κs = search needs
 
 returns-3 : tie.Need-returns-3
-unfolding queuedAll
 returns-3 c =
     let n = c .before .before .before in
     let q = n .before .before .before .before .before .before .before .before in

@@ -4,9 +4,9 @@ use mathlib.Core.Path.{sym, ap, _∙_}
 use mathlib.Core.Logic.{⊎-elim}
 use borrow.Author.Needs.{needs}
 use borrow.Author.Tests.{not-true, not-false, le-leb, lt-leb}
-use Rattle.sending.specs.declared.packets.Start.the-variants as start
-use Rattle.sending.proofs.packets.starting.Statement.{statement}
-use Rattle.sending.proofs.packets.starting.Tie as tie
+use Rattle.packets.specs.declared.Start.the-variants as start
+use Rattle.packets.proofs.starting.Statement.{statement}
+use Rattle.packets.proofs.starting.Tie as tie
 
 is-set-requires : tie.Need-is-set-requires
 is-set-requires c κs = search needs

@@ -2,8 +2,8 @@
 use mathlib.Core.Path.{sym, _∙_}
 use borrow.Author.Needs.{needs}
 use borrow.Author.Tests.{le-leb, lt-leb}
-use Rattle.sending.proofs.packets.whole_command.Statement.{statement}
-use Rattle.sending.proofs.packets.whole_command.Tie as tie
+use Rattle.packets.proofs.whole_command.Statement.{statement}
+use Rattle.packets.proofs.whole_command.Tie as tie
 
 unsequenced-requires : tie.Need-unsequenced-requires
 unsequenced-requires c κs = search needs

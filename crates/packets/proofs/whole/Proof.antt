@@ -1,7 +1,7 @@
 -- `whole` meets its contract: its command is the one that the tests pick.
 use borrow.Author.Needs.{needs}
-use Rattle.sending.proofs.packets.whole.Statement.{statement}
-use Rattle.sending.proofs.packets.whole.Tie as tie
+use Rattle.packets.proofs.whole.Statement.{statement}
+use Rattle.packets.proofs.whole.Tie as tie
 
 whole-command-requires : tie.Need-whole-command-requires
 whole-command-requires c κs = search needs

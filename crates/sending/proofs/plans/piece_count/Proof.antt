@@ -1,9 +1,9 @@
 -- `piece_count` meets its contract: a packet has no more pieces than bytes, so their number fits.
 use native.Mathlib.Omega.{arith}
 use borrow.Author.Needs.{needs}
-use Rattle.sending.proofs.Cuts.{count-fits}
-use Rattle.sending.proofs.packets.piece_count.Statement.{statement}
-use Rattle.sending.proofs.packets.piece_count.Tie as tie
+use Rattle.packets.proofs.Cuts.{count-fits}
+use Rattle.sending.proofs.plans.piece_count.Statement.{statement}
+use Rattle.sending.proofs.plans.piece_count.Tie as tie
 
 add-wide : tie.Need-add-wide
 add-wide c = search needs

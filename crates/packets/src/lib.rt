@@ -1,10 +1,9 @@
 // Which command a packet goes out as, by the source's tests, and how a long one is cut.
 ghost use mathlib.Core.Path.{_≡_};
 ghost use mathlib.Core.Bool.{not};
-ghost use Prim.Native.Nat.{_≤_};
+ghost use Prim.Native.Nat.{_-_};
 ghost use Rattle.numbers.specs.Pick.{both};
-ghost use Rattle.numbers.specs.Limits.{leastMtu};
-ghost use Rattle.sending.specs.Packets.{fragmentLength, pieceCount, isReliable, isUnsequenced, startOf, blank, wholeCommand, whole, cutCommand, lengthAt, cutPiece};
+ghost use Rattle.packets.specs.Packets.{fragmentLength, isReliable, isUnsequenced, startOf, blank, wholeCommand, whole, cutCommand, lengthAt, cutPiece};
 use command::fields::Command;
 use command::fields::Fields;
 use command::fields::Fragment;
@@ -13,7 +12,6 @@ use numbers::counters::Group;
 use numbers::counters::Reliable;
 use numbers::counters::Unreliable;
 use parts::groups::Channel;
-use parts::groups::ITSELF;
 use stamps::pieces::Piece;
 
 // 128 asks for acknowledgement, 64 says unsequenced.
@@ -22,8 +20,6 @@ const ACKNOWLEDGE: u8 = 128;
 const UNSEQUENCED: u8 = 64;
 
 // Command bytes: a number of public ENet and its flag.
-const PING: u8 = 5 + ACKNOWLEDGE;
-
 const SEND_RELIABLE: u8 = 6 + ACKNOWLEDGE;
 
 const SEND_UNRELIABLE: u8 = 7;
@@ -33,19 +29,6 @@ const SEND_FRAGMENT: u8 = 8 + ACKNOWLEDGE;
 const SEND_UNSEQUENCED: u8 = 9 + UNSEQUENCED;
 
 const SEND_UNRELIABLE_FRAGMENT: u8 = 12;
-
-// Command 5 with the acknowledge flag, channel 255, no packet.
-pub(crate) const PING_PIECE: Piece = Piece {
-    command: Command {
-        byte: PING,
-        channel: ITSELF,
-        number: Reliable(0),
-        fields: Fields::Ping,
-    },
-    packet: false,
-    offset: 0,
-    length: 0,
-};
 
 // The last number before a counter turns over.
 const LAST: u16 = 65535;
@@ -60,33 +43,32 @@ pub enum Start {
 pub struct Cut {
     pub channel: u8,
     pub length: u32,
-    pub fragment: u32,
+    pub fragment: u16,
     pub count: u32,
     pub start: Start,
 }
 
 // MTU - 28, less 4 with a checksum.
-pub(crate) fn fragment_length(mtu: u32, checksum: bool) -> u32
-    requires { ⌜ leastMtu ≤ mtu ⌝ }
+pub fn fragment_length(mtu: u32, checksum: bool) -> u32
     ensures { λ r. ⌜ r ≡ fragmentLength mtu checksum ⌝ }
 {
     if checksum {
-        return mtu - 28 - 4;
+        return minus(minus(mtu, 28), 4);
     }
-    mtu - 28
+    minus(mtu, 28)
 }
 
-// How many pieces of the fragment length a packet makes, the last one perhaps shorter.
-pub(crate) fn piece_count(fragment: u32, length: u32) -> u32
-    requires { ⌜ 1 ≤ fragment ⌝ }
-    ensures { λ r. ⌜ r ≡ pieceCount fragment length ⌝ }
+fn minus(a: u32, b: u32) -> u32
+    ensures { λ r. ⌜ r ≡ a - b ⌝ }
 {
-    let wide = (length as u64) + (fragment as u64) - 1;
-    (wide / (fragment as u64)) as u32
+    if a < b {
+        return 0;
+    }
+    a - b
 }
 
 // A cut packet: flag 8 without flag 1 goes unreliable while that number is below 65,535. Flag 2 is not asked.
-pub(crate) fn starting(flags: u32, c: Channel) -> Start
+pub fn starting(flags: u32, c: Channel) -> Start
     ensures { λ r. ⌜ r ≡ startOf flags c ⌝ }
 {
     let unreliable = c.outgoing_unreliable;
@@ -155,7 +137,7 @@ fn blank(byte: u8, channel: u8, fields: Fields) -> Command
 }
 
 // The one piece of a packet that is not cut.
-pub(crate) fn whole(flags: u32, c: Channel, channel: u8, length: u16) -> Piece
+pub fn whole(flags: u32, c: Channel, channel: u8, length: u16) -> Piece
     ensures { λ r. ⌜ r ≡ whole flags c channel length ⌝ }
 {
     let command = whole_command(flags, c, channel, length);
@@ -186,24 +168,24 @@ fn cut_command(start: Start, channel: u8, fragment: Fragment) -> Command
 }
 
 // A fragment length, or what is left.
-pub(crate) fn length_at(x: Cut, offset: u32) -> u32
-    requires { ⌜ offset ≤ x .length ⌝ }
+pub fn length_at(x: Cut, offset: u32) -> u16
     ensures { λ r. ⌜ r ≡ lengthAt x offset ⌝ }
 {
+    if x.length <= offset {
+        return 0;
+    }
     let left = x.length - offset;
-    if left < x.fragment {
-        return left;
+    if left < x.fragment as u32 {
+        return left as u16;
     }
     x.fragment
 }
 
 // Piece j, at its offset.
-pub(crate) fn piece(x: Cut, j: u32, offset: u32) -> Piece
-    requires { ⌜ offset ≤ x .length ⌝ }
-    requires { ⌜ x .fragment ≤ 65535 ⌝ }
+pub fn piece(x: Cut, j: u32, offset: u32) -> Piece
     ensures { λ r. ⌜ r ≡ cutPiece x j offset ⌝ }
 {
-    let length = length_at(x, offset) as u16;
+    let length = length_at(x, offset);
     let fragment = Fragment {
         length,
         count: x.count,

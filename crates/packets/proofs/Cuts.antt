@@ -9,9 +9,9 @@ use native.Mathlib.Numerals.{add-one}
 use native.Mathlib.Omega.{arith}
 use lib.ListN.{length, getD, take}
 use Rattle.stamps.specs.declared.pieces.Piece.{Piece}
-use Rattle.sending.specs.Packets.{pieceCount, lengthAt, cutPiece, cutFrom, pieces}
-use Rattle.sending.specs.Done.{span, Part}
-use Rattle.sending.specs.declared.packets.Cut.{Cut}
+use Rattle.packets.specs.Packets.{pieceCount, lengthAt, cutPiece, cutFrom, pieces}
+use Rattle.packets.specs.Packets.{span, Part}
+use Rattle.packets.specs.declared.Cut.{Cut}
 
 pub count-fits : (fragment length : ℕ) → 1 ≤ fragment → pieceCount fragment length ≤ length
 count-fits f n h =

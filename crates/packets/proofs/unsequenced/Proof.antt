@@ -2,8 +2,8 @@
 use mathlib.Core.Path.{sym, ap, _∙_}
 use mathlib.Core.Bool.{not}
 use borrow.Author.Needs.{needs}
-use Rattle.sending.proofs.packets.unsequenced.Statement.{statement}
-use Rattle.sending.proofs.packets.unsequenced.Tie as tie
+use Rattle.packets.proofs.unsequenced.Statement.{statement}
+use Rattle.packets.proofs.unsequenced.Tie as tie
 
 is-set-requires : tie.Need-is-set-requires
 is-set-requires c κs = search needs

@@ -1,10 +1,10 @@
 -- `cut_command` meets its contract: the kind of the start number picks the command.
 use mathlib.Core.Path.{sym, ap, _∙_}
 use borrow.Author.Needs.{needs}
-use Rattle.sending.specs.Packets.{cutCommand}
-use Rattle.sending.specs.declared.packets.Start.{Start}
-use Rattle.sending.proofs.packets.cut_command.Statement.{statement}
-use Rattle.sending.proofs.packets.cut_command.Tie as tie
+use Rattle.packets.specs.Packets.{cutCommand}
+use Rattle.packets.specs.declared.Start.{Start}
+use Rattle.packets.proofs.cut_command.Statement.{statement}
+use Rattle.packets.proofs.cut_command.Tie as tie
 
 enum-known-start : tie.Need-enum-known-start
 enum-known-start c = search needs

@@ -6,9 +6,9 @@ use native.Mathlib.Omega.{arith}
 use lib.Dec.{leb}
 use borrow.Author.Tests.{leb-true}
 use Rattle.numbers.specs.Pick.{pick}
-use Rattle.numbers.specs.Limits.{mostFragments}
-use Rattle.numbers.specs.declared.refusals.Refusal.the-variants.{NotConnected}
+use Rattle.numbers.specs.declared.refusals.Refusal.the-variants.{NotConnected, FailedToQueue}
 use Rattle.parts.specs.Sizes.{itself}
+use Rattle.peer.specs.States.{isConnected}
 use Rattle.peer.specs.declared.record.Peer.{Peer}
 use Rattle.peer.specs.declared.gate.Gate.{Gate}
 use Rattle.peer.specs.declared.gate.Gate.the-variants.{Open, Shut}
@@ -17,17 +17,17 @@ use Rattle.stamps.specs.Outboxes.{outboxOf, freeIn}
 use Rattle.stamps.specs.declared.outbox.Outbox.{Outbox}
 use Rattle.setup.specs.Queueing.{room}
 use Rattle.setup.proofs.Stored.{open-room}
-use Rattle.sending.specs.Calls.{isConnected, queueGate, pingGate}
-use Rattle.sending.proofs.Sends.{queue-room}
+use Rattle.ping.specs.Calls.{pingGate}
 
 pub ping-gate : (p : Peer) (o : Outbox)
     → o ≡ outboxOf (p .totals) (p .waiting) (p .flow) (p .groups) (p .channels) itself (p .lists) → (free : ℕ) → free ≡ freeIn o
     → (may : Gate) → may ≡ pingGate (p .standing) free → may ≡ pingGate (p .standing) (room p)
 ping-gate p o oe free fe may me = me ∙ ap (pingGate (p .standing)) (fe ∙ open-room p itself o oe)
 
+gate-some : (a b : Bool) → pick a (pick b Open (Shut FailedToQueue)) (Shut NotConnected) ≡ Open → b ≡ true
+gate-some true true e = refl
+gate-some true false e = absurd (omega (arith, ap openness e))
+gate-some false b e = absurd (omega (arith, ap openness e))
+
 pub ping-some : (p : Peer) → pingGate (p .standing) (room p) ≡ Open → 1 ≤ room p
-ping-some p e = leb-true 1 (room p) (queue-room (leb 1 mostFragments) (leb 1 (room p)) (go (isConnected (p .standing)) e))
-  where
-    go : (b : Bool) → pick b (queueGate 1 (room p)) (Shut NotConnected) ≡ Open → queueGate 1 (room p) ≡ Open
-    go true e = e
-    go false e = absurd (omega (arith, ap openness e))
+ping-some p e = leb-true 1 (room p) (gate-some (isConnected (p .standing)) (leb 1 (room p)) e)

@@ -1,9 +1,11 @@
 -- Which command a packet goes out as, and how a long one is cut. "The command follows the source's tests in their order; flags are
 -- 1 reliable, 2 unsequenced, 8 unreliable fragment."
 use Prim.Native.Nat.{ℕ, suc, zero, _+_, _-_, _/_, min}
+use mathlib.Core.Path.{_≡_}
 use mathlib.Core.Bool.{Bool, true, not}
 use mathlib.Core.List.{List, [], _∷_}
 use lib.Dec.{leb}
+use lib.ListN.{take}
 use Rattle.numbers.specs.Pick.{pick, both}
 use Rattle.numbers.specs.Bits.{bit}
 use Rattle.numbers.specs.Counters.{step}
@@ -13,14 +15,11 @@ use Rattle.command.specs.declared.fields.Fields.{Fields}
 use Rattle.command.specs.declared.fields.Fields.the-variants.{SendReliable, SendUnreliable, SendFragment, SendUnsequenced, SendUnreliableFragment}
 use Rattle.parts.specs.declared.groups.Channel.{Channel}
 use Rattle.stamps.specs.declared.pieces.Piece.{Piece}
-use Rattle.sending.specs.declared.packets.Start.{Start}
-use Rattle.sending.specs.declared.packets.Start.the-variants as start
-use Rattle.sending.specs.declared.packets.Cut.{Cut}
+use Rattle.packets.specs.declared.Start.{Start}
+use Rattle.packets.specs.declared.Start.the-variants as start
+use Rattle.packets.specs.declared.Cut.{Cut}
 
 -- command bytes: "the low four bits are the number", "128 asks for acknowledgement, 64 says unsequenced"
-abbrev pub pingByte : ℕ
-pingByte = 5 + 128
-
 abbrev pub reliableByte : ℕ
 reliableByte = 6 + 128
 
@@ -103,3 +102,16 @@ cutFrom x (suc left) j offset = cutPiece x j offset ∷ cutFrom x left (j + 1) (
 
 abbrev pub pieces : Cut → List Piece
 pieces x = cutFrom x (x .count) 0 0
+
+-- how many bytes pieces carry together
+unfoldable pub span : List Piece → ℕ
+span [] = 0
+span (y ∷ ys) = y .length + span ys
+
+-- piece i of a packet: it begins where the pieces before it end, and its command tells the packet, the piece's place and its bytes
+pub record Part (x : Cut) (i : ℕ) (y : Piece) : Type 0 where
+  pub packet : y .packet ≡ true
+  pub offset : y .offset ≡ span (take i (pieces x))
+  pub command :
+      y .command
+      ≡ cutCommand (x .start) (x .channel) (record { length = y .length; count = x .count; number = i; total = x .length; offset = y .offset })

@@ -1,0 +1,2 @@
+pub mod Pings
+pub mod Sound
