@@ -53,8 +53,7 @@ use Rattle.sending.specs.declared.plans.Plan.{Plan}
 use Rattle.sending.specs.declared.plans.Plan.the-variants as plan
 use Rattle.sending.proofs.Ranges.{count-high}
 use Rattle.sending.proofs.Planning.{left-all, left-length, left-turn, left-end}
-use Rattle.sending.proofs.Sound.{gate-channel, commands-fit}
-use Rattle.sending.proofs.Sends.{queue-room}
+use Rattle.sending.proofs.Sound.{queue-room, gate-channel, commands-fit}
 
 -- what tells the two plans apart
 abbrev queues : Plan → ℕ

@@ -24,7 +24,7 @@ use Rattle.peer.specs.Gate.{behind}
 use Rattle.peer.proofs.Gates.{openness, behind-has}
 use Rattle.peer.specs.declared.settings.Settings.{Settings}
 use Rattle.peer.specs.declared.record.Peer.{Peer}
-use Rattle.numbers.specs.declared.refusals.Refusal.the-variants.{NotConnected, InvalidChannel, PacketTooLarge}
+use Rattle.numbers.specs.declared.refusals.Refusal.the-variants.{NotConnected, InvalidChannel, PacketTooLarge, FragmentsExceeded, FailedToQueue}
 use Rattle.parts.specs.declared.groups.Standing.{Standing}
 use Rattle.parts.specs.declared.groups.Channel.{Channel}
 use Rattle.stamps.specs.Counting.{channelAt}
@@ -78,6 +78,12 @@ pub cut-ready : (x : Cut) (p : Peer) → Whole p → sound p ≡ true → ltb (x
     → Ready (pieces x) p
 cut-ready x p pool h on few =
     record { whole = pool; good = h; fit = cut-fit x (p .standing .count) on (x .count) 0 0; few = few }
+
+-- the gate of so many commands is open only where as many slots are free
+pub queue-room : (a b : Bool) → pick a (pick b Open (Shut FailedToQueue)) (Shut FragmentsExceeded) ≡ Open → b ≡ true
+queue-room true true e = refl
+queue-room true false e = absurd (omega (arith, ap openness e))
+queue-room false b e = absurd (omega (arith, ap openness e))
 
 -- a send's gate tells that the channel is there
 send-gate : (a b c : Bool) → pick a (pick b (pick c Open (Shut PacketTooLarge)) (Shut InvalidChannel)) (Shut NotConnected) ≡ Open → b ≡ true

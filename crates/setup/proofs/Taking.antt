@@ -106,7 +106,7 @@ module _ (x : Piece) (p : Peer) (s : ℕ) (low : lowest outgoing (usedOut (p .li
   unfolding queuedAt
   queued-slots = ap (λ (q : Peer). q .outgoing) queued-at
 
-  queued-lists : queued x p .lists ≡ listsWith (p .lists) x s
+  pub queued-lists : queued x p .lists ≡ listsWith (p .lists) x s
   unfolding queuedAt
   queued-lists = ap (λ (q : Peer). q .lists) queued-at
 
@@ -176,7 +176,7 @@ step x xs p r = go (lowest outgoing (usedOut (p .lists))) refl
     go Full e = absurd (omega (arith, r .few, none-left (has (usedOut (p .lists))) outgoing 0 e))
 
 -- many
-taken-step : (x : Piece) (xs : List Piece) (p : Peer) (s : ℕ) → lowest outgoing (usedOut (p .lists)) ≡ Lowest s
+pub taken-step : (x : Piece) (xs : List Piece) (p : Peer) (s : ℕ) → lowest outgoing (usedOut (p .lists)) ≡ Lowest s
     → taken (x ∷ xs) p ≡ s ∷ taken xs (queued x p)
 unfolding taken
 taken-step x xs p s e = ap (λ (f : Free). takenIn f (taken xs (queued x p))) e

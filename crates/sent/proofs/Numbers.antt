@@ -28,7 +28,7 @@ use Rattle.stamps.specs.declared.pieces.Piece.{Piece}
 use Rattle.setup.proofs.Taking.{queued-at}
 use Rattle.setup.proofs.Taking.{step as setup}
 use Rattle.packets.specs.Packets.{lengthAt, cutPiece, cutFrom, pieces}
-use Rattle.sending.specs.Done.{Bears}
+use Rattle.sent.specs.Done.{Bears}
 use Rattle.packets.specs.declared.Start.the-variants as start
 use Rattle.packets.specs.declared.Cut.{Cut}
 

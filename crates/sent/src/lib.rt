@@ -1,0 +1,1 @@
+// What a done send is: definitions and theorems alone.
