@@ -36,7 +36,7 @@ use Rattle.peer.specs.Updates.{renewed}
 use Rattle.peer.specs.declared.settings.Settings.{Settings}
 use Rattle.peer.specs.declared.record.Peer.{Peer}
 use Rattle.peer.proofs.Sound.{gated-sounds}
-use Rattle.peer.proofs.Parts.{Parts, sound-parts, parts-sound, all-at, at-all, all-one}
+use Rattle.peer.proofs.Clauses.{Clauses, sound-clauses, clauses-sound, all-at, at-all, all-one}
 use Rattle.sendstep.specs.Steps.{listOf, withoutHead, isAcknowledged, packetSent, carrying, timing, head, sentAs}
 use Rattle.sendstep.specs.Calls.{stepsFrom, stepsSound, steps}
 use Rattle.sendstep.specs.declared.heads.Queue.{Queue}
@@ -118,7 +118,7 @@ module _ (slots : List Outgoing) (s : ℕ) (o : Outgoing) where
     tried-new h = rw (getD-set-same slots s o noOutgoing h) e
 
 -- what a change of the outgoing side must keep
-module _ (p : Peer) (w : Parts p) (t : Times) (f : Flow) (l : Lists) (s : ℕ) (o : Outgoing) where
+module _ (p : Peer) (w : Clauses p) (t : Times) (f : Flow) (l : Lists) (s : ℕ) (o : Outgoing) where
   abbrev changed : Peer
   changed =
       renewed p (p .standing) (p .totals) t (packetSent (p .loss)) f l (p .groups) (p .waiting) (p .channels) (set (p .outgoing) s o)
@@ -127,7 +127,7 @@ module _ (p : Peer) (w : Parts p) (t : Times) (f : Flow) (l : Lists) (s : ℕ) (
       → ((k : ℕ) → times (usedOut l) k ≤ times (usedOut (p .lists)) k) → o .command ≡ getD (p .outgoing) s noOutgoing .command
       → all (tried (set (p .outgoing) s o)) (outItems (l .sent)) ≡ true → sound changed ≡ true
   sent-sound mtu came fits named command tries =
-      parts-sound changed
+      clauses-sound changed
       (record {
         range = rw mtu (w .range);
         lists = fits;
@@ -147,7 +147,7 @@ without-arrived : (q : Queue) (l : Lists) → withoutHead q l .dispatched ≡ l 
 without-arrived queue.Outgoing l = refl
 without-arrived queue.Reliable l = refl
 
-module _ (q : Queue) (s time : ℕ) (rest : List ℕ) (p : Peer) (e : outItems (listOf q (p .lists)) ≡ s ∷ rest) (w : Parts p) where
+module _ (q : Queue) (s time : ℕ) (rest : List ℕ) (p : Peer) (e : outItems (listOf q (p .lists)) ≡ s ∷ rest) (w : Clauses p) where
   abbrev o : Outgoing
   o = head p s time
 
@@ -179,7 +179,7 @@ step-keeps q time p l h = go (outItems (listOf q (p .lists))) refl
   where
     go : (xs : List ℕ) → outItems (listOf q (p .lists)) ≡ xs → sound (stepsFrom (first xs) q time p .after) ≡ true
     go [] e = h
-    go (s ∷ rest) e = sent-as-sound q s time rest p e (sound-parts p h)
+    go (s ∷ rest) e = sent-as-sound q s time rest p e (sound-clauses p h)
 
 sent-whole : (q : Queue) (s : ℕ) (o : Outgoing) (p : Peer) → Whole p → Whole (sentAs q s o p)
 unfolding sentAs

@@ -19,7 +19,7 @@ use Rattle.parts.specs.Damage.{usedOut}
 use Rattle.parts.specs.Updates.{longer, withReliableList, withOutgoingList}
 use Rattle.parts.specs.declared.groups.Lists.{Lists}
 use Rattle.peer.specs.declared.record.Peer.{Peer}
-use Rattle.peer.proofs.Parts.{sound-parts}
+use Rattle.peer.proofs.Clauses.{sound-clauses}
 use Rattle.stamps.specs.Pieces.{toReliable, listsWith}
 use Rattle.stamps.specs.declared.pieces.Piece.{Piece}
 use Rattle.setup.specs.Queueing.{queued, queuedAll}
@@ -58,7 +58,7 @@ all-ends b (x ∷ xs) p r to =
     let s = t .slot in
     let q = queued x p in
     let one : Ends b (p .lists) (q .lists) (s ∷ []) =
-    rw (queued-lists x p s (t .low)) (one-ends b x (p .lists) s (to .0) (slot-room x p s (t .low) (sound-parts p (r .good)))) in
+    rw (queued-lists x p s (t .low)) (one-ends b x (p .lists) s (to .0) (slot-room x p s (t .low) (sound-clauses p (r .good)))) in
     let rest = all-ends b xs q (t .next) (to .1) in
     rw (ap (λ (f : Free). takenIn f (taken xs q)) (t .low))
     (record {

@@ -21,7 +21,7 @@ use Rattle.parts.specs.Damage.{usedOut}
 use Rattle.peer.specs.Damage.{sound}
 use Rattle.peer.specs.declared.record.Peer.{Peer}
 use Rattle.parts.specs.declared.groups.Lists.{Lists}
-use Rattle.peer.proofs.Parts.{Parts}
+use Rattle.peer.proofs.Clauses.{Clauses}
 use Rattle.parts.specs.Updates.{longer}
 use Rattle.stamps.specs.Pieces.{toReliable, listsWith}
 use Rattle.stamps.specs.declared.pieces.Piece.{Piece}
@@ -135,7 +135,7 @@ module _ (l : Lists) (s : ℕ) where
             )
 
 -- the lowest free slot of a sound record, named by one list more
-module _ (x : Piece) (p : Peer) (s : ℕ) (low : lowest outgoing (usedOut (p .lists)) ≡ Lowest s) (w : Parts p) where
+module _ (x : Piece) (p : Peer) (s : ℕ) (low : lowest outgoing (usedOut (p .lists)) ≡ Lowest s) (w : Clauses p) where
   abbrev used : List ℕ
   used = usedOut (p .lists)
 

@@ -42,7 +42,7 @@ use Rattle.peer.specs.declared.gate.Gate.{Gate}
 use Rattle.peer.specs.declared.gate.Gate.the-variants.{Open, Shut}
 use Rattle.peer.proofs.Gates.{openness, behind-has}
 use Rattle.peer.proofs.Sound.{gated-sounds}
-use Rattle.peer.proofs.Parts.{Parts, sound-parts, parts-sound, all-at, at-all}
+use Rattle.peer.proofs.Clauses.{Clauses, sound-clauses, clauses-sound, all-at, at-all}
 use Rattle.stamps.specs.Counting.{channelAt, numbered}
 use Rattle.stamps.specs.Pieces.{fieldsNow, toReliable, listsWith}
 use Rattle.parts.specs.Sizes.{itself}
@@ -147,7 +147,7 @@ commandFit count o =
 abbrev attempts : Outgoing → Bool
 attempts o = leb 1 (o .attempts)
 
-module _ (x : Piece) (p : Peer) (s : ℕ) (low : lowest outgoing (usedOut (p .lists)) ≡ Lowest s) (w : Parts p) (whole : Whole p)
+module _ (x : Piece) (p : Peer) (s : ℕ) (low : lowest outgoing (usedOut (p .lists)) ≡ Lowest s) (w : Clauses p) (whole : Whole p)
     (on : onChannel (x .command .channel) (p .standing .count) ≡ true) (names : namesFields (x .command) ≡ true) where
   abbrev used : List ℕ
   used = usedOut (p .lists)
@@ -204,7 +204,7 @@ module _ (x : Piece) (p : Peer) (s : ℕ) (low : lowest outgoing (usedOut (p .li
   at-sound =
       let k = stampOf x p .counters in
       let channel = x .command .channel in
-      parts-sound (queuedAt s x p)
+      clauses-sound (queuedAt s x p)
       (record {
         range = w .range;
         lists = lists-after (p .lists) x s (slot-room x p s low w) (w .lists);
@@ -222,7 +222,7 @@ unfolding queued
 queued-sound x p whole h on names = go (lowest outgoing (usedOut (p .lists))) refl
   where
     go : (f : Free) → lowest outgoing (usedOut (p .lists)) ≡ f → sound (queuedIn f x p) ≡ true
-    go (Lowest s) e = at-sound x p s e (sound-parts p h) whole on names
+    go (Lowest s) e = at-sound x p s e (sound-clauses p h) whole on names
     go Full e = h
 
 -- the lengths and the count stay

@@ -33,7 +33,7 @@ use Rattle.peer.specs.declared.settings.Settings.{Settings}
 use Rattle.peer.specs.declared.record.Peer.{Peer}
 use Rattle.parts.specs.declared.groups.Lists.{Lists}
 use Rattle.parts.specs.declared.groups.Outgoing.{Outgoing}
-use Rattle.peer.proofs.Parts.{sound-parts}
+use Rattle.peer.proofs.Clauses.{sound-clauses}
 use Rattle.stamps.specs.Room.{roomIn}
 use Rattle.stamps.specs.Pieces.{listsWith}
 use Rattle.setup.specs.Queueing.{room, made, queuedAt, queuedIn, queued, queuedAll}
@@ -128,12 +128,12 @@ module _ (x : Piece) (p : Peer) (s : ℕ) (low : lowest outgoing (usedOut (p .li
     queued-names k =
         ap (λ (l : Lists). has (usedOut l) k) queued-lists
         ∙ has-times after k
-        ∙ ap (ltb 0) (after-times x p s low (sound-parts p h) k)
+        ∙ ap (ltb 0) (after-times x p s low (sound-clauses p h) k)
         ∙ sym (has-times (s ∷ used) k)
 
     pub queued-room : room p ≡ 1 + room (queued x p)
     queued-room =
-        let w = sound-parts p h in
+        let w = sound-clauses p h in
         omega (
           arith,
           free-and-named outgoing used (w .exists) (w .single),

@@ -1,0 +1,1 @@
+// When two records are the same: a definition and its laws alone.
