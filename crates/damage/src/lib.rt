@@ -30,7 +30,7 @@ struct InWalk {
     pub total: u32,
 }
 
-// "MTU or channel count out of range"
+// "MTU or channel count (0 to 8) out of range"
 fn is_ranged(mtu: u32, count: u32) -> bool
     ensures { λ r. ⌜ r ≡ ranged mtu count ⌝ }
 {
@@ -93,7 +93,7 @@ fn held_fit(channels: [Channel; CHANNELS], count: u32) -> bool
     true
 }
 
-// "a command that setup refuses with 9, or its channel neither below the count nor 255"
+// "an outgoing command that setup refuses with 9, or its channel neither below the count nor 255"
 fn out_fits(slot: Outgoing, count: u32) -> bool
     ensures { λ r. ⌜ r ≡ outFit (slot ∷ []) count 0 ⌝ }
 {
@@ -186,7 +186,7 @@ fn out_sound(worths: [u8; OUTGOING], lists: Lists) -> bool
     true
 }
 
-// "a length above 4,096, a channel not below the count, or not that of the channel list it stands in"
+// An incoming length above 4,096, a channel not below the count, or not that of the channel list it stands in.
 fn in_passes(slot: Incoming, count: u32, own: bool, k: u32) -> bool
     ensures { λ r. ⌜ r ≡ inTest count own k slot ⌝ }
 {

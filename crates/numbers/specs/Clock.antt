@@ -19,7 +19,7 @@ completed clock sent =
     (minus 32 (clock - clock % 65536 + sent) 65536)
     (clock - clock % 65536 + sent)
 
--- "a clock minus it of 86,400,000 or more (modulo 2^32) passes over. Sample: that difference, at least 1."
+-- "a clock minus it of 86,400,000 or more (modulo 2^32) passes over, unchanged. Sample: that difference, at least 1."
 abbrev pub gap : ℕ → ℕ → ℕ
 gap clock sent = minus 32 clock (completed clock sent)
 

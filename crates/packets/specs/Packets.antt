@@ -19,7 +19,7 @@ use Rattle.packets.specs.declared.Start.{Start}
 use Rattle.packets.specs.declared.Start.the-variants as start
 use Rattle.packets.specs.declared.Cut.{Cut}
 
--- command bytes: "the low four bits are the number", "128 asks for acknowledgement, 64 says unsequenced"
+-- command bytes: "The low four bits are the number", "128 asks for acknowledgement, 64 says unsequenced"
 abbrev pub reliableByte : ℕ
 reliableByte = 6 + 128
 

@@ -62,7 +62,7 @@ outFit slots count s =
 abbrev pub tried : List Outgoing → ℕ → Bool
 tried slots s = leb 1 (getD slots s noOutgoing .attempts)
 
--- "an incoming length above 4,096"; "an incoming one's channel not below the count"
+-- "an incoming length above 4,096"; "an incoming one's not below the count"
 abbrev pub inFit : List Incoming → ℕ → ℕ → Bool
 inFit slots count s =
     both (leb (getD slots s noIncoming .length) cell) (ltb (getD slots s noIncoming .channel) count)

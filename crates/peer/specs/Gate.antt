@@ -1,4 +1,4 @@
--- "Order for every call: settings and store (11), record (13), then the table's order downward."
+-- "Order for every call: settings and store (11), record (13), then the table's order downward"
 use mathlib.Core.Bool.{Bool}
 use lib.Dec.{eqb}
 use Rattle.numbers.specs.Pick.{pick, both}

@@ -1,4 +1,4 @@
--- Which slots of a pool are free: "A slot is free when no list names it; the lowest free one is taken."
+-- Which slots of a pool are free: "A slot is free when no list names it; the lowest free one is taken"
 use Prim.Native.Nat.{ℕ, zero, suc, _+_}
 use mathlib.Core.Path.{_≡_}
 use mathlib.Core.Bool.{Bool, true, false, not}

@@ -1,4 +1,4 @@
--- "Each slot exists and stands once" through the operations. `times xs s` is how many times s stands in xs: it adds up over `++`,
+-- That each slot exists and stands once through the operations. `times xs s` is how many times s stands in xs: it adds up over `++`,
 -- so that what an operation does to all lists of a pool is one sum for each slot; `once` and `exist` follow from `times`.
 use Prim.Native.Nat.{ℕ, _+_, _≤_, _<_}
 use mathlib.Core.Path.{_≡_, refl, ap, sym, _∙_}

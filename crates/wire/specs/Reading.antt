@@ -13,7 +13,7 @@ use Rattle.command.specs.Rows.{kindOf, rowOf}
 use Rattle.wire.specs.declared.reader.Reading.{Reading}
 use Rattle.wire.specs.declared.reader.Reading.the-variants as vr
 
--- the number of the command whose first byte stands at i: "the low four bits"
+-- the number of the command whose first byte stands at i: "The low four bits"
 abbrev pub kindAt : List ℕ → ℕ → ℕ
 kindAt s i = getD s i 0 % 16
 
