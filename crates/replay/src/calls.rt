@@ -1,44 +1,48 @@
-// Ops 1 to 3: reset, begin, set state.
-use crate::bench::Bench;
+// Ops 1 to 6: the calls that reply done or refused.
+use crate::commands;
 use crate::frame;
+use crate::frame::Frame;
 use crate::line;
-use crate::record;
 use peer::calls::Called;
 use peer::calls::Reply;
 use peer::record::Peer;
 use peer::settings::Settings;
+use stamps::pieces::Piece;
 
-pub(crate) fn call(op: u8, frame: &[u8], out: &mut [u8], bench: Bench) -> Bench {
-    let called = made(op, frame, bench.settings, bench.peer);
-    let peer = called.peer;
-    let mut after = bench;
-    after.used = said(out, bench.used, op, called);
-    after.peer = peer;
-    after
+pub(crate) fn call(f: Frame, input: &[u8], settings: Settings, peer: Peer) -> Peer {
+    let called = made(f, input, settings, peer);
+    let reply = called.reply;
+    line::value(number(reply));
+    called.peer
 }
 
-fn made(op: u8, frame: &[u8], settings: Settings, peer: Peer) -> Called {
-    let a = frame::number(frame, 0);
-    let b = frame::number(frame, 1);
+fn made(f: Frame, input: &[u8], settings: Settings, peer: Peer) -> Called {
+    let op = f.op;
     match op {
         1 => peer.reset(settings),
-        2 => peer.begin(settings, a, b),
-        _ => peer.set_state(settings, a),
+        2 => peer.begin(settings, f.n0, f.n1),
+        3 => peer.set_state(settings, f.n0),
+        4 => ping::ping(peer, settings),
+        5 => sending::calls::send(peer, settings, frame::byte(f.n0), f.n1, f.n2),
+        _ => setup::calls::setup(peer, settings, piece(f, input)),
     }
 }
 
-fn said(out: &mut [u8], used: usize, op: u8, called: Called) -> usize {
-    let reply = called.reply;
-    let begun = line::begin(out, used, op);
-    let replied = line::value(out, begun, number(reply));
-    record::hashed(out, replied, called.peer)
+// The command, then packet, offset and piece length; the fields come last.
+fn piece(f: Frame, input: &[u8]) -> Piece {
+    let command = commands::command(input, 0, 4);
+    Piece {
+        command,
+        packet: f.n4 == 1,
+        offset: f.n5,
+        length: frame::short(f.n6),
+    }
 }
 
 // The reply's number in document 01.
-fn number(reply: Reply) -> u64 {
+fn number(reply: Reply) -> u32 {
     match reply {
         Reply::Done => 0,
-        Reply::OutOfRange => 11,
-        Reply::Damaged => 13,
+        Reply::Refused(why) => why.number(),
     }
 }

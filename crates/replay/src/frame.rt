@@ -1,102 +1,127 @@
-// Frames: op, count, numbers of 4 bytes, length in 2 bytes, bytes; all big-endian.
+// Frames: op, count, numbers of 4 bytes, length in 2 bytes, bytes; all big-endian. The input buffer has one at its start.
 ghost use Prim.Native.Nat.{_≤_, _<_};
-ghost use lib.ListN.{length};
 use libc::STDIN_FILENO;
+use libc::STDOUT_FILENO;
 
-// The part of the input buffer that is read and not yet answered.
-pub struct Held {
-    pub start: usize,
-    pub end: usize,
+// The op and the first ten numbers; further ones are a command's.
+pub struct Frame {
+    pub op: u32,
+    pub n0: u32,
+    pub n1: u32,
+    pub n2: u32,
+    pub n3: u32,
+    pub n4: u32,
+    pub n5: u32,
+    pub n6: u32,
+    pub n7: u32,
+    pub n8: u32,
+    pub n9: u32,
 }
 
-fn wide(x: u8) -> usize
-    ensures { λ r. ⌜ r < 256 ⌝ }
-{
-    x as usize
-}
-
-// How many numbers the frame says it has.
-fn count(frame: &[u8]) -> usize
-    ensures { λ r. ⌜ r < 256 ⌝ }
-{
-    if frame.len() < 2 { 0 } else { wide(frame[1]) }
-}
-
-// The bytes of the frame at the start of s, as far as s tells: s has a whole frame where it has so many.
-pub(crate) fn size(s: &[u8]) -> usize {
-    if s.len() < 2 {
-        return 2;
+pub(crate) fn taken(input: &[u8]) -> Frame {
+    Frame {
+        op: op(input),
+        n0: number(input, 0, 0),
+        n1: number(input, 0, 1),
+        n2: number(input, 0, 2),
+        n3: number(input, 0, 3),
+        n4: number(input, 0, 4),
+        n5: number(input, 0, 5),
+        n6: number(input, 0, 6),
+        n7: number(input, 0, 7),
+        n8: number(input, 0, 8),
+        n9: number(input, 0, 9),
     }
-    let head = 4 + 4 * count(s);
-    if s.len() < head {
-        return head;
-    }
-    head + 256 * wide(s[head - 2]) + wide(s[head - 1])
 }
 
-pub(crate) fn op(frame: &[u8]) -> u8 {
-    if 0 < frame.len() { frame[0] } else { 0 }
+pub(crate) fn op(input: &[u8]) -> u32 {
+    at(input, 0) as u32
 }
 
-// The number at place j; a missing one reads as 0.
-pub(crate) fn number(frame: &[u8], j: usize) -> u32 {
-    if count(frame) <= j {
+fn at(input: &[u8], i: usize) -> u8 {
+    if i < input.len() { input[i] } else { 0 }
+}
+
+// The number in the two bytes at a place.
+fn pair(input: &[u8], i: u32) -> u32
+    ensures { λ r. ⌜ r < 65536 ⌝ }
+{
+    let j = i as usize;
+    (at(input, j) as u32) * 256 + (at(input, j + 1) as u32)
+}
+
+// The number j places behind another; a missing one reads as 0.
+pub(crate) fn number(input: &[u8], from: u8, j: u8) -> u32 {
+    let place = (from as u32) + (j as u32);
+    if at(input, 1) as u32 <= place {
         return 0;
     }
-    let at = 2 + 4 * j;
-    if frame.len() < at + 4 {
-        return 0;
-    }
-    joined(frame[at], frame[at + 1], frame[at + 2], frame[at + 3])
+    let i = 2 + 4 * place;
+    pair(input, i) * 65536 + pair(input, i + 2)
 }
 
-fn joined(a: u8, b: u8, c: u8, d: u8) -> u32 {
-    (a as u32) * 16777216 + (b as u32) * 65536 + (c as u32) * 256 + (d as u32)
-}
-
-// What stands behind the numbers and the length.
-pub(crate) fn bytes(frame: &[u8]) -> &[u8] {
-    let head = 4 + 4 * count(frame);
-    if frame.len() < head {
-        return &frame[..0];
-    }
-    &frame[head..]
-}
-
-// Reads until the frame at the start is whole, or the input ends.
-pub(crate) fn fetch(input: &mut [u8], held: Held) -> Held
-    requires { ⌜ (held .start ≤ held .end) × (held .end ≤ length (now input)) ⌝ }
-    ensures { λ r. ⌜ (r .start ≤ r .end) × (r .end ≤ length (now (input .exit))) ⌝ }
+// Where the bytes begin: behind the numbers and the length.
+fn head(input: &[u8]) -> u32
+    ensures { λ r. ⌜ (4 ≤ r) × (r < 1025) ⌝ }
 {
-    let mut n = to_front(input, held);
-    while n < size(&input[0..n]) {
-        let more = read_once(&mut input[n..]);
-        if more == 0 {
-            break;
-        }
-        n += more;
-    }
-    Held { start: 0, end: n }
+    4 + 4 * (at(input, 1) as u32)
 }
 
-// Moves what is held to the front, for room behind it; the answer is how much there is.
-fn to_front(input: &mut [u8], held: Held) -> usize
-    requires { ⌜ (held .start ≤ held .end) × (held .end ≤ length (now input)) ⌝ }
-    ensures { λ r. ⌜ r ≤ length (now (input .exit)) ⌝ }
-{
-    let start = held.start;
-    let n = held.end - start;
-    let mut i = 0;
-    while i < n {
-        input[i] = input[start + i];
-        i += 1;
-    }
-    n
+fn end(input: &[u8]) -> u32 {
+    let from = head(input);
+    from + pair(input, from - 2)
 }
 
-fn read_once(space: &mut [u8]) -> usize
-    ensures { λ r. ⌜ r ≤ length (now (space .exit)) ⌝ }
-{
-    let got = libc::read(STDIN_FILENO, space);
-    io::count(got, space)
+pub(crate) fn bytes(input: &[u8]) -> &[u8] {
+    part(input, head(input) as usize, end(input) as usize)
+}
+
+fn part(input: &[u8], from: usize, end: usize) -> &[u8] {
+    if from <= end && end <= input.len() {
+        return &input[from..end];
+    }
+    &input[..0]
+}
+
+// Reads the next frame. An input that ends is the end of the run; inside a frame that has its line.
+pub(crate) fn is_next(input: &mut [u8]) -> bool {
+    if !is_read(input, 0, 1) {
+        return false;
+    }
+    if is_rest(input) {
+        return true;
+    }
+    io::write_all(STDOUT_FILENO, b"short\n");
+    false
+}
+
+fn is_rest(input: &mut [u8]) -> bool {
+    if !is_read(input, 1, 2) {
+        return false;
+    }
+    let from = head(input);
+    if !is_read(input, 2, from) {
+        return false;
+    }
+    let end = end(input);
+    is_read(input, from, end)
+}
+
+fn is_read(input: &mut [u8], from: u32, end: u32) -> bool {
+    let a = from as usize;
+    let b = end as usize;
+    if a <= b && b <= input.len() {
+        return io::read_full(STDIN_FILENO, &mut input[a..b]) == b - a;
+    }
+    false
+}
+
+// A number that was seen to fit a byte.
+pub(crate) fn byte(x: u32) -> u8 {
+    (x % 256) as u8
+}
+
+// A number that was seen to fit 16 bits.
+pub(crate) fn short(x: u32) -> u16 {
+    (x % 65536) as u16
 }

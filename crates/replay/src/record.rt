@@ -1,8 +1,8 @@
-// The record's row of numbers, in document 01's order: op 15 prints it, a call's line ends with its hash.
-use crate::line;
-use crate::sink;
-use crate::sink::Sink;
-use crate::used;
+// The record's row of numbers, in document 01's order.
+use crate::row;
+use crate::row::Row;
+use command::fields::Command;
+use command::rows;
 use parts::groups::Bandwidth;
 use parts::groups::CHANNELS;
 use parts::groups::Channel;
@@ -23,64 +23,30 @@ use parts::groups::Waiting;
 use peer::record::Peer;
 use slots::INCOMING;
 use slots::OUTGOING;
+use slots::incoming::InList;
+use table::layout;
 
-// Op 15.
-pub(crate) fn written(out: &mut [u8], used: usize, p: Peer) -> usize {
-    let begun = line::begin(out, used, 15);
-    let sink = Sink {
-        hash: 0,
-        used: begun,
-        is_printed: true,
-    };
-    let said = whole(out, sink, p);
-    line::end(out, said.used)
-}
-
-// What ends the line of a call.
-pub(crate) fn hashed(out: &mut [u8], used: usize, p: Peer) -> usize {
-    let sink = Sink {
-        hash: 0,
-        used,
-        is_printed: false,
-    };
-    let said = whole(out, sink, p);
-    let marked = line::word(out, used, b"#");
-    let done = line::value(out, marked, said.hash as u64);
-    line::end(out, done)
-}
-
-fn whole(out: &mut [u8], sink: Sink, p: Peer) -> Sink {
-    let named = standing(out, sink, p.ids, p.standing, p.bandwidth, p.totals, p.times);
-    let paced = pace(out, named, p.loss, p.throttling, p.limits, p.trips, p.flow);
-    let listed = lists(out, paced, p.lists);
-    let grouped = groups(out, listed, p.groups, p.waiting);
-    slots(out, grouped, p)
-}
-
-fn slots(out: &mut [u8], sink: Sink, p: Peer) -> Sink {
-    let count = p.standing.count;
+// The hash of the row, which is shown where that is asked for.
+pub(crate) fn hash(is_shown: bool, p: Peer) -> u32 {
     let all = p.channels;
     let out_pool = p.outgoing;
     let in_pool = p.incoming;
-    let out_marks = used::outgoing(p.lists);
-    let in_marks = used::incoming(p.lists, all, count);
-    let channelled = channels(out, sink, all, count);
-    let sent = outgoing(out, channelled, out_pool, out_marks);
-    incoming(out, sent, in_pool, in_marks)
+    let count = p.standing.count;
+    let row = Row { hash: 0, is_shown };
+    let row = standing(row, p.ids, p.standing, p.bandwidth, p.totals, p.times);
+    let row = pace(row, p.loss, p.throttling, p.limits, p.trips, p.flow);
+    let row = lists(row, p.lists);
+    let row = groups(row, p.groups, p.waiting);
+    let row = channels(row, all, count);
+    let row = outgoing(row, out_pool, p.lists);
+    let row = incoming(row, in_pool, p.lists, all, count);
+    row.hash
 }
 
-fn standing(
-    out: &mut [u8],
-    sink: Sink,
-    i: Ids,
-    s: Standing,
-    b: Bandwidth,
-    t: Totals,
-    w: Times,
-) -> Sink {
+fn standing(row: Row, i: Ids, s: Standing, b: Bandwidth, t: Totals, w: Times) -> Row {
     let numbers = [
-        sink::wide(i.outgoing_peer),
-        sink::wide(i.incoming_peer),
+        i.outgoing_peer as u32,
+        i.incoming_peer as u32,
         i.connect,
         i.outgoing_session as u32,
         i.incoming_session as u32,
@@ -97,11 +63,12 @@ fn standing(
         w.next_timeout,
         w.earliest_timeout,
     ];
-    sink::put_all(out, sink, &numbers)
+    row::put_all(row, &numbers)
 }
 
-fn pace(out: &mut [u8], sink: Sink, l: Loss, t: Throttling, m: Limits, r: Trips, f: Flow) -> Sink {
-    let losses = [
+fn pace(row: Row, l: Loss, t: Throttling, m: Limits, r: Trips, f: Flow) -> Row {
+    let next = f.reliable;
+    let numbers = [
         l.epoch,
         l.sent,
         l.lost,
@@ -114,10 +81,6 @@ fn pace(out: &mut [u8], sink: Sink, l: Loss, t: Throttling, m: Limits, r: Trips,
         t.acceleration,
         t.deceleration,
         t.interval,
-    ];
-    let throttled = sink::put_all(out, sink, &losses);
-    let next = f.reliable;
-    let limits = [
         m.ping,
         m.timeout,
         m.minimum,
@@ -131,136 +94,150 @@ fn pace(out: &mut [u8], sink: Sink, l: Loss, t: Throttling, m: Limits, r: Trips,
         f.mtu,
         f.window,
         f.transit,
-        sink::wide(next.0),
+        next.0 as u32,
     ];
-    sink::put_all(out, throttled, &limits)
+    row::put_all(row, &numbers)
 }
 
-fn lists(out: &mut [u8], sink: Sink, l: Lists) -> Sink {
-    let a = l.sent;
-    let b = l.reliable;
-    let c = l.outgoing;
-    let d = l.dispatched;
-    let sent = sink::put_list(out, sink, a.len, &a.slots);
-    let reliable = sink::put_list(out, sent, b.len, &b.slots);
-    let outgoing = sink::put_list(out, reliable, c.len, &c.slots);
-    sink::put_list(out, outgoing, d.len, &d.slots)
+fn lists(row: Row, l: Lists) -> Row {
+    let row = row::put_out(row, l.sent);
+    let row = row::put_out(row, l.reliable);
+    let row = row::put_out(row, l.outgoing);
+    row::put_in(row, l.dispatched)
 }
 
-fn groups(out: &mut [u8], sink: Sink, g: Groups, w: Waiting) -> Sink {
+fn groups(row: Row, g: Groups, w: Waiting) -> Row {
     let a = g.incoming;
     let b = g.outgoing;
-    let numbers = [
-        sink::wide(g.flags),
-        sink::wide(g.reserved),
-        sink::wide(a.0),
-        sink::wide(b.0),
-    ];
-    let flagged = sink::put_all(out, sink, &numbers);
     let words = g.words;
-    let worded = sink::put_all(out, flagged, &words);
+    let numbers = [g.flags as u32, g.reserved as u32, a.0 as u32, b.0 as u32];
     let totals = [w.event, w.total, w.queued];
-    sink::put_all(out, worded, &totals)
+    let row = row::put_all(row, &numbers);
+    let row = row::put_all(row, &words);
+    row::put_all(row, &totals)
 }
 
 // Each channel below the count.
-fn channels(out: &mut [u8], sink: Sink, all: [Channel; CHANNELS], count: u32) -> Sink {
-    let n = count as usize;
-    let mut after = sink;
+fn channels(row: Row, all: [Channel; CHANNELS], count: u32) -> Row {
+    let mut after = row;
     let mut i = 0;
-    while i < CHANNELS && i < n {
-        after = channel(out, after, all[i]);
+    while i < CHANNELS && i < count as usize {
+        after = channel(after, all[i]);
         i += 1;
     }
     after
 }
 
-fn channel(out: &mut [u8], sink: Sink, c: Channel) -> Sink {
+fn channel(row: Row, c: Channel) -> Row {
     let a = c.outgoing_reliable;
     let b = c.outgoing_unreliable;
     let d = c.incoming_reliable;
     let e = c.incoming_unreliable;
-    let numbers = [
-        sink::wide(a.0),
-        sink::wide(b.0),
-        sink::wide(d.0),
-        sink::wide(e.0),
-    ];
-    let counted = sink::put_all(out, sink, &numbers);
-    let held = c.held;
-    sink::put_list(out, counted, held.len, &held.slots)
+    let numbers = [a.0 as u32, b.0 as u32, d.0 as u32, e.0 as u32];
+    let row = row::put_all(row, &numbers);
+    row::put_in(row, c.held)
 }
 
-fn outgoing(out: &mut [u8], sink: Sink, pool: [Outgoing; OUTGOING], marks: [u8; OUTGOING]) -> Sink {
-    let mut after = sink;
+// Each used slot.
+fn outgoing(row: Row, pool: [Outgoing; OUTGOING], l: Lists) -> Row {
+    let mut after = row;
     let mut i = 0;
     while i < OUTGOING {
-        after = waiting(out, after, pool[i], marks[i]);
+        if is_waiting(l, i as u16) {
+            after = outgoing_slot(after, pool[i]);
+        }
         i += 1;
     }
     after
 }
 
-// An outgoing slot, where it is used.
-fn waiting(out: &mut [u8], sink: Sink, s: Outgoing, mark: u8) -> Sink {
-    if mark == 0 {
-        return sink;
-    }
-    put(out, sink, s)
+// Whether an outgoing slot is used: one of the lists has it.
+fn is_waiting(l: Lists, s: u16) -> bool {
+    let a = l.sent;
+    let b = l.reliable;
+    let c = l.outgoing;
+    a.contains(s) || b.contains(s) || c.contains(s)
 }
 
-// The numbers of an outgoing slot, for a line.
-pub(crate) fn slot(out: &mut [u8], used: usize, s: Outgoing) -> usize {
-    let sink = Sink {
-        hash: 0,
-        used,
-        is_printed: true,
-    };
-    let said = put(out, sink, s);
-    said.used
-}
-
-fn put(out: &mut [u8], sink: Sink, s: Outgoing) -> Sink {
+pub(crate) fn outgoing_slot(row: Row, s: Outgoing) -> Row {
     let a = s.reliable;
     let b = s.unreliable;
     let numbers = [
-        sink::wide(a.0),
-        sink::wide(b.0),
+        a.0 as u32,
+        b.0 as u32,
         s.sent,
         s.timeout,
         s.queued,
         s.offset,
-        sink::wide(s.length),
-        sink::wide(s.attempts),
+        s.length as u32,
+        s.attempts as u32,
         s.packet as u32,
     ];
-    let placed = sink::put_all(out, sink, &numbers);
-    sink::put_command(out, placed, s.command)
+    let row = row::put_all(row, &numbers);
+    let c = s.command;
+    command(row, c)
 }
 
-fn incoming(out: &mut [u8], sink: Sink, pool: [Incoming; INCOMING], marks: [u8; INCOMING]) -> Sink {
-    let mut after = sink;
+pub(crate) fn command(row: Row, c: Command) -> Row {
+    let fields = c.fields;
+    fitted(row, rows::kind(fields), rows::of(c))
+}
+
+// As many numbers as a command of this kind has.
+fn fitted(row: Row, kind: u8, numbers: [u32; 16]) -> Row {
+    let mut after = row;
+    let mut j = 0;
+    while j < 16 && 0 < layout::width(kind, j) {
+        after = row::put(after, numbers[j]);
+        j += 1;
+    }
+    after
+}
+
+fn incoming(
+    row: Row,
+    pool: [Incoming; INCOMING],
+    l: Lists,
+    all: [Channel; CHANNELS],
+    count: u32,
+) -> Row {
+    let mut after = row;
     let mut i = 0;
     while i < INCOMING {
-        after = arrived(out, after, pool[i], marks[i]);
+        if is_held(l.dispatched, all, count, i as u16) {
+            after = incoming_slot(after, pool[i]);
+        }
         i += 1;
     }
     after
 }
 
-// An incoming slot, where it is used.
-fn arrived(out: &mut [u8], sink: Sink, s: Incoming, mark: u8) -> Sink {
-    if mark == 0 {
-        return sink;
+// Whether an incoming slot is used: the dispatched ones have it, or a channel below the count.
+fn is_held(dispatched: InList, all: [Channel; CHANNELS], count: u32, s: u16) -> bool {
+    let mut i = 0;
+    while i < CHANNELS && i < count as usize {
+        if is_in(all[i], s) {
+            return true;
+        }
+        i += 1;
     }
+    dispatched.contains(s)
+}
+
+fn is_in(c: Channel, s: u16) -> bool {
+    let held = c.held;
+    held.contains(s)
+}
+
+fn incoming_slot(row: Row, s: Incoming) -> Row {
     let n = s.number;
     let numbers = [
         s.byte as u32,
         s.channel as u32,
-        sink::wide(n.0),
+        n.0 as u32,
         s.fragments,
         s.remaining,
         s.length,
     ];
-    sink::put_all(out, sink, &numbers)
+    row::put_all(row, &numbers)
 }

@@ -1,58 +1,57 @@
 // Op 0: the settings for the calls that follow.
-use crate::bench::Bench;
-use crate::frame;
-use crate::line;
+use crate::frame::Frame;
+use peer::defaults::Kept;
+use peer::record::Peer;
 use peer::settings::Settings;
 
 // The store's length; a larger one does not fit.
 pub const STORE: u32 = 49152;
 
-enum Asked {
-    Fit { settings: Settings, store: u32 },
-    Bad,
+// What the calls of a script share beside the record.
+pub struct Bench {
+    pub settings: Settings,
+    // How much of the store ops 10 and 11 are lent.
+    pub store: u32,
 }
 
-pub(crate) fn first() -> Settings {
-    Settings {
+pub(crate) fn first() -> Bench {
+    let settings = Settings {
         mtu: numbers::consts::HOST_DEFAULT_MTU,
         packet: numbers::consts::HOST_DEFAULT_MAXIMUM_PACKET_SIZE,
         waiting: numbers::consts::HOST_DEFAULT_MAXIMUM_WAITING_DATA,
         checksum: false,
-    }
-}
-
-fn of(frame: &[u8]) -> Asked {
-    let checksum = frame::number(frame, 3);
-    if 1 < checksum {
-        return Asked::Bad;
-    }
-    let store = frame::number(frame, 4);
-    if STORE < store {
-        return Asked::Bad;
-    }
-    let mtu = frame::number(frame, 0);
-    let packet = frame::number(frame, 1);
-    let waiting = frame::number(frame, 2);
-    let settings = Settings {
-        mtu,
-        packet,
-        waiting,
-        checksum: checksum == 1,
     };
-    Asked::Fit { settings, store }
+    Bench {
+        settings,
+        store: STORE,
+    }
 }
 
-pub(crate) fn set(frame: &[u8], out: &mut [u8], bench: Bench) -> Bench {
-    let mut after = bench;
-    match of(frame) {
-        Asked::Fit { settings, store } => {
-            after.settings = settings;
-            after.store = store;
-            after.used = line::plain(out, bench.used, 0);
-        }
-        Asked::Bad => {
-            after.used = line::worded(out, bench.used, 0, b"bad");
-        }
+// The reset record, with every kept number 0.
+pub(crate) fn fresh() -> Peer {
+    let kept = Kept {
+        incoming_peer: 0,
+        outgoing_session: 0,
+        incoming_session: 0,
+        reserved: 0,
+        queued: 0,
+    };
+    Peer::fresh(numbers::consts::HOST_DEFAULT_MTU, kept)
+}
+
+// Any other op leaves them as they are.
+pub(crate) fn set(f: Frame, bench: Bench) -> Bench {
+    if f.op != 0 {
+        return bench;
     }
-    after
+    let settings = Settings {
+        mtu: f.n0,
+        packet: f.n1,
+        waiting: f.n2,
+        checksum: f.n3 == 1,
+    };
+    Bench {
+        settings,
+        store: f.n4,
+    }
 }

@@ -1,50 +1,44 @@
 // Op 7: the send step.
-use crate::bench::Bench;
-use crate::frame;
+use crate::frame::Frame;
 use crate::line;
 use crate::record;
-use crate::sends;
+use crate::row::Row;
 use parts::groups::Outgoing;
+use peer::record::Peer;
+use peer::settings::Settings;
 use sendstep::calls;
 use sendstep::calls::Reply;
 use sendstep::heads::Queue;
 
-pub(crate) fn call(frame: &[u8], out: &mut [u8], bench: Bench) -> Bench {
-    let time = frame::number(frame, 1);
-    match frame::number(frame, 0) {
-        0 => step(out, bench, Queue::Outgoing, time),
-        1 => step(out, bench, Queue::Reliable, time),
-        _ => sends::bad(out, 7, bench),
-    }
+pub(crate) fn call(f: Frame, settings: Settings, peer: Peer) -> Peer {
+    let stepped = calls::step(peer, settings, queue(f.n0), f.n1);
+    let reply = stepped.reply;
+    tell(reply);
+    stepped.peer
 }
 
-fn step(out: &mut [u8], bench: Bench, q: Queue, time: u32) -> Bench {
-    let stepped = calls::step(bench.peer, bench.settings, q, time);
-    let reply = stepped.reply;
-    let peer = stepped.peer;
-    let begun = line::begin(out, bench.used, 7);
-    let replied = told(out, begun, reply);
-    let mut after = bench;
-    after.used = record::hashed(out, replied, peer);
-    after.peer = peer;
-    after
+fn queue(list: u32) -> Queue {
+    if list == 0 {
+        Queue::Outgoing
+    } else {
+        Queue::Reliable
+    }
 }
 
 // The reply's number, then 0 for nothing to send, or 1 and the head's numbers.
-fn told(out: &mut [u8], used: usize, reply: Reply) -> usize {
+fn tell(reply: Reply) {
     match reply {
-        Reply::OutOfRange => line::value(out, used, 11),
-        Reply::Damaged => line::value(out, used, 13),
-        Reply::Nothing => {
-            let done = line::value(out, used, 0);
-            line::value(out, done, 0)
-        }
-        Reply::Head(o) => head(out, used, o),
+        Reply::Refused(why) => line::value(why.number()),
+        Reply::Nothing => line::pair(0, 0),
+        Reply::Head(o) => head(o),
     }
 }
 
-fn head(out: &mut [u8], used: usize, o: Outgoing) -> usize {
-    let done = line::value(out, used, 0);
-    let begun = line::value(out, done, 1);
-    record::slot(out, begun, o)
+fn head(o: Outgoing) {
+    line::pair(0, 1);
+    let row = Row {
+        hash: 0,
+        is_shown: true,
+    };
+    record::outgoing_slot(row, o);
 }

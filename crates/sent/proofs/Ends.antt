@@ -5,7 +5,6 @@ use mathlib.Core.Path.{_≡_, refl, ap, sym, _∙_}
 use mathlib.Core.Bool.{Bool, true, false, not}
 use mathlib.Core.List.{List, [], _∷_, _++_, append-assoc, append-nil}
 use lib.ListN.{length}
-
 use borrow.Author.Tests.{lt-ltb}
 use Rattle.numbers.specs.Pick.{pick}
 use Rattle.runs.specs.Runs.{pushed}

@@ -32,8 +32,8 @@ use Rattle.setup.proofs.Sound.{setup-open}
 use Rattle.setup.proofs.Stored.{one-exists, one-stored, open-room}
 
 -- the record as a call leaves it: an outbox's numbers, lists and channels, and the pool with another slot
-abbrev pub left : Peer → Outbox → List Channel → ℕ → Outgoing → Peer
-left p o cs at slot =
+abbrev pub leaves : Peer → Outbox → List Channel → ℕ → Outgoing → Peer
+leaves p o cs at slot =
     renewed p (p .standing) (withOutgoingTotal (p .totals) (o .total)) (p .times) (p .loss) (withReliable (p .flow) (o .counters .own)) (o .lists)
     (withOutgoingGroup (p .groups) (o .counters .group)) (withQueued (p .waiting) (o .queued)) cs (set (p .outgoing) at slot)
 
@@ -55,7 +55,7 @@ module _ (s : Settings) (x : Piece) (p : Peer) (ws : List ℕ) (v : ws ≡ worth
     one-at = one-exists x p (some (sym me ∙ opened)) o oe q qe
 
     pub one-left : (cs : List Channel) → cs ≡ numbered (p .channels) (x .command .channel) (q .outbox .counters)
-        → Came answerOf (onRecord s p rest) Done (left p (q .outbox) cs (q .at) (q .slot))
+        → Came answerOf (onRecord s p rest) Done (leaves p (q .outbox) cs (q .at) (q .slot))
     one-left cs ce =
         came-open s Nothing p ws v g e p rest answerOf Done _ passed
         (rw (behind-open rule p (finished (queued x p)) (sym me ∙ opened))

@@ -29,7 +29,7 @@ use Rattle.table.proofs.ByteLaws.{put-length, put-below, put-above, number-same
 use Rattle.table.proofs.LayoutLaws.{named, layout-known}
 use Rattle.command.proofs.Settled.{apart}
 use Rattle.wire.proofs.ReadLaws.{chosen, whole-room}
-use Rattle.wire.proofs.WriteLaws.{answered, left, named-kind, row-of-length}
+use Rattle.wire.proofs.WriteLaws.{answered, bytes-are, named-kind, row-of-length}
 use Rattle.wire.proofs.Settled.{readings-apart, writings-apart}
 
 -- ---- a row in bytes
@@ -132,7 +132,7 @@ module _ (s : List ℕ) (i : ℕ) (c : Command) where
       both-true (known kind) (leb (i + sizeOf kind) (length t)) kn
       (le-leb (i + sizeOf kind) (length t) (omega (arith, row-put-length s (layout kind) (rowOf c) i)))
       in
-      ap (λ (l : List ℕ). readAt l i) (left s i c true w)
+      ap (λ (l : List ℕ). readAt l i) (bytes-are s i c true w)
       ∙ ap
       (λ (x : ℕ).
       pick (both (known x) (leb (i + sizeOf x) (length t))) (done ((i + sizeOf x) ∷ x ∷ rowAt t i (layout x))) (refused BadCommand)) k
@@ -218,7 +218,7 @@ read-then-write s t after i j size c r b e w = record { room = there; short = no
         rw wide at (sets-eq (take (span c) (drop i s)) t j (omega (arith, wide)))
         in (
           writings-apart r (wr.Done (j + size)) (w .answer ∙ answered t j c true ok ∙ rw same),
-          rw same (w .buffer ∙ left t j c true ok ∙ found-copy s i (i + size) c e t j b ∙ put),
+          rw same (w .buffer ∙ bytes-are t j c true ok ∙ found-copy s i (i + size) c e t j b ∙ put),
         )
 
     none : length t < j + size → (r ≡ wr.Refused) × (after ≡ t)
@@ -226,4 +226,4 @@ read-then-write s t after i j size c r b e w = record { room = there; short = no
         let no : writable t j c ≡ false =
         both-false (namesFields c) (leb (j + span c) (length t)) (lt-leb (j + span c) (length t) (omega (arith, same)))
         in
-        (writings-apart r wr.Refused (w .answer ∙ answered t j c false no), w .buffer ∙ left t j c false no)
+        (writings-apart r wr.Refused (w .answer ∙ answered t j c false no), w .buffer ∙ bytes-are t j c false no)

@@ -48,11 +48,11 @@ module _ (s : List ℕ) (i : ℕ) (c : Command) where
   pub answered : (b : Bool) → writable s i c ≡ b → writeAnswer s i c ≡ pick b (done ((i + sizeOf kind) ∷ [])) (refused BadCommand)
   answered b e = ap (λ (t : Bool). pick t (done ((i + sizeOf kind) ∷ [])) (refused BadCommand)) e
 
-  pub left : (b : Bool) → writable s i c ≡ b → writeBytes s i c ≡ pick b (putRow s i (layout kind) (rowOf c)) s
-  left b e = ap (λ (t : Bool). pick t (putRow s i (layout kind) (rowOf c)) s) e
+  pub bytes-are : (b : Bool) → writable s i c ≡ b → writeBytes s i c ≡ pick b (putRow s i (layout kind) (rowOf c)) s
+  bytes-are b e = ap (λ (t : Bool). pick t (putRow s i (layout kind) (rowOf c)) s) e
 
   none : writable s i c ≡ false → Written s i c writing.Refused s
-  none e = record { answer = sym (answered false e); buffer = sym (left false e) }
+  none e = record { answer = sym (answered false e); buffer = sym (bytes-are false e) }
 
   pub write-unnamed : namesFields c ≡ false → Written s i c writing.Refused s
   write-unnamed e = none (ap (λ (b : Bool). both b (leb (i + sizeOf kind) (length s))) e)
@@ -75,5 +75,5 @@ module _ (s : List ℕ) (i : ℕ) (c : Command) where
       in
       record {
         answer = ap (λ (x : ℕ). done ((i + x) ∷ [])) (m ∙ ap sizeOf k) ∙ sym (answered true w);
-        buffer = e ∙ ap (λ (x : ℕ). putRow s i (layout x) (pad 16 (rowOf c))) k ∙ p ∙ sym (left true w);
+        buffer = e ∙ ap (λ (x : ℕ). putRow s i (layout x) (pad 16 (rowOf c))) k ∙ p ∙ sym (bytes-are true w);
       }

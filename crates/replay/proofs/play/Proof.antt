@@ -1,49 +1,64 @@
--- `play` is safe and ends: what is held stays within the buffer, and the lengths stay; the measure is the turns that are left.
-use Prim.Native.Nat.{_≤_}
+-- `play` is safe and ends: the lengths stay; the measure is the turns that are left.
 use mathlib.Core.Path.{_≡_}
 use lib.ListN.{length}
 use borrow.Author.Needs.{needs}
+use native.Mathlib.Omega.{arith}
 use Rattle.replay.proofs.play.Statement.{statement}
 use Rattle.replay.proofs.play.Tie as tie
 
 abbrev Inv-loop : tie.InvT-loop
-Inv-loop input₀ out₀ store₀ turns₀ run₀ input out store turns run = (run .held .start ≤ run .held .end) × (run .held .end ≤ length input) × (length input ≡ length input₀) × (length out ≡ length out₀) × (length store ≡ length store₀)
+Inv-loop input₀ store turns₀ bench₀ peer₀ input turns bench peer = length input ≡ length input₀
 
 abbrev μ-loop : tie.MeasureT-loop
-μ-loop input₀ out₀ store₀ turns₀ run₀ input out store turns run = turns
+μ-loop input₀ store turns₀ bench₀ peer₀ input turns bench peer = turns
 
 first-requires : tie.Need-first-requires Inv-loop μ-loop
 first-requires c κs = search needs
 
+fresh-requires : tie.Need-fresh-requires Inv-loop μ-loop
+fresh-requires c κs = search needs
+
 loop-holds : tie.Need-loop-holds Inv-loop μ-loop
 loop-holds c = search needs
-
-turn-requires : tie.Need-turn-requires Inv-loop μ-loop
-turn-requires c κs = search needs
 
 sub-turns : tie.Need-sub-turns Inv-loop μ-loop
 sub-turns c = search needs
 
+is-next-requires : tie.Need-is-next-requires Inv-loop μ-loop
+is-next-requires c κs = search needs
+
+asked-requires : tie.Need-asked-requires Inv-loop μ-loop
+asked-requires c κs = search needs
+
+set-requires : tie.Need-set-requires Inv-loop μ-loop
+set-requires c κs = search needs
+
+changed-requires : tie.Need-changed-requires Inv-loop μ-loop
+changed-requires c κs = search needs
+
+hash-requires : tie.Need-hash-requires Inv-loop μ-loop
+hash-requires c κs = search needs
+
+end-requires : tie.Need-end-requires Inv-loop μ-loop
+end-requires c κs = search needs
+
 loop-less : tie.Need-loop-less Inv-loop μ-loop
-loop-less c = search needs
+loop-less c = omega (arith, c .before .before .before .before .before .before .before .before .before .before .before .before .before .loop-test .taken)
 
 loop-again : tie.Need-loop-again Inv-loop μ-loop
-loop-again c = search needs
-
-flush-requires : tie.Need-flush-requires Inv-loop μ-loop
-flush-requires c κs = search needs
+loop-again c = search (needs, c .before .before .before .before .before .before .before .before .before .before .input .given, c .before .before .before .before .before .before .before .before .before .before .before .before .before .before .loop .inv)
 
 same-length : tie.Need-same-length Inv-loop μ-loop
 same-length c = search needs
 
+returns : tie.Need-returns Inv-loop μ-loop
+returns c = search needs
+
 same-length-2 : tie.Need-same-length-2 Inv-loop μ-loop
 same-length-2 c = search needs
 
-same-length-3 : tie.Need-same-length-3 Inv-loop μ-loop
-same-length-3 c = search needs
-
-returns : tie.Need-returns Inv-loop μ-loop
-returns c = search needs
+returns-2 : tie.Need-returns-2 Inv-loop μ-loop
+returns-2 c = search needs
 
 pub play-spec : {M : Type 1} → statement M
 play-spec =
@@ -52,13 +67,18 @@ play-spec =
     Inv-loop
     μ-loop
     first-requires
+    fresh-requires
     loop-holds
-    turn-requires
     sub-turns
+    is-next-requires
+    asked-requires
+    set-requires
+    changed-requires
+    hash-requires
+    end-requires
     loop-less
     loop-again
-    flush-requires
     same-length
+    returns
     same-length-2
-    same-length-3
-    returns)
+    returns-2)

@@ -1,16 +1,14 @@
--- `listed` is safe and ends: i stays within the buffer, and the length of the output buffer stays; the measure is the bytes that are left.
+-- `listed` is safe and ends: i stays within the buffer; the measure is the bytes that are left.
 use Prim.Native.Nat.{_≤_, _-_}
-use mathlib.Core.Path.{_≡_}
-use lib.ListN.{length}
 use borrow.Author.Needs.{needs}
 use Rattle.replay.proofs.commands.listed.Statement.{statement}
 use Rattle.replay.proofs.commands.listed.Tie as tie
 
 abbrev Inv-loop : tie.InvT-loop
-Inv-loop out₀ used buffer end count₀ i₀ out count i = (i ≤ 64) × (length out ≡ length out₀)
+Inv-loop buffer end i₀ i = (i ≤ 64)
 
 abbrev μ-loop : tie.MeasureT-loop
-μ-loop out₀ used buffer end count₀ i₀ out count i = 64 - i
+μ-loop buffer end i₀ i = 64 - i
 
 value-requires : tie.Need-value-requires Inv-loop μ-loop
 value-requires c κs = search needs
@@ -36,14 +34,11 @@ loop-less c = search needs
 loop-again : tie.Need-loop-again Inv-loop μ-loop
 loop-again c = search needs
 
-end-requires : tie.Need-end-requires Inv-loop μ-loop
-end-requires c κs = search needs
-
-same-length : tie.Need-same-length Inv-loop μ-loop
-same-length c = search needs
-
 returns : tie.Need-returns Inv-loop μ-loop
 returns c = search needs
+
+returns-2 : tie.Need-returns-2 Inv-loop μ-loop
+returns-2 c = search needs
 
 pub listed-spec : {M : Type 1} → statement M
 listed-spec =
@@ -59,6 +54,5 @@ listed-spec =
     add-i
     loop-less
     loop-again
-    end-requires
-    same-length
-    returns)
+    returns
+    returns-2)

@@ -1,16 +1,14 @@
--- `channels` is safe and ends: i stays below the channels, and the length of the output buffer stays; the measure is the channels that are left.
+-- `channels` is safe and ends: i stays within the channels; the measure is those that are left.
 use Prim.Native.Nat.{_≤_, _-_}
-use mathlib.Core.Path.{_≡_}
-use lib.ListN.{length}
 use borrow.Author.Needs.{needs}
 use Rattle.replay.proofs.record.channels.Statement.{statement}
 use Rattle.replay.proofs.record.channels.Tie as tie
 
 abbrev Inv-loop : tie.InvT-loop
-Inv-loop out₀ count all n after₀ i₀ out after i = (i ≤ 8) × (length out ≡ length out₀)
+Inv-loop count all after₀ i₀ after i = (i ≤ 8)
 
 abbrev μ-loop : tie.MeasureT-loop
-μ-loop out₀ count all n after₀ i₀ out after i = 8 - i
+μ-loop count all after₀ i₀ after i = 8 - i
 
 loop-holds : tie.Need-loop-holds Inv-loop μ-loop
 loop-holds c = search needs
@@ -33,14 +31,8 @@ loop-less c = search needs
 loop-again : tie.Need-loop-again Inv-loop μ-loop
 loop-again c = search needs
 
-same-length : tie.Need-same-length Inv-loop μ-loop
-same-length c = search needs
-
 returns : tie.Need-returns Inv-loop μ-loop
 returns c = search needs
-
-same-length-2 : tie.Need-same-length-2 Inv-loop μ-loop
-same-length-2 c = search needs
 
 returns-2 : tie.Need-returns-2 Inv-loop μ-loop
 returns-2 c = search needs
@@ -58,7 +50,5 @@ channels-spec =
     add-i
     loop-less
     loop-again
-    same-length
     returns
-    same-length-2
     returns-2)

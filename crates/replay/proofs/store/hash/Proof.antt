@@ -1,15 +1,15 @@
--- `hashed` is safe and ends: i stays within the bytes; the measure is the bytes that are left.
-use Prim.Native.Nat.{_≤_, _-_}
-use lib.ListN.{length}
+-- `hash` is safe and ends: i stays within the store or behind it; the measure is the bytes that are left.
+use Prim.Native.Nat.{_+_}
+use mathlib.Core.Path.{_≡_}
 use borrow.Author.Needs.{needs}
-use Rattle.replay.proofs.store.hashed.Statement.{statement}
-use Rattle.replay.proofs.store.hashed.Tie as tie
+use Rattle.replay.proofs.store.hash.Statement.{statement}
+use Rattle.replay.proofs.store.hash.Tie as tie
 
 abbrev Inv-loop : tie.InvT-loop
-Inv-loop bytes hash₀ i₀ hash i = i ≤ length bytes
+Inv-loop store first count hash₀ left₀ i₀ hash left i = i + left ≡ first + count
 
 abbrev μ-loop : tie.MeasureT-loop
-μ-loop bytes hash₀ i₀ hash i = length bytes - i
+μ-loop store first count hash₀ left₀ i₀ hash left i = left
 
 loop-holds : tie.Need-loop-holds Inv-loop μ-loop
 loop-holds c = search needs
@@ -23,6 +23,9 @@ wide-requires c κs = search needs
 mixed-requires : tie.Need-mixed-requires Inv-loop μ-loop
 mixed-requires c κs = search needs
 
+sub-left : tie.Need-sub-left Inv-loop μ-loop
+sub-left c = search needs
+
 add-i : tie.Need-add-i Inv-loop μ-loop
 add-i c = search needs
 
@@ -35,8 +38,11 @@ loop-again c = search needs
 returns : tie.Need-returns Inv-loop μ-loop
 returns c = search needs
 
-pub hashed-spec : {M : Type 1} → statement M
-hashed-spec =
+returns-2 : tie.Need-returns-2 Inv-loop μ-loop
+returns-2 c = search needs
+
+pub hash-spec : {M : Type 1} → statement M
+hash-spec =
     tie.close
     (tie.spec
     Inv-loop
@@ -45,7 +51,9 @@ hashed-spec =
     shared-slice-read-wide
     wide-requires
     mixed-requires
+    sub-left
     add-i
     loop-less
     loop-again
-    returns)
+    returns
+    returns-2)

@@ -1,16 +1,15 @@
--- `put_all` is safe and ends: i stays within the row, and the length of the output buffer stays; the measure is the numbers that are left.
+-- `put_all` is safe and ends: i stays within the numbers; the measure is those that are left.
 use Prim.Native.Nat.{_≤_, _-_}
-use mathlib.Core.Path.{_≡_}
 use lib.ListN.{length}
 use borrow.Author.Needs.{needs}
-use Rattle.replay.proofs.sink.put_all.Statement.{statement}
-use Rattle.replay.proofs.sink.put_all.Tie as tie
+use Rattle.replay.proofs.row.put_all.Statement.{statement}
+use Rattle.replay.proofs.row.put_all.Tie as tie
 
 abbrev Inv-loop : tie.InvT-loop
-Inv-loop out₀ row after₀ i₀ out after i = (i ≤ length row) × (length out ≡ length out₀)
+Inv-loop numbers after₀ i₀ after i = (i ≤ length numbers)
 
 abbrev μ-loop : tie.MeasureT-loop
-μ-loop out₀ row after₀ i₀ out after i = length row - i
+μ-loop numbers after₀ i₀ after i = length numbers - i
 
 loop-holds : tie.Need-loop-holds Inv-loop μ-loop
 loop-holds c = search needs
@@ -33,9 +32,6 @@ loop-less c = search needs
 loop-again : tie.Need-loop-again Inv-loop μ-loop
 loop-again c = search needs
 
-same-length : tie.Need-same-length Inv-loop μ-loop
-same-length c = search needs
-
 returns : tie.Need-returns Inv-loop μ-loop
 returns c = search needs
 
@@ -52,5 +48,4 @@ put-all-spec =
     add-i
     loop-less
     loop-again
-    same-length
     returns)

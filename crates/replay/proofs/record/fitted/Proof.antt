@@ -1,16 +1,14 @@
--- `put_kind` is safe and ends: j stays within the row, and the length of the output buffer stays; the measure is the places that are left.
+-- `fitted` is safe and ends: j stays within the row; the measure is the places that are left.
 use Prim.Native.Nat.{_≤_, _-_}
-use mathlib.Core.Path.{_≡_}
-use lib.ListN.{length}
 use borrow.Author.Needs.{needs}
-use Rattle.replay.proofs.sink.put_kind.Statement.{statement}
-use Rattle.replay.proofs.sink.put_kind.Tie as tie
+use Rattle.replay.proofs.record.fitted.Statement.{statement}
+use Rattle.replay.proofs.record.fitted.Tie as tie
 
 abbrev Inv-loop : tie.InvT-loop
-Inv-loop out₀ kind row after₀ j₀ out after j = (j ≤ 16) × (length out ≡ length out₀)
+Inv-loop kind numbers after₀ j₀ after j = (j ≤ 16)
 
 abbrev μ-loop : tie.MeasureT-loop
-μ-loop out₀ kind row after₀ j₀ out after j = 16 - j
+μ-loop kind numbers after₀ j₀ after j = 16 - j
 
 loop-holds : tie.Need-loop-holds Inv-loop μ-loop
 loop-holds c = search needs
@@ -36,20 +34,14 @@ loop-less c = search needs
 loop-again : tie.Need-loop-again Inv-loop μ-loop
 loop-again c = search needs
 
-same-length : tie.Need-same-length Inv-loop μ-loop
-same-length c = search needs
-
 returns : tie.Need-returns Inv-loop μ-loop
 returns c = search needs
-
-same-length-2 : tie.Need-same-length-2 Inv-loop μ-loop
-same-length-2 c = search needs
 
 returns-2 : tie.Need-returns-2 Inv-loop μ-loop
 returns-2 c = search needs
 
-pub put-kind-spec : {M : Type 1} → statement M
-put-kind-spec =
+pub fitted-spec : {M : Type 1} → statement M
+fitted-spec =
     tie.close
     (tie.spec
     Inv-loop
@@ -62,7 +54,5 @@ put-kind-spec =
     add-j
     loop-less
     loop-again
-    same-length
     returns
-    same-length-2
     returns-2)
