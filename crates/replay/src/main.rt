@@ -3,7 +3,6 @@ mod calls;
 mod commands;
 mod fits;
 mod frame;
-mod groups;
 mod line;
 mod record;
 mod row;

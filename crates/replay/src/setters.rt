@@ -2,18 +2,29 @@
 use crate::commands;
 use crate::frame;
 use crate::frame::Frame;
-use crate::groups;
 use numbers::counters::Reliable;
 use numbers::counters::Unreliable;
+use parts::groups::CHANNELS;
 use parts::groups::Channel;
+use parts::groups::Groups;
 use parts::groups::Incoming;
 use parts::groups::Lists;
 use parts::groups::Outgoing;
 use peer::record::Peer;
+use slots::INCOMING;
+use slots::OUTGOING;
 use slots::incoming::InList;
 use slots::outgoing::OutList;
 
-pub(crate) fn first(which: u32, x: u32, mut p: Peer) -> Peer {
+// Op 20.
+pub(crate) fn number(which: u32, x: u32, p: Peer) -> Peer {
+    if which < 22 {
+        return low(which, x, p);
+    }
+    high(which, x, p)
+}
+
+fn low(which: u32, x: u32, mut p: Peer) -> Peer {
     let short = frame::short(x);
     let byte = frame::byte(x);
     match which {
@@ -44,35 +55,90 @@ pub(crate) fn first(which: u32, x: u32, mut p: Peer) -> Peer {
     p
 }
 
-// Op 20: the group that has the number.
-pub(crate) fn number(which: u32, x: u32, mut p: Peer) -> Peer {
+// The words are 64 to 95.
+fn high(which: u32, x: u32, mut p: Peer) -> Peer {
+    let short = frame::short(x);
     match which {
-        0..=4 => p.ids = groups::ids(p.ids, which, x),
-        5..=6 => p.standing = groups::standing(p.standing, which, x),
-        7..=10 => p.bandwidth = groups::bandwidth(p.bandwidth, which, x),
-        11..=12 => p.totals = groups::totals(p.totals, which, x),
-        13..=16 => p.times = groups::times(p.times, which, x),
-        17..=21 => p.loss = groups::loss(p.loss, which, x),
-        22..=28 => p.throttling = groups::throttling(p.throttling, which, x),
-        29..=32 => p.limits = groups::limits(p.limits, which, x),
-        33..=38 => p.trips = groups::trips(p.trips, which, x),
-        39..=42 => p.flow = groups::flow(p.flow, which, x),
-        47..=49 => p.waiting = groups::waiting(p.waiting, which, x),
-        _ => p.groups = groups::group(p.groups, which, x),
+        22 => p.throttling.value = x,
+        23 => p.throttling.limit = x,
+        24 => p.throttling.counter = x,
+        25 => p.throttling.epoch = x,
+        26 => p.throttling.acceleration = x,
+        27 => p.throttling.deceleration = x,
+        28 => p.throttling.interval = x,
+        29 => p.limits.ping = x,
+        30 => p.limits.timeout = x,
+        31 => p.limits.minimum = x,
+        32 => p.limits.maximum = x,
+        33 => p.trips.last = x,
+        34 => p.trips.lowest = x,
+        35 => p.trips.last_variance = x,
+        36 => p.trips.highest_variance = x,
+        37 => p.trips.now = x,
+        38 => p.trips.variance = x,
+        39 => p.flow.mtu = x,
+        40 => p.flow.window = x,
+        41 => p.flow.transit = x,
+        42 => p.flow.reliable.0 = short,
+        43 => p.groups.flags = short,
+        44 => p.groups.reserved = short,
+        45 => p.groups.incoming.0 = short,
+        46 => p.groups.outgoing.0 = short,
+        47 => p.waiting.event = x,
+        48 => p.waiting.total = x,
+        49 => p.waiting.queued = x,
+        _ => p.groups = worded(p.groups, which, x),
     }
     p
 }
 
-// Ops 21 to 24: each part at the place that the frame names, which changes where the op is its own.
+fn worded(g: Groups, which: u32, x: u32) -> Groups {
+    let mut to = g;
+    if 63 < which {
+        let i = (which % 32) as usize;
+        to.words[i] = x;
+    }
+    to
+}
+
+// Ops 21 to 24: each part, which changes where the op is its own.
 pub(crate) fn part(f: Frame, input: &[u8], mut p: Peer) -> Peer {
-    let c = (f.n0 % 8) as usize;
-    let o = (f.n0 % 32) as usize;
-    let i = (f.n0 % 12) as usize;
+    let all = p.channels;
+    let out_pool = p.outgoing;
+    let in_pool = p.incoming;
+    let all = channels(f, all);
+    let out_pool = sending(f, input, out_pool);
+    let in_pool = arrived(f, in_pool);
     p.lists = lists(f, p.lists);
-    p.channels[c] = channel(f, p.channels[c]);
-    p.outgoing[o] = outgoing(f, input, p.outgoing[o]);
-    p.incoming[i] = incoming(f, p.incoming[i]);
+    p.channels = all;
+    p.outgoing = out_pool;
+    p.incoming = in_pool;
     p
+}
+
+fn channels(f: Frame, all: [Channel; CHANNELS]) -> [Channel; CHANNELS] {
+    let i = (f.n0 % 8) as usize;
+    let mut to = all;
+    to[i] = channel(f, all[i]);
+    to
+}
+
+fn sending(f: Frame, input: &[u8], pool: [Outgoing; OUTGOING]) -> [Outgoing; OUTGOING] {
+    let mut to = pool;
+    if f.op == 23 {
+        let i = (f.n0 % 32) as usize;
+        to[i] = outgoing(f, input);
+    }
+    to
+}
+
+fn arrived(f: Frame, pool: [Incoming; INCOMING]) -> [Incoming; INCOMING] {
+    let mut to = pool;
+    if f.op == 24 {
+        let i = (f.n0 % 12) as usize;
+        to[i] = incoming(f);
+    }
+    to
 }
 
 fn lists(f: Frame, l: Lists) -> Lists {
@@ -142,10 +208,7 @@ fn counted(f: Frame, c: Channel) -> Channel {
     to
 }
 
-fn outgoing(f: Frame, input: &[u8], slot: Outgoing) -> Outgoing {
-    if f.op != 23 {
-        return slot;
-    }
+fn outgoing(f: Frame, input: &[u8]) -> Outgoing {
     let reliable = Reliable(frame::short(f.n1));
     let unreliable = Unreliable(frame::short(f.n2));
     let command = commands::command(input, 10, 11);
@@ -163,10 +226,7 @@ fn outgoing(f: Frame, input: &[u8], slot: Outgoing) -> Outgoing {
     }
 }
 
-fn incoming(f: Frame, slot: Incoming) -> Incoming {
-    if f.op != 24 {
-        return slot;
-    }
+fn incoming(f: Frame) -> Incoming {
     let number = Reliable(frame::short(f.n3));
     Incoming {
         byte: frame::byte(f.n1),
