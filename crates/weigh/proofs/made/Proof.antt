@@ -1,18 +1,22 @@
--- The test picks the record, and the constant is the record written out.
-use borrow.Author.Tests.{eq-eqb, ne-eqb}
-use Rattle.parts.specs.Fresh.{noLists, noChannel, noOutgoing, noIncoming}
-use Rattle.peer.specs.Fresh.{freshPeer}
-use Rattle.weigh.specs.Made.{emptyPeer, fullPeer, fullLists, fullSent, fullDispatched, fullOutgoing, fullIncoming}
+-- The reset record, with another standing.
+use mathlib.Core.Path.{ap}
+use borrow.Author.Needs.{needs}
+use Rattle.parts.specs.declared.groups.Standing.{Standing}
+use Rattle.peer.specs.Updates.{withStanding}
+use Rattle.peer.specs.declared.record.Peer.{Peer}
+use Rattle.weigh.specs.Weighed.{madePeer}
 use Rattle.weigh.proofs.made.Statement.{statement}
 use Rattle.weigh.proofs.made.Tie as tie
 
-returns : tie.Need-returns
-unfolding emptyPeer freshPeer noLists noChannel noOutgoing noIncoming
-returns c = rw (eq-eqb _ _ (c .if1 .taken))
+fresh-requires : tie.Need-fresh-requires
+fresh-requires c κs = search needs
 
-returns-2 : tie.Need-returns-2
-unfolding emptyPeer fullPeer freshPeer noLists noChannel fullLists fullSent fullDispatched fullOutgoing fullIncoming
-returns-2 c = rw (ne-eqb _ _ (c .if1 .left))
+returns : tie.Need-returns
+unfolding madePeer
+returns c =
+    let fresh = c .before .before .fresh in
+    let args = c .before .before .before .args in
+    ap (λ (p : Peer). withStanding p (record { state = args .state; count = args .count })) (fresh .ensures)
 
 pub made-spec : {M : Type 1} → statement M
-made-spec = tie.close (tie.spec returns returns-2)
+made-spec = tie.close (tie.spec fresh-requires returns)
