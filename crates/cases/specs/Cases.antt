@@ -16,7 +16,7 @@ use Rattle.parts.specs.Fresh.{noOutgoing}
 use Rattle.peer.specs.Fresh.{freshPeer}
 use Rattle.peer.specs.States.{connected}
 use Rattle.peer.specs.Outcome.{Outcome}
-use Rattle.peer.specs.Calls.{begins, setsState}
+use Rattle.opening.specs.Calls.{begins, setsState}
 use Rattle.peer.specs.declared.settings.Settings.{Settings}
 use Rattle.peer.specs.declared.defaults.Kept.{Kept}
 use Rattle.peer.specs.declared.record.Peer.{Peer}

@@ -9,21 +9,20 @@ use lib.Dec.{eqb}
 use lib.ListN.{length, take, getD, set, replicate, List·getD-map}
 use lib.Seq.{take-suc, take-suc-set}
 use native.Mathlib.Numerals.{add-one}
-use Rattle.numbers.proofs.BoolLaws.{both-assoc, both-with-true}
+use Rattle.numbers.proofs.BoolLaws.{both-with-true}
 use Rattle.numbers.specs.Pick.{pick, both}
 use Rattle.runs.specs.Free.{exist, once, markedAll}
-use Rattle.slots.specs.Lists.{outgoing, incoming, outItems, inItems}
+use Rattle.slots.specs.Lists.{outgoing, outItems}
 use Rattle.slots.specs.declared.outgoing.OutList.{OutList}
 use Rattle.parts.specs.declared.groups.Lists.{Lists}
 use Rattle.parts.specs.declared.groups.Channel.{Channel}
 use Rattle.parts.specs.declared.groups.Outgoing.{Outgoing}
 use Rattle.parts.specs.declared.groups.Incoming.{Incoming}
-use Rattle.parts.specs.Damage.{all, held, outFit, tried, inFit, own, lengths, below, ranged, listsFit, heldFit, outSound, inSound, partsSound}
+use Rattle.parts.specs.Damage.{all, outFit, tried, below, ranged, listsFit, heldFit, outSound, inSound, partsSound}
 use Rattle.parts.specs.Fresh.{noOutgoing}
-use Rattle.damage.specs.Walks.{passes, outPasses, inPasses, heldPass, listAt, outPass, worthOf, enough, worthPasses, worthSound}
-use Rattle.damage.proofs.WalkLaws.{any, middle, pass-append, pass-one, pass-two, all-append, new-rule}
-use Rattle.damage.proofs.HeldLaws.{held-is}
-use Rattle.damage.proofs.SumLaws.{sum-append}
+use Rattle.held.specs.Walks.{passes}
+use Rattle.damage.specs.Walks.{outPasses, listAt, outPass, worthOf, enough, worthPasses, worthSound}
+use Rattle.held.proofs.WalkLaws.{any, middle, pass-append, pass-one, pass-two, all-append, new-rule}
 
 -- Bool algebra
 right : (d t y : Bool) → both (both d t) y ≡ both (both d y) t
@@ -137,30 +136,3 @@ module _ (f : Bool → ℕ → Bool) (l : Lists) (k : ℕ) (m : List ℕ) (h : k
 pub out-end : (f : Bool → ℕ → Bool) (l : Lists) (k : ℕ) (m : List ℕ) → 3 ≤ k → outPass f l (3 - k) k m ≡ true
 unfolding outPass
 out-end f l k m h = let z : 3 - k ≡ 0 = omega arith in rw z
-
-line : (a b c d o e : Bool) → both (both a c) (both (both b (both d o)) e) ≡ both (both a b) (both (both c d) (both o e))
-line a b c d o e =
-    ap (λ (w : Bool). both (both a c) w) (both-assoc b (both d o) e ∙ ap (λ (w : Bool). both b w) (both-assoc d o e))
-    ∙ middle a c b (both d (both o e))
-    ∙ ap (λ (w : Bool). both (both a b) w) (sym (both-assoc c d (both o e)))
-
--- a list, then the channels' lists
-pub in-is : (slots : List Incoming) (l : Lists) (cs : List Channel) (count total : ℕ)
-    → inSound slots l cs count total
-    ≡ both (passes (inPasses slots count false 0) (replicate incoming 0) (inItems (l .dispatched)))
-    (both (heldPass slots count 0 (markedAll (replicate incoming 0) (inItems (l .dispatched))) cs)
-    (eqb total (lengths slots (inItems (l .dispatched)) + lengths slots (held cs))))
-in-is slots l cs count total =
-    let xs = inItems (l .dispatched) in
-    let m : List ℕ = replicate incoming 0 in
-    let f = inFit slots count in
-    let e = eqb total (lengths slots xs + lengths slots (held cs)) in
-    rw (
-      pass-one f m xs,
-      held-is slots count 0 (markedAll m xs) cs,
-      ← new-rule incoming (xs ++ held cs),
-      pass-append any m xs (held cs),
-      all-append f xs (held cs),
-      sum-append slots xs (held cs),
-    )
-    (sym (line (passes any m xs) (passes any (markedAll m xs) (held cs)) (all f xs) (all f (held cs)) (own slots 0 cs) e))

@@ -1,5 +1,4 @@
 -- What every call on the record promises of soundness.
-use Prim.Native.Nat.{ℕ}
 use mathlib.Core.Path.{_≡_}
 use mathlib.Core.Bool.{true}
 use lib.ListN.{length}

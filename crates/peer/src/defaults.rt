@@ -1,10 +1,7 @@
 // The reset values and the state numbers, which belong to the peer's own type, and the reset record.
 ghost use mathlib.Core.Path.{_≡_};
 ghost use mathlib.Core.List.{[], _∷_};
-ghost use Rattle.parts.specs.Sizes.{channels};
-ghost use Rattle.parts.specs.Fresh.{noChannel};
 ghost use Rattle.peer.specs.Fresh.{freshPeer};
-ghost use lib.ListN.{replicate};
 use crate::record::Peer;
 use command::fields::Command;
 use command::fields::Fields;
@@ -216,7 +213,8 @@ const NO_IN: InList = InList {
     slots: [0; INCOMING],
 };
 
-const NO_CHANNEL: Channel = Channel {
+// A channel of all 0.
+pub const NO_CHANNEL: Channel = Channel {
     outgoing_reliable: Reliable(0),
     outgoing_unreliable: Unreliable(0),
     incoming_reliable: Reliable(0),
@@ -253,9 +251,3 @@ const NO_INCOMING: Incoming = Incoming {
     remaining: 0,
     length: 0,
 };
-
-pub(crate) fn no_channels() -> [Channel; CHANNELS]
-    ensures { λ r. ⌜ r ≡ replicate channels noChannel ⌝ }
-{
-    [NO_CHANNEL; CHANNELS]
-}

@@ -19,9 +19,9 @@ pub(crate) fn call(f: Frame, input: &[u8], settings: Settings, peer: Peer) -> Pe
 fn made(f: Frame, input: &[u8], settings: Settings, peer: Peer) -> Called {
     let op = f.op;
     match op {
-        1 => peer.reset(settings),
-        2 => peer.begin(settings, f.n0, f.n1),
-        3 => peer.set_state(settings, f.n0),
+        1 => opening::reset(peer, settings),
+        2 => opening::begin(peer, settings, f.n0, f.n1),
+        3 => opening::set_state(peer, settings, f.n0),
         4 => ping::ping(peer, settings),
         5 => sending::calls::send(peer, settings, frame::byte(f.n0), f.n1, f.n2),
         _ => setup::calls::setup(peer, settings, piece(f, input)),

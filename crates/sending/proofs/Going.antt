@@ -1,6 +1,6 @@
 -- A send's loop: after some of its commands, what all of them make of the record is what those left make of it as stored so far. And what
 -- the send then comes to. The argument: a turn is setup's `turn-on`; at the end none is left, and what is stored is the send's record.
-use Prim.Native.Nat.{ℕ, suc, _+_, _-_, _≤_, _<_}
+use Prim.Native.Nat.{ℕ, _+_, _-_, _≤_, _<_}
 use mathlib.Core.Path.{_≡_, refl, ap, sym, _∙_}
 use mathlib.Core.Bool.{Bool, true, false, not}
 use mathlib.Core.List.{List, [], _∷_}
@@ -18,9 +18,8 @@ use Rattle.parts.specs.Sizes.{channels}
 use Rattle.parts.specs.Damage.{usedOut}
 use Rattle.parts.specs.Updates.{withOutgoingTotal, withReliable, withOutgoingGroup, withQueued}
 use Rattle.parts.specs.declared.groups.Channel.{Channel}
-use Rattle.parts.specs.declared.groups.Outgoing.{Outgoing}
 use Rattle.peer.specs.Damage.{sound}
-use Rattle.peer.specs.Outcome.{Outcome, Came, finished}
+use Rattle.peer.specs.Outcome.{Came, finished}
 use Rattle.peer.specs.Gate.{fits, gateOf, then, behind}
 use Rattle.peer.specs.Sounds.{Whole}
 use Rattle.peer.specs.Calls.{answerOf}
@@ -33,7 +32,7 @@ use Rattle.peer.specs.declared.gate.Lent.the-variants.{Nothing}
 use Rattle.peer.specs.declared.calls.Reply.the-variants.{Done, Refused}
 use Rattle.peer.proofs.Gates.{worthsOf, soundBy, openness, open-sound, behind-shut, behind-open, then-behind, came-open}
 use Rattle.stamps.specs.Counting.{channelAt, numbered}
-use Rattle.stamps.specs.Outboxes.{queueing, outboxOf, freeIn}
+use Rattle.stamps.specs.Outboxes.{queueing, outboxOf}
 use Rattle.stamps.specs.declared.pieces.Piece.{Piece}
 use Rattle.stamps.specs.declared.outbox.Outbox.{Outbox}
 use Rattle.stamps.specs.declared.outbox.Queued.{Queued}

@@ -1,7 +1,7 @@
 -- A plan is its gates in their order; and the commands of a packet one after another, as the loop over them takes them.
 -- The argument: each gate's answer is a variable with its equation, so that the plan is decided by cases; a packet's commands lose their
 -- first at each turn, whether it is one command or pieces.
-use Prim.Native.Nat.{ℕ, zero, suc, _+_, _-_, _≤_, _<_}
+use Prim.Native.Nat.{ℕ, suc, _+_, _-_, _≤_, _<_}
 use mathlib.Core.Path.{_≡_, refl, ap, sym, _∙_}
 use mathlib.Core.List.{List, [], _∷_}
 use native.Mathlib.Omega.{arith}
@@ -17,10 +17,9 @@ use Rattle.peer.specs.declared.gate.Gate.{Gate}
 use Rattle.peer.specs.declared.gate.Gate.the-variants.{Open, Shut}
 use Rattle.stamps.specs.Counting.{channelAt}
 use Rattle.stamps.specs.Outboxes.{freeIn}
-use Rattle.stamps.specs.declared.pieces.Piece.{Piece}
 use Rattle.stamps.specs.declared.outbox.Outbox.{Outbox}
-use Rattle.packets.specs.Packets.{fragmentLength, lengthAt, whole, startOf, cutFrom, pieces}
-use Rattle.sending.specs.Calls.{cutBy, sendGate, queueGate}
+use Rattle.packets.specs.Packets.{fragmentLength, cutFrom, pieces}
+use Rattle.sending.specs.Calls.{sendGate, queueGate}
 use Rattle.sending.specs.Plans.{packetOf, piecesOf, countOf, leftOf, pieceAt, nextAt, planBy, planOf}
 use Rattle.sending.specs.declared.plans.Packet.{Packet}
 use Rattle.sending.specs.declared.plans.Packet.the-variants.{One, Pieces}

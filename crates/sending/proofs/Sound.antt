@@ -2,7 +2,7 @@
 -- The argument: each piece of a send is on the packet's channel, tested to be below the count, and its byte names its fields. So setting
 -- them all up keeps soundness.
 use Prim.Native.Nat.{ℕ, zero, suc, _+_, _≤_}
-use mathlib.Core.Path.{_≡_, refl, ap, _∙_}
+use mathlib.Core.Path.{_≡_, refl, ap}
 use native.Mathlib.Omega.{arith}
 use mathlib.Core.Bool.{Bool, true, false, not}
 use mathlib.Core.List.{List, [], _∷_}

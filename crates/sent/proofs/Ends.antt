@@ -1,6 +1,6 @@
 -- Pieces that go to one list stand at its end in the order in which they were set up, and the other lists stay.
 -- The argument: one piece at a time; a sound record with a free slot has no full list, so the push goes through.
-use Prim.Native.Nat.{ℕ, zero, suc, _+_, _<_}
+use Prim.Native.Nat.{ℕ, _+_, _<_}
 use mathlib.Core.Path.{_≡_, refl, ap, sym, _∙_}
 use mathlib.Core.Bool.{Bool, true, false, not}
 use mathlib.Core.List.{List, [], _∷_, _++_, append-assoc, append-nil}
@@ -8,14 +8,12 @@ use lib.ListN.{length}
 use borrow.Author.Tests.{lt-ltb}
 use Rattle.numbers.specs.Pick.{pick}
 use Rattle.runs.specs.Runs.{pushed}
-use Rattle.runs.specs.Free.{lowest}
 use Rattle.runs.specs.declared.Free.{Free}
-use Rattle.runs.specs.declared.Free.the-variants.{Lowest}
 use Rattle.slots.specs.Lists.{outgoing, outItems}
 use Rattle.slots.specs.declared.outgoing.OutList.{OutList}
 use Rattle.slots.proofs.Views.{out-items-keep}
 use Rattle.parts.specs.Damage.{usedOut}
-use Rattle.parts.specs.Updates.{longer, withReliableList, withOutgoingList}
+use Rattle.parts.specs.Updates.{longer}
 use Rattle.parts.specs.declared.groups.Lists.{Lists}
 use Rattle.peer.specs.declared.record.Peer.{Peer}
 use Rattle.peer.proofs.Clauses.{sound-clauses}
@@ -24,7 +22,7 @@ use Rattle.stamps.specs.declared.pieces.Piece.{Piece}
 use Rattle.setup.specs.Queueing.{queued, queuedAll}
 use Rattle.setup.specs.Taking.{Ready, taken, takenIn}
 use Rattle.setup.proofs.Joining.{first-room, last-room, slot-room}
-use Rattle.setup.proofs.Taking.{queued-lists, taken-step}
+use Rattle.setup.proofs.Taking.{queued-lists}
 use Rattle.setup.proofs.Taking.{step as setup}
 use Rattle.sent.specs.Done.{joined}
 

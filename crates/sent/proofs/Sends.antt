@@ -32,11 +32,10 @@ use Rattle.sent.proofs.Ends.{AllTo, all-ends}
 use Rattle.peer.specs.Settings.{fitSettings}
 use Rattle.peer.specs.Damage.{sound}
 use Rattle.numbers.specs.Limits.{mostFragments}
-use Rattle.numbers.specs.declared.refusals.Refusal.the-variants.{FragmentsExceeded, FailedToQueue}
 use Rattle.peer.specs.Outcome.{Outcome, finished}
 use Rattle.peer.specs.Gate.{gateOf}
 use Rattle.peer.specs.Sounds.{Whole}
-use Rattle.peer.specs.declared.gate.Gate.the-variants.{Open, Shut}
+use Rattle.peer.specs.declared.gate.Gate.the-variants.{Open}
 use Rattle.peer.proofs.Gates.{openness, sound-open, behind-done, behind-open}
 use Rattle.peer.specs.declared.settings.Settings.{Settings}
 use Rattle.peer.specs.declared.record.Peer.{Peer}

@@ -29,7 +29,7 @@ use Rattle.parts.specs.Fresh.{noChannel, noOutgoing, noIncoming}
 use Rattle.parts.specs.Damage.{listsFit, heldFit, held, below, all, own, lengths, outFit, tried, inFit, inSound, usedOut, usedIn}
 use Rattle.peer.specs.Damage.{sound}
 use Rattle.numbers.specs.declared.refusals.Refusal.the-variants.{InvalidChannel, FailedToQueue, BadCommand}
-use Rattle.peer.specs.Outcome.{Outcome, unchanged, finished}
+use Rattle.peer.specs.Outcome.{Outcome, finished}
 use Rattle.peer.specs.Sounds.{Whole, Sounds}
 use Rattle.peer.specs.declared.settings.Settings.{Settings}
 use Rattle.peer.specs.declared.record.Peer.{Peer}

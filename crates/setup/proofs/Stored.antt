@@ -1,15 +1,14 @@
 -- Setting up on an outbox and storing what it then holds is setting up on the record: for one piece, and for one more of several.
 -- The argument: the definitions say the same of each group; the marks tell the lowest free slot; a channel that is there gives back the
 -- numbers that it was given, so that groups stored once at the end are those stored after each piece.
-use Prim.Native.Nat.{ℕ, zero, suc, _+_, _≤_, _<_}
+use Prim.Native.Nat.{ℕ, zero, suc, _≤_, _<_}
 use mathlib.Core.Path.{_≡_, refl, ap, sym, subst, _∙_}
-use mathlib.Core.Bool.{Bool, true, false}
+use mathlib.Core.Bool.{true}
 use mathlib.Core.List.{List, [], _∷_}
 use native.Mathlib.Omega.{arith}
 use lib.Dec.{eqb}
-use lib.ListN.{length, getD, set, replicate, length-set, length-replicate}
+use lib.ListN.{length, set, replicate, length-set, length-replicate}
 use lib.Seq.{getD-set-same, set-getD}
-use borrow.Author.Tests.{eqb-true, eqb-false, eq-eqb, ne-eqb}
 use Rattle.numbers.specs.Pick.{pick}
 use Rattle.slots.specs.Lists.{outgoing}
 use Rattle.runs.specs.Runs.{has}
@@ -23,7 +22,6 @@ use Rattle.parts.specs.Fresh.{noChannel}
 use Rattle.parts.specs.Damage.{usedOut}
 use Rattle.parts.specs.Updates.{withOutgoingTotal, withReliable, withOutgoingGroup, withQueued, withNumbers}
 use Rattle.parts.specs.declared.groups.Channel.{Channel}
-use Rattle.parts.specs.declared.groups.Lists.{Lists}
 use Rattle.parts.specs.declared.groups.Outgoing.{Outgoing}
 use Rattle.peer.specs.Updates.{renewed}
 use Rattle.peer.specs.declared.record.Peer.{Peer}

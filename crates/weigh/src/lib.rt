@@ -2,7 +2,8 @@
 ghost use mathlib.Core.Path.{_≡_};
 ghost use Rattle.numbers.specs.Pick.{pick};
 ghost use Rattle.peer.specs.Damage.{sound};
-ghost use Rattle.peer.specs.Calls.{answerOf, resets, begins, setsState};
+ghost use Rattle.peer.specs.Calls.{answerOf};
+ghost use Rattle.opening.specs.Calls.{resets, begins, setsState};
 ghost use Rattle.ping.specs.Calls.{pings};
 ghost use Rattle.sending.specs.Calls.{sends};
 ghost use Rattle.sendstep.specs.Calls as stepping;
@@ -56,7 +57,7 @@ pub extern "C" fn weigh_reset(mtu: u32) -> u32
     let peer = made(5, 1);
     let mut settings = SETTINGS;
     settings.mtu = mtu;
-    let called = peer.reset(settings);
+    let called = opening::reset(peer, settings);
     weighed(called)
 }
 
@@ -65,7 +66,7 @@ pub extern "C" fn weigh_begin(mtu: u32, count: u32) -> u32
     ensures { λ r. ⌜ r ≡ weighed (begins (settingsOf 1392) mtu count (madePeer 0 0)) ⌝ }
 {
     let peer = made(0, 0);
-    let called = peer.begin(SETTINGS, mtu, count);
+    let called = opening::begin(peer, SETTINGS, mtu, count);
     weighed(called)
 }
 
@@ -76,7 +77,7 @@ pub extern "C" fn weigh_state(mtu: u32, state: u32) -> u32
     let peer = made(5, 1);
     let mut settings = SETTINGS;
     settings.mtu = mtu;
-    let called = peer.set_state(settings, state);
+    let called = opening::set_state(peer, settings, state);
     weighed(called)
 }
 

@@ -9,8 +9,9 @@ use borrow.Author.Tests.{not-true, not-false}
 use Rattle.runs.specs.Free.{markedAll}
 use Rattle.slots.specs.Lists.{outgoing}
 use Rattle.runs.proofs.Marked.{mark-turn, mark-end}
-use Rattle.damage.specs.Walks.{passes, worthPasses, outPass}
-use Rattle.damage.proofs.WalkLaws.{pass-past, pass-twice, pass-unfit, pass-turn, pass-end}
+use Rattle.held.specs.Walks.{passes}
+use Rattle.damage.specs.Walks.{worthPasses, outPass}
+use Rattle.held.proofs.WalkLaws.{pass-past, pass-twice, pass-unfit, pass-turn, pass-end}
 use Rattle.damage.proofs.PoolLaws.{out-stop, out-turn, out-end}
 use Rattle.damage.proofs.out_sound.Statement.{statement}
 use Rattle.damage.proofs.out_sound.Tie as tie

@@ -1,7 +1,8 @@
 -- The number of the reply, as the rule gives it for the record.
 use borrow.Author.Needs.{needs}
 use Rattle.numbers.specs.Answers.{Answer}
-use Rattle.peer.specs.Calls.{answerOf, begins}
+use Rattle.peer.specs.Calls.{answerOf}
+use Rattle.opening.specs.Calls.{begins}
 use Rattle.peer.specs.declared.record.Peer.{Peer}
 use Rattle.weigh.specs.Weighed.{settingsOf}
 use Rattle.weigh.proofs.Weighing.{weighs}

@@ -1,0 +1,4 @@
+pub mod WalkLaws
+pub mod SumLaws
+pub mod HeldLaws
+pub mod InLaws
