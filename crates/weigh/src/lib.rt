@@ -3,54 +3,29 @@ ghost use mathlib.Core.Path.{_≡_};
 ghost use Rattle.numbers.specs.Pick.{pick};
 ghost use Rattle.peer.specs.Damage.{sound};
 ghost use Rattle.peer.specs.Calls.{answerOf, resets, begins, setsState};
-ghost use Rattle.weigh.specs.Made.{madePeer, spoilt, settingsOf, weighed};
-use command::fields::Command;
-use command::fields::Fields;
-use numbers::counters::Group;
-use numbers::counters::Reliable;
-use numbers::counters::Unreliable;
-use parts::groups::Channel;
-use parts::groups::Flow;
-use parts::groups::Groups;
-use parts::groups::Ids;
-use parts::groups::Incoming;
-use parts::groups::Lists;
-use parts::groups::Outgoing;
-use parts::groups::Standing;
-use parts::groups::Waiting;
+ghost use Rattle.sending.specs.Calls.{sends, pings};
+ghost use Rattle.sendstep.specs.Calls as stepping;
+ghost use Rattle.sendstep.specs.declared.heads.Queue.the-variants as queue;
+ghost use Rattle.weigh.specs.Weighed.{madePeer, settingsOf, told, weighed, weighedStep};
 use peer::calls::Called;
 use peer::calls::Reply;
 use peer::record::Peer;
 use peer::settings::Settings;
-use slots::INCOMING;
-use slots::OUTGOING;
-use slots::incoming::InList;
-use slots::outgoing::OutList;
+use sending::calls::ping;
+use sending::calls::send;
+use sendstep::calls;
+use sendstep::calls::Stepped;
+use sendstep::calls::step;
+use sendstep::heads::Queue;
 
 const MTU: u32 = 1392;
 
-const SIZE: u32 = 33554432;
-
-// The making, and a damage test that ends at its first question: without it the compiler would make no record.
+// The making and the damage test: what every other export has beside its call.
 #[no_mangle]
-pub extern "C" fn weigh_make(full: u32, state: u32) -> u32
-    ensures { λ r. ⌜ r ≡ pick (sound (spoilt (madePeer full state))) 99 state ⌝ }
+pub extern "C" fn weigh_sound(state: u32) -> u32
+    ensures { λ r. ⌜ r ≡ pick (sound (madePeer state 1)) 1 0 ⌝ }
 {
-    let mut peer = made(full, state);
-    let mut flow = peer.flow;
-    flow.mtu = 0;
-    peer.flow = flow;
-    if peer.is_sound() {
-        return 99;
-    }
-    state
-}
-
-#[no_mangle]
-pub extern "C" fn weigh_sound(full: u32, state: u32) -> u32
-    ensures { λ r. ⌜ r ≡ pick (sound (madePeer full state)) 1 0 ⌝ }
-{
-    let peer = made(full, state);
+    let peer = made(state, 1);
     if peer.is_sound() {
         return 1;
     }
@@ -58,30 +33,61 @@ pub extern "C" fn weigh_sound(full: u32, state: u32) -> u32
 }
 
 #[no_mangle]
-pub extern "C" fn weigh_reset(full: u32, mtu: u32) -> u32
-    ensures { λ r. ⌜ r ≡ weighed (resets (settingsOf mtu) (madePeer full 0)) ⌝ }
+pub extern "C" fn weigh_reset(mtu: u32) -> u32
+    ensures { λ r. ⌜ r ≡ weighed (resets (settingsOf mtu) (madePeer 5 1)) ⌝ }
 {
-    let peer = made(full, 0);
+    let peer = made(5, 1);
     let called = peer.reset(settings(mtu));
     weighed(called)
 }
 
 #[no_mangle]
-pub extern "C" fn weigh_begin(full: u32, mtu: u32) -> u32
-    ensures { λ r. ⌜ r ≡ weighed (begins (settingsOf 1392) mtu 8 (madePeer full 0)) ⌝ }
+pub extern "C" fn weigh_begin(mtu: u32, count: u32) -> u32
+    ensures { λ r. ⌜ r ≡ weighed (begins (settingsOf 1392) mtu count (madePeer 0 0)) ⌝ }
 {
-    let peer = made(full, 0);
-    let called = peer.begin(settings(MTU), mtu, 8);
+    let peer = made(0, 0);
+    let called = peer.begin(settings(MTU), mtu, count);
     weighed(called)
 }
 
 #[no_mangle]
-pub extern "C" fn weigh_state(full: u32, state: u32) -> u32
-    ensures { λ r. ⌜ r ≡ weighed (setsState (settingsOf 1392) state (madePeer full 0)) ⌝ }
+pub extern "C" fn weigh_state(mtu: u32, state: u32) -> u32
+    ensures { λ r. ⌜ r ≡ weighed (setsState (settingsOf mtu) state (madePeer 5 1)) ⌝ }
 {
-    let peer = made(full, 0);
-    let called = peer.set_state(settings(MTU), state);
+    let peer = made(5, 1);
+    let called = peer.set_state(settings(mtu), state);
     weighed(called)
+}
+
+#[no_mangle]
+pub extern "C" fn weigh_ping(mtu: u32) -> u32
+    ensures { λ r. ⌜ r ≡ weighed (pings (settingsOf mtu) (madePeer 5 1)) ⌝ }
+{
+    let peer = made(5, 1);
+    let called = ping(peer, settings(mtu));
+    weighed(called)
+}
+
+#[no_mangle]
+pub extern "C" fn weigh_send(mtu: u32, length: u32, flags: u32) -> u32
+    ensures { λ r. ⌜ r ≡ weighed (sends (settingsOf mtu) 0 length flags (madePeer 5 1)) ⌝ }
+{
+    let peer = made(5, 1);
+    let called = send(peer, settings(mtu), 0, length, flags);
+    weighed(called)
+}
+
+// A send with flag 1, and a step on the list that it goes to.
+#[no_mangle]
+pub extern "C" fn weigh_step(length: u32, time: u32) -> u32
+    ensures { λ r. ⌜ r ≡ weighedStep (stepping.steps (settingsOf 1392) queue.Reliable time (sends (settingsOf 1392) 0 length 1 (madePeer 5 1) .after)) ⌝ }
+{
+    let peer = made(5, 1);
+    let s = settings(MTU);
+    let called = send(peer, s, 0, length, 1);
+    let after = called.peer;
+    let stepped = step(after, s, Queue::Reliable, time);
+    weighed_step(stepped)
 }
 
 // The reply's number; the record is asked too, or the compiler would leave it unmade.
@@ -101,9 +107,41 @@ fn number(reply: Reply) -> u32
 {
     match reply {
         Reply::Done => 0,
-        Reply::OutOfRange => 11,
-        Reply::Damaged => 13,
+        Reply::Refused(why) => why.number(),
     }
+}
+
+fn weighed_step(stepped: Stepped) -> u32
+    ensures { λ r. ⌜ r ≡ pick (sound (stepped .peer)) (told (stepping.answerOf (stepped .reply))) 99 ⌝ }
+{
+    let peer = stepped.peer;
+    if !peer.is_sound() {
+        return 99;
+    }
+    let reply = stepped.reply;
+    step_number(reply)
+}
+
+// 1 for a head.
+fn step_number(reply: calls::Reply) -> u32
+    ensures { λ r. ⌜ r ≡ told (stepping.answerOf reply) ⌝ }
+{
+    match reply {
+        calls::Reply::Nothing => 0,
+        calls::Reply::Head(_o) => 1,
+        calls::Reply::Refused(why) => why.number(),
+    }
+}
+
+// The reset record in that state and with so many channels.
+fn made(state: u32, count: u32) -> Peer
+    ensures { λ r. ⌜ r ≡ madePeer state count ⌝ }
+{
+    let mut p = Peer::BLANK;
+    p.flow.mtu = MTU;
+    p.standing.state = state;
+    p.standing.count = count;
+    p
 }
 
 fn settings(mtu: u32) -> Settings
@@ -111,232 +149,8 @@ fn settings(mtu: u32) -> Settings
 {
     Settings {
         mtu,
-        packet: SIZE,
-        waiting: SIZE,
+        packet: 33554432,
+        waiting: 33554432,
         checksum: false,
     }
 }
-
-// Both records are constants, so that making one takes no stack but its own.
-fn made(full: u32, state: u32) -> Peer
-    ensures { λ r. ⌜ r ≡ madePeer full state ⌝ }
-{
-    if full == 0 {
-        let mut empty = EMPTY;
-        let standing = Standing { state, count: 0 };
-        empty.standing = standing;
-        return empty;
-    }
-    let mut peer = FULL;
-    let standing = Standing { state, count: 1 };
-    peer.standing = standing;
-    peer
-}
-
-const NONE: OutList = OutList {
-    len: 0,
-    slots: [0; OUTGOING],
-};
-
-const NONE_IN: InList = InList {
-    len: 0,
-    slots: [0; INCOMING],
-};
-
-const SENT: OutList = OutList {
-    len: 32,
-    slots: [
-        0,
-        1,
-        2,
-        3,
-        4,
-        5,
-        6,
-        7,
-        8,
-        9,
-        10,
-        11,
-        12,
-        13,
-        14,
-        15,
-        16,
-        17,
-        18,
-        19,
-        20,
-        21,
-        22,
-        23,
-        24,
-        25,
-        26,
-        27,
-        28,
-        29,
-        30,
-        31,
-    ],
-};
-
-const DISPATCHED: InList = InList {
-    len: 12,
-    slots: [0, 1, 2, 3, 4, 5, 6, 7, 8, 9, 10, 11],
-};
-
-const CHANNEL: Channel = Channel {
-    outgoing_reliable: Reliable(0),
-    outgoing_unreliable: Unreliable(0),
-    incoming_reliable: Reliable(0),
-    incoming_unreliable: Unreliable(0),
-    held: NONE_IN,
-};
-
-const FREE: Outgoing = Outgoing {
-    reliable: Reliable(0),
-    unreliable: Unreliable(0),
-    sent: 0,
-    timeout: 0,
-    queued: 0,
-    offset: 0,
-    length: 0,
-    attempts: 0,
-    packet: false,
-    command: Command {
-        byte: 0,
-        channel: 0,
-        number: Reliable(0),
-        fields: Fields::Acknowledge {
-            number: Reliable(0),
-            time: 0,
-        },
-    },
-};
-
-const PING: Outgoing = Outgoing {
-    reliable: Reliable(0),
-    unreliable: Unreliable(0),
-    sent: 0,
-    timeout: 0,
-    queued: 0,
-    offset: 0,
-    length: 0,
-    attempts: 1,
-    packet: false,
-    command: Command {
-        byte: 133,
-        channel: 255,
-        number: Reliable(0),
-        fields: Fields::Ping,
-    },
-};
-
-const FREE_IN: Incoming = Incoming {
-    byte: 0,
-    channel: 0,
-    number: Reliable(0),
-    fragments: 0,
-    remaining: 0,
-    length: 0,
-};
-
-const HUNDRED: Incoming = Incoming {
-    byte: 0,
-    channel: 0,
-    number: Reliable(0),
-    fragments: 0,
-    remaining: 0,
-    length: 100,
-};
-
-pub const EMPTY: Peer = Peer {
-    ids: Ids {
-        outgoing_peer: Peer::OUTGOING_PEER,
-        incoming_peer: 0,
-        connect: 0,
-        outgoing_session: 0,
-        incoming_session: 0,
-    },
-    standing: Peer::STANDING,
-    bandwidth: Peer::BANDWIDTH,
-    totals: Peer::TOTALS,
-    times: Peer::TIMES,
-    loss: Peer::LOSS,
-    throttling: Peer::THROTTLING,
-    limits: Peer::LIMITS,
-    trips: Peer::TRIPS,
-    flow: Flow {
-        mtu: MTU,
-        window: Peer::WINDOW,
-        transit: 0,
-        reliable: Reliable(0),
-    },
-    lists: Lists {
-        sent: NONE,
-        reliable: NONE,
-        outgoing: NONE,
-        dispatched: NONE_IN,
-    },
-    groups: Groups {
-        flags: 0,
-        reserved: 0,
-        incoming: Group(0),
-        outgoing: Group(0),
-        words: [0; 32],
-    },
-    waiting: Waiting {
-        event: 0,
-        total: 0,
-        queued: 0,
-    },
-    channels: [CHANNEL; 8],
-    outgoing: [FREE; OUTGOING],
-    incoming: [FREE_IN; INCOMING],
-};
-
-const FULL: Peer = Peer {
-    ids: Ids {
-        outgoing_peer: Peer::OUTGOING_PEER,
-        incoming_peer: 0,
-        connect: 0,
-        outgoing_session: 0,
-        incoming_session: 0,
-    },
-    standing: Peer::STANDING,
-    bandwidth: Peer::BANDWIDTH,
-    totals: Peer::TOTALS,
-    times: Peer::TIMES,
-    loss: Peer::LOSS,
-    throttling: Peer::THROTTLING,
-    limits: Peer::LIMITS,
-    trips: Peer::TRIPS,
-    flow: Flow {
-        mtu: MTU,
-        window: Peer::WINDOW,
-        transit: 0,
-        reliable: Reliable(0),
-    },
-    lists: Lists {
-        sent: SENT,
-        reliable: NONE,
-        outgoing: NONE,
-        dispatched: DISPATCHED,
-    },
-    groups: Groups {
-        flags: 0,
-        reserved: 0,
-        incoming: Group(0),
-        outgoing: Group(0),
-        words: [0; 32],
-    },
-    waiting: Waiting {
-        event: 0,
-        total: 1200,
-        queued: 0,
-    },
-    channels: [CHANNEL; 8],
-    outgoing: [PING; OUTGOING],
-    incoming: [HUNDRED; INCOMING],
-};

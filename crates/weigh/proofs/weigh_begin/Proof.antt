@@ -1,13 +1,10 @@
 -- The number of the reply, as the rule gives it for the settings and the record.
-use mathlib.Core.Path.{ap, _∙_}
-use Rattle.numbers.specs.Pick.{pick}
+use borrow.Author.Needs.{needs}
 use Rattle.numbers.specs.Answers.{Answer}
-use Rattle.peer.specs.Damage.{sound}
-use Rattle.peer.specs.Calls.{begins}
+use Rattle.peer.specs.Calls.{answerOf, begins}
 use Rattle.peer.specs.declared.record.Peer.{Peer}
 use Rattle.peer.specs.declared.settings.Settings.{Settings}
-use Rattle.weigh.specs.Made.{settingsOf, weighed}
-use borrow.Author.Needs.{needs}
+use Rattle.weigh.proofs.Weighing.{weighs}
 use Rattle.weigh.proofs.weigh_begin.Statement.{statement}
 use Rattle.weigh.proofs.weigh_begin.Tie as tie
 
@@ -26,14 +23,9 @@ weighed-requires c κs = search needs
 returns : tie.Need-returns
 returns c =
     let args = c .before .before .before .before .args in
-    let made = c .before .before .before .made in
     let call = c .before .begin in
-    c .weighed .ensures
-    ∙ ap (λ (a : Answer). pick (sound (call .result .peer)) (a .number) 99) (call .ensures .answer)
-    ∙ ap (λ (p : Peer). pick (sound p) (begins (c .before .before .settings .result) (args .mtu) 8 (made .result) .answer .number) 99) (call .ensures .peer)
-    ∙ ap (λ (s : Settings). weighed (begins s (args .mtu) 8 (made .result))) (c .before .before .settings .ensures)
-    ∙ ap (λ (p : Peer). weighed (begins (settingsOf 1392) (args .mtu) 8 p)) (made .ensures)
+    weighs (λ (a : Answer). a .number) answerOf (λ (s : Settings) (p : Peer). begins s (args .mtu) (args .count) p) (call .result .reply) (call .result .peer) (call .ensures)
+    (c .before .before .settings .ensures) (c .before .before .before .made .ensures) (c .weighed .ensures)
 
 pub weigh-begin-spec : {M : Type 1} → statement M
-weigh-begin-spec =
-    tie.close (tie.spec made-requires settings-requires begin-requires weighed-requires returns)
+weigh-begin-spec = tie.close (tie.spec made-requires settings-requires begin-requires weighed-requires returns)
