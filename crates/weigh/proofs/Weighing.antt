@@ -6,17 +6,15 @@ use Rattle.numbers.specs.Answers.{Answer}
 use Rattle.peer.specs.Damage.{sound}
 use Rattle.peer.specs.Outcome.{Outcome, Came}
 use Rattle.peer.specs.declared.record.Peer.{Peer}
-use Rattle.peer.specs.declared.settings.Settings.{Settings}
 
 -- `number` is what is read off an answer, as its number
 pub weighs :
-    {R : Type 0} (number : Answer → ℕ) (answerOf : R → Answer) (call : Settings → Peer → Outcome Peer) {s t : Settings} {p q : Peer} (reply : R) (left : Peer) {n : ℕ}
-    → Came answerOf (call s p) reply left → s ≡ t → p ≡ q → n ≡ pick (sound left) (number (answerOf reply)) 99
-    → n ≡ pick (sound (call t q .after)) (number (call t q .answer)) 99
-weighs number answerOf call {s} {t} {p} {q} reply left came same made weighed =
+    {R : Type 0} (number : Answer → ℕ) (answerOf : R → Answer) (call : Peer → Outcome Peer) {p q : Peer} (reply : R) (left : Peer) {n : ℕ}
+    → Came answerOf (call p) reply left → p ≡ q → n ≡ pick (sound left) (number (answerOf reply)) 99
+    → n ≡ pick (sound (call q .after)) (number (call q .answer)) 99
+weighs number answerOf call {p} {q} reply left came made weighed =
     let out : Outcome Peer → ℕ = λ o. pick (sound (o .after)) (number (o .answer)) 99 in
     weighed
     ∙ ap (λ (a : Answer). pick (sound left) (number a) 99) (came .answer)
-    ∙ ap (λ (x : Peer). pick (sound x) (number (call s p .answer)) 99) (came .after)
-    ∙ ap (λ (x : Settings). out (call x p)) same
-    ∙ ap (λ (x : Peer). out (call t x)) made
+    ∙ ap (λ (x : Peer). pick (sound x) (number (call p .answer)) 99) (came .after)
+    ∙ ap (λ (x : Peer). out (call x)) made

@@ -9,6 +9,7 @@ ghost use Rattle.sendstep.specs.declared.heads.Queue.the-variants as queue;
 ghost use Rattle.weigh.specs.Weighed.{madePeer, settingsOf, told, weighed, weighedStep};
 use peer::calls::Called;
 use peer::calls::Reply;
+use peer::defaults::Kept;
 use peer::record::Peer;
 use peer::settings::Settings;
 use sending::calls::ping;
@@ -19,6 +20,21 @@ use sendstep::calls::step;
 use sendstep::heads::Queue;
 
 const MTU: u32 = 1392;
+
+const SETTINGS: Settings = Settings {
+    mtu: MTU,
+    packet: 33554432,
+    waiting: 33554432,
+    checksum: false,
+};
+
+const NOTHING: Kept = Kept {
+    incoming_peer: 0,
+    outgoing_session: 0,
+    incoming_session: 0,
+    reserved: 0,
+    queued: 0,
+};
 
 // The making and the damage test: what every other export has beside its call.
 #[no_mangle]
@@ -37,7 +53,9 @@ pub extern "C" fn weigh_reset(mtu: u32) -> u32
     ensures { λ r. ⌜ r ≡ weighed (resets (settingsOf mtu) (madePeer 5 1)) ⌝ }
 {
     let peer = made(5, 1);
-    let called = peer.reset(settings(mtu));
+    let mut settings = SETTINGS;
+    settings.mtu = mtu;
+    let called = peer.reset(settings);
     weighed(called)
 }
 
@@ -46,7 +64,7 @@ pub extern "C" fn weigh_begin(mtu: u32, count: u32) -> u32
     ensures { λ r. ⌜ r ≡ weighed (begins (settingsOf 1392) mtu count (madePeer 0 0)) ⌝ }
 {
     let peer = made(0, 0);
-    let called = peer.begin(settings(MTU), mtu, count);
+    let called = peer.begin(SETTINGS, mtu, count);
     weighed(called)
 }
 
@@ -55,7 +73,9 @@ pub extern "C" fn weigh_state(mtu: u32, state: u32) -> u32
     ensures { λ r. ⌜ r ≡ weighed (setsState (settingsOf mtu) state (madePeer 5 1)) ⌝ }
 {
     let peer = made(5, 1);
-    let called = peer.set_state(settings(mtu), state);
+    let mut settings = SETTINGS;
+    settings.mtu = mtu;
+    let called = peer.set_state(settings, state);
     weighed(called)
 }
 
@@ -64,7 +84,9 @@ pub extern "C" fn weigh_ping(mtu: u32) -> u32
     ensures { λ r. ⌜ r ≡ weighed (pings (settingsOf mtu) (madePeer 5 1)) ⌝ }
 {
     let peer = made(5, 1);
-    let called = ping(peer, settings(mtu));
+    let mut settings = SETTINGS;
+    settings.mtu = mtu;
+    let called = ping(peer, settings);
     weighed(called)
 }
 
@@ -73,7 +95,9 @@ pub extern "C" fn weigh_send(mtu: u32, length: u32, flags: u32) -> u32
     ensures { λ r. ⌜ r ≡ weighed (sends (settingsOf mtu) 0 length flags (madePeer 5 1)) ⌝ }
 {
     let peer = made(5, 1);
-    let called = send(peer, settings(mtu), 0, length, flags);
+    let mut settings = SETTINGS;
+    settings.mtu = mtu;
+    let called = send(peer, settings, 0, length, flags);
     weighed(called)
 }
 
@@ -83,10 +107,9 @@ pub extern "C" fn weigh_step(length: u32, time: u32) -> u32
     ensures { λ r. ⌜ r ≡ weighedStep (stepping.steps (settingsOf 1392) queue.Reliable time (sends (settingsOf 1392) 0 length 1 (madePeer 5 1) .after)) ⌝ }
 {
     let peer = made(5, 1);
-    let s = settings(MTU);
-    let called = send(peer, s, 0, length, 1);
+    let called = send(peer, SETTINGS, 0, length, 1);
     let after = called.peer;
-    let stepped = step(after, s, Queue::Reliable, time);
+    let stepped = step(after, SETTINGS, Queue::Reliable, time);
     weighed_step(stepped)
 }
 
@@ -137,20 +160,8 @@ fn step_number(reply: calls::Reply) -> u32
 fn made(state: u32, count: u32) -> Peer
     ensures { λ r. ⌜ r ≡ madePeer state count ⌝ }
 {
-    let mut p = Peer::BLANK;
-    p.flow.mtu = MTU;
+    let mut p = Peer::fresh(MTU, NOTHING);
     p.standing.state = state;
     p.standing.count = count;
     p
-}
-
-fn settings(mtu: u32) -> Settings
-    ensures { λ r. ⌜ r ≡ settingsOf mtu ⌝ }
-{
-    Settings {
-        mtu,
-        packet: 33554432,
-        waiting: 33554432,
-        checksum: false,
-    }
 }

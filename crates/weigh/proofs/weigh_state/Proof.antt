@@ -1,18 +1,15 @@
--- The number of the reply, as the rule gives it for the settings and the record.
+-- The number of the reply, as the rule gives it for the record.
 use borrow.Author.Needs.{needs}
 use Rattle.numbers.specs.Answers.{Answer}
 use Rattle.peer.specs.Calls.{answerOf, setsState}
 use Rattle.peer.specs.declared.record.Peer.{Peer}
-use Rattle.peer.specs.declared.settings.Settings.{Settings}
+use Rattle.weigh.specs.Weighed.{settingsOf}
 use Rattle.weigh.proofs.Weighing.{weighs}
 use Rattle.weigh.proofs.weigh_state.Statement.{statement}
 use Rattle.weigh.proofs.weigh_state.Tie as tie
 
 made-requires : tie.Need-made-requires
 made-requires c κs = search needs
-
-settings-requires : tie.Need-settings-requires
-settings-requires c κs = search needs
 
 set-state-requires : tie.Need-set-state-requires
 set-state-requires c κs = search needs
@@ -22,10 +19,10 @@ weighed-requires c κs = search needs
 
 returns : tie.Need-returns
 returns c =
-    let args = c .before .before .before .before .args in
+    let args = c .before .before .before .args in
     let call = c .before .set-state in
-    weighs (λ (a : Answer). a .number) answerOf (λ (s : Settings) (p : Peer). setsState s (args .state) p) (call .result .reply) (call .result .peer) (call .ensures)
-    (c .before .before .settings .ensures) (c .before .before .before .made .ensures) (c .weighed .ensures)
+    weighs (λ (a : Answer). a .number) answerOf (λ (p : Peer). setsState (settingsOf (args .mtu)) (args .state) p) (call .result .reply) (call .result .peer)
+    (call .ensures) (c .before .before .made .ensures) (c .weighed .ensures)
 
 pub weigh-state-spec : {M : Type 1} → statement M
-weigh-state-spec = tie.close (tie.spec made-requires settings-requires set-state-requires weighed-requires returns)
+weigh-state-spec = tie.close (tie.spec made-requires set-state-requires weighed-requires returns)

@@ -2,7 +2,6 @@
 use mathlib.Core.Path.{ap, _∙_}
 use borrow.Author.Needs.{needs}
 use Rattle.peer.specs.declared.record.Peer.{Peer}
-use Rattle.peer.specs.declared.settings.Settings.{Settings}
 use Rattle.sending.specs.Calls.{sends}
 use Rattle.sendstep.specs.Calls.{answerOf, steps}
 use Rattle.sendstep.specs.declared.heads.Queue.the-variants as queue
@@ -13,9 +12,6 @@ use Rattle.weigh.proofs.weigh_step.Tie as tie
 
 made-requires : tie.Need-made-requires
 made-requires c κs = search needs
-
-settings-requires : tie.Need-settings-requires
-settings-requires c κs = search needs
 
 send-requires : tie.Need-send-requires
 send-requires c κs = search needs
@@ -28,18 +24,14 @@ weighed-step-requires c κs = search needs
 
 returns : tie.Need-returns
 returns c =
-    let call = c .before .step in
+    let args = c .before .before .before .before .before .args in
+    let made = c .before .before .before .before .made in
     let send = c .before .before .before .send in
-    let settings = c .before .before .before .before .settings in
-    let made = c .before .before .before .before .before .made in
-    let args = c .before .before .before .before .before .before .args in
-    weighs told answerOf (λ (s : Settings) (p : Peer). steps s queue.Reliable (args .time) p) (call .result .reply) (call .result .peer)
-    (call .ensures .0) (settings .ensures)
-    (send .ensures .after
-    ∙ ap (λ (s : Settings). sends s 0 (args .length) 1 (made .result) .after) (settings .ensures)
-    ∙ ap (λ (p : Peer). sends (settingsOf 1392) 0 (args .length) 1 p .after) (made .ensures))
+    let call = c .before .step in
+    weighs told answerOf (λ (p : Peer). steps (settingsOf 1392) queue.Reliable (args .time) p) (call .result .reply) (call .result .peer)
+    (call .ensures .0)
+    (send .ensures .after ∙ ap (λ (p : Peer). sends (settingsOf 1392) 0 (args .length) 1 p .after) (made .ensures))
     (c .weighed-step .ensures)
 
 pub weigh-step-spec : {M : Type 1} → statement M
-weigh-step-spec =
-    tie.close (tie.spec made-requires settings-requires send-requires step-requires weighed-step-requires returns)
+weigh-step-spec = tie.close (tie.spec made-requires send-requires step-requires weighed-step-requires returns)
