@@ -1,4 +1,4 @@
--- A call's contract, and what it was called with, give what the call is weighed by.
+-- What a call on a record leaves, and what it is weighed by, for the record that this one is made as.
 use Prim.Native.Nat.{ℕ}
 use mathlib.Core.Path.{_≡_, ap, _∙_}
 use Rattle.numbers.specs.Pick.{pick}
@@ -6,6 +6,11 @@ use Rattle.numbers.specs.Answers.{Answer}
 use Rattle.peer.specs.Damage.{sound}
 use Rattle.peer.specs.Outcome.{Outcome, Came}
 use Rattle.peer.specs.declared.record.Peer.{Peer}
+
+pub leaves :
+    {R : Type 0} (answerOf : R → Answer) (call : Peer → Outcome Peer) {p q : Peer} {reply : R} {left : Peer}
+    → Came answerOf (call p) reply left → p ≡ q → left ≡ call q .after
+leaves answerOf call came made = came .after ∙ ap (λ (x : Peer). call x .after) made
 
 -- `number` is what is read off an answer, as its number
 pub weighs :

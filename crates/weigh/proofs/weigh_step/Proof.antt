@@ -1,12 +1,12 @@
 -- What the step says, as the rule gives it for the record that the send leaves.
-use mathlib.Core.Path.{ap, _∙_}
 use borrow.Author.Needs.{needs}
+use Rattle.peer.specs.Calls as peer
 use Rattle.peer.specs.declared.record.Peer.{Peer}
 use Rattle.sending.specs.Calls.{sends}
 use Rattle.sendstep.specs.Calls.{answerOf, steps}
 use Rattle.sendstep.specs.declared.heads.Queue.the-variants as queue
 use Rattle.weigh.specs.Weighed.{settingsOf, told}
-use Rattle.weigh.proofs.Weighing.{weighs}
+use Rattle.weigh.proofs.Weighing.{leaves, weighs}
 use Rattle.weigh.proofs.weigh_step.Statement.{statement}
 use Rattle.weigh.proofs.weigh_step.Tie as tie
 
@@ -30,7 +30,7 @@ returns c =
     let call = c .before .step in
     weighs told answerOf (λ (p : Peer). steps (settingsOf 1392) queue.Reliable (args .time) p) (call .result .reply) (call .result .peer)
     (call .ensures .0)
-    (send .ensures .after ∙ ap (λ (p : Peer). sends (settingsOf 1392) 0 (args .length) 1 p .after) (made .ensures))
+    (leaves peer.answerOf (λ (p : Peer). sends (settingsOf 1392) 0 (args .length) 1 p) (send .ensures) (made .ensures))
     (c .weighed-step .ensures)
 
 pub weigh-step-spec : {M : Type 1} → statement M
