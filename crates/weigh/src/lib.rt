@@ -113,24 +113,6 @@ pub extern "C" fn weigh_step(length: u32, time: u32) -> u32
     weighed_step(stepped)
 }
 
-// All of them in a row. A call that two exports make stays a function of its own: its frame can be read off the compiled code.
-#[no_mangle]
-pub extern "C" fn weigh_all(mtu: u32, time: u32) -> u32
-    ensures { λ r. ⌜ r ≡ weighedStep (stepping.steps (settingsOf 1392) queue.Reliable time (pings (settingsOf 1392) (setsState (settingsOf 1392) 5 (begins (settingsOf 1392) mtu 1 (resets (settingsOf 1392) (madePeer 5 1) .after) .after) .after) .after)) ⌝ }
-{
-    let made = made(5, 1);
-    let reset = made.reset(SETTINGS);
-    let blank = reset.peer;
-    let begun = blank.begin(SETTINGS, mtu, 1);
-    let open = begun.peer;
-    let stated = open.set_state(SETTINGS, Peer::CONNECTED);
-    let linked = stated.peer;
-    let pinged = ping(linked, SETTINGS);
-    let waiting = pinged.peer;
-    let stepped = step(waiting, SETTINGS, Queue::Reliable, time);
-    weighed_step(stepped)
-}
-
 // The reply's number; the record is asked too, or the compiler would leave it unmade.
 fn weighed(called: Called) -> u32
     ensures { λ r. ⌜ r ≡ pick (sound (called .peer)) (answerOf (called .reply) .number) 99 ⌝ }
