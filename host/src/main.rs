@@ -6,6 +6,7 @@
 
 mod clock;
 mod ours;
+#[allow(dead_code)] // the oracle's, of which the host uses a part
 #[path = "../../oracle/compare/src/random.rs"]
 mod random;
 mod reader;
