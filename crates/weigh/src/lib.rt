@@ -2,7 +2,7 @@
 ghost use mathlib.Core.Path.{_≡_};
 ghost use Rattle.numbers.specs.Pick.{pick};
 ghost use Rattle.peer.specs.Damage.{sound};
-ghost use Rattle.peer.specs.Calls.{answerOf, resets, begins, setsState};
+ghost use Rattle.peer.specs.Calls.{answerOf, resets, setsState};
 ghost use Rattle.sending.specs.Calls.{sends, pings};
 ghost use Rattle.sendstep.specs.Calls as stepping;
 ghost use Rattle.sendstep.specs.declared.heads.Queue.the-variants as queue;
@@ -56,15 +56,6 @@ pub extern "C" fn weigh_reset(mtu: u32) -> u32
     let mut settings = SETTINGS;
     settings.mtu = mtu;
     let called = peer.reset(settings);
-    weighed(called)
-}
-
-#[no_mangle]
-pub extern "C" fn weigh_begin(mtu: u32, count: u32) -> u32
-    ensures { λ r. ⌜ r ≡ weighed (begins (settingsOf 1392) mtu count (madePeer 0 0)) ⌝ }
-{
-    let peer = made(0, 0);
-    let called = peer.begin(SETTINGS, mtu, count);
     weighed(called)
 }
 
