@@ -10,7 +10,6 @@ mod sends;
 extern "C" {
     fn weigh_sound(state: u32) -> u32;
     fn weigh_reset(mtu: u32) -> u32;
-    fn weigh_begin(mtu: u32, count: u32) -> u32;
     fn weigh_state(mtu: u32, state: u32) -> u32;
     fn weigh_ping(mtu: u32) -> u32;
     fn weigh_send(mtu: u32, length: u32, flags: u32) -> u32;
@@ -40,7 +39,7 @@ const SOUND: usize = 0;
 const SEND: usize = 1;
 const SEND_PIECES: usize = 2;
 
-const CALLS: [Weighed; 11] = [
+const CALLS: [Weighed; 10] = [
     weighed("sound", || unsafe { weigh_sound(CONNECTED) }, 1),
     weighed("send, 100 bytes", || unsafe { send(WHOLE) }, 0),
     Weighed {
@@ -56,7 +55,6 @@ const CALLS: [Weighed; 11] = [
         ..weighed("step, 32 wait", || unsafe { step(PIECES) }, 1)
     },
     weighed("ping", || unsafe { weigh_ping(MTU) }, 0),
-    weighed("begin", || unsafe { weigh_begin(MTU, 8) }, 0),
     weighed("set state", || unsafe { weigh_state(MTU, CONNECTED) }, 0),
     weighed("reset", || unsafe { weigh_reset(MTU) }, 0),
     weighed("set state, 11", || unsafe { weigh_state(0, CONNECTED) }, 11),

@@ -3,7 +3,7 @@ ghost use mathlib.Core.Path.{_≡_};
 ghost use Rattle.numbers.specs.Pick.{pick};
 ghost use Rattle.peer.specs.Damage.{sound};
 ghost use Rattle.peer.specs.Calls.{answerOf};
-ghost use Rattle.opening.specs.Calls.{resets, begins, setsState};
+ghost use Rattle.opening.specs.Calls.{resets, setsState};
 ghost use Rattle.ping.specs.Calls.{pings};
 ghost use Rattle.sending.specs.Calls.{sends};
 ghost use Rattle.sendstep.specs.Calls as stepping;
@@ -58,15 +58,6 @@ pub extern "C" fn weigh_reset(mtu: u32) -> u32
     let mut settings = SETTINGS;
     settings.mtu = mtu;
     let called = opening::reset(peer, settings);
-    weighed(called)
-}
-
-#[no_mangle]
-pub extern "C" fn weigh_begin(mtu: u32, count: u32) -> u32
-    ensures { λ r. ⌜ r ≡ weighed (begins (settingsOf 1392) mtu count (madePeer 0 0)) ⌝ }
-{
-    let peer = made(0, 0);
-    let called = opening::begin(peer, SETTINGS, mtu, count);
     weighed(called)
 }
 
