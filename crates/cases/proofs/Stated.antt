@@ -9,7 +9,7 @@ use Rattle.peer.specs.Fresh.{freshPeer}
 use Rattle.parts.specs.Damage.{all, held, heldFit, own, lengths}
 use Rattle.peer.specs.Damage.{sound}
 use Rattle.setup.specs.Queueing.{queuedAt, queued, queuedAll}
-use Rattle.sending.specs.Packets.{cutFrom}
+use Rattle.packets.specs.Packets.{cutFrom}
 use Rattle.cases.specs.Cases.{cases, Hold}
 
 pub stated : (words : List ℕ) → Hold (cases words)

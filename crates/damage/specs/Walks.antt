@@ -51,4 +51,3 @@ worthSound mtu count total lists cs ws inn =
     both (ranged mtu count)
     (both (both (listsFit lists) (heldFit now))
     (both (outPass (worthPasses ws) lists 3 0 (replicate outgoing 0)) (inSound inn lists now count total)))
-

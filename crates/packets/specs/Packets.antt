@@ -78,6 +78,11 @@ startOf flags c =
     (start.Unreliable (record { 0 = step (c .«outgoing_unreliable» .0) }))
     (start.Reliable (record { 0 = step (c .«outgoing_reliable» .0) }))
 
+-- a packet cut by its start and the fragment length
+abbrev pub cutBy : Start → ℕ → ℕ → ℕ → Cut
+cutBy start channel length fragment =
+    record { channel = channel; length = length; fragment = fragment; count = pieceCount fragment length; start = start }
+
 -- piece j of a cut packet, at an offset
 abbrev pub fragmentOf : Cut → ℕ → ℕ → ℕ → Fragment
 fragmentOf x j offset length = record { length = length; count = x .count; number = j; total = x .length; offset = offset }

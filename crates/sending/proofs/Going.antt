@@ -32,7 +32,7 @@ use Rattle.peer.specs.declared.gate.Lent.the-variants.{Nothing}
 use Rattle.peer.specs.declared.calls.Reply.the-variants.{Done, Refused}
 use Rattle.peer.proofs.Gates.{worthsOf, soundBy, openness, open-sound, behind-shut, behind-open, then-behind, came-open}
 use Rattle.stamps.specs.Counting.{channelAt, numbered}
-use Rattle.stamps.specs.Outboxes.{queueing, outboxOf}
+use Rattle.stamps.specs.Outboxes.{queueing, outboxOf, freeIn}
 use Rattle.stamps.specs.declared.pieces.Piece.{Piece}
 use Rattle.stamps.specs.declared.outbox.Outbox.{Outbox}
 use Rattle.stamps.specs.declared.outbox.Queued.{Queued}
@@ -40,18 +40,20 @@ use Rattle.setup.specs.Queueing.{room, queued, queuedAll}
 use Rattle.setup.specs.Taking.{Ready}
 use Rattle.setup.proofs.Stored.{stored, Says, says-first, stored-first, open-room, Turned, turn-on}
 use Rattle.packets.specs.Packets.{isReliable, isUnsequenced, spent, blank, reliableByte, unreliableByte, unsequencedByte, whole, startOf, cutCommand, pieces}
-use Rattle.sending.specs.Calls.{cutBy, fragment, commands, sendGate, queueGate, sendsSound, sends}
-use Rattle.sending.specs.Plans.{packetOf, piecesOf, countOf, leftOf, pieceAt, nextAt, planBy, planOf}
+use Rattle.packets.specs.Packets.{cutBy}
+use Rattle.plans.specs.Refusals.{sendGate, queueGate}
+use Rattle.sending.specs.Calls.{fragment, commands, sendsSound, sends}
+use Rattle.plans.specs.Plans.{packetOf, piecesOf, countOf, leftOf, pieceAt, nextAt, planBy, planOf}
 use Rattle.packets.specs.declared.Start.{Start}
 use Rattle.packets.specs.declared.Start.the-variants as start
 use Rattle.command.specs.declared.fields.Fragment.{Fragment}
 use Rattle.command.specs.declared.fields.Fields.the-variants.{SendReliable, SendUnreliable, SendUnsequenced}
-use Rattle.sending.specs.declared.plans.Packet.{Packet}
-use Rattle.sending.specs.declared.plans.Packet.the-variants.{One, Pieces}
-use Rattle.sending.specs.declared.plans.Plan.{Plan}
-use Rattle.sending.specs.declared.plans.Plan.the-variants as plan
+use Rattle.plans.specs.declared.Packet.{Packet}
+use Rattle.plans.specs.declared.Packet.the-variants.{One, Pieces}
+use Rattle.plans.specs.declared.Plan.{Plan}
+use Rattle.plans.specs.declared.Plan.the-variants as plan
 use Rattle.sending.proofs.Ranges.{count-high}
-use Rattle.sending.proofs.Planning.{left-all, left-length, left-turn, left-end}
+use Rattle.plans.proofs.Planning.{left-all, left-length, left-turn, left-end}
 use Rattle.sending.proofs.Sound.{queue-room, gate-channel, commands-fit}
 
 -- what tells the two plans apart
@@ -163,10 +165,10 @@ then-second : (g h : Gate) → then g h ≡ Open → h ≡ Open
 then-second Open h e = e
 then-second (Shut why) h e = absurd (omega (arith, ap openness e))
 
--- ---- the send: ws, g, o and k are what the code answered
+-- ---- the send: ws, g, o, size, free and k are what the code answered
 module _ (s : Settings) (channel n flags : ℕ) (p : Peer) (ws : List ℕ) (v : ws ≡ worthsOf p) (g : Gate) (e : g ≡ gateOf (fits s Nothing) (soundBy p ws))
-    (passed : g ≡ Open) (o : Outbox) (oe : o ≡ outboxOf (p .totals) (p .waiting) (p .flow) (p .groups) (p .channels) channel (p .lists)) (k : Plan)
-    (ke : k ≡ planOf s (p .standing) (p .flow) (p .channels) o channel n flags) where
+    (passed : g ≡ Open) (o : Outbox) (oe : o ≡ outboxOf (p .totals) (p .waiting) (p .flow) (p .groups) (p .channels) channel (p .lists)) (size free : ℕ)
+    (se : size ≡ fragment s p) (fe : free ≡ freeIn o) (k : Plan) (ke : k ≡ planOf s (p .standing) size (p .channels) free channel n flags) where
   good : sound p ≡ true
   good = open-sound s Nothing p ws v g e passed
 
@@ -186,7 +188,8 @@ module _ (s : Settings) (channel n flags : ℕ) (p : Peer) (ws : List ℕ) (v : 
   unfolding gates
   plan-is =
       ke
-      ∙ ap (λ (free : ℕ). planBy (then (sendGate s channel n (p .standing)) (queueGate (countOf packet) free)) packet) (open-room p channel o oe)
+      ∙ rw se
+      (ap (λ (free : ℕ). planBy (then (sendGate s channel n (p .standing)) (queueGate (countOf packet) free)) packet) (fe ∙ open-room p channel o oe))
       ∙ ap (λ (m : ℕ). planBy (then (sendGate s channel n (p .standing)) (queueGate m (room p))) packet) count-is
 
   send-is : sendsSound s channel n flags p ≡ behind gates p (finished (queuedAll xs p))

@@ -1,4 +1,3 @@
 pub mod Ranges
-pub mod Planning
 pub mod Sound
 pub mod Going

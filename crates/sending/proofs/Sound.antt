@@ -36,7 +36,9 @@ use Rattle.peer.proofs.Sound.{gated-sounds}
 use Rattle.setup.proofs.Sound.{queuedAll-sound, queuedAll-whole}
 use Rattle.packets.specs.Packets.{isReliable, isUnsequenced, spent, blank, reliableByte, unreliableByte, unsequencedByte, whole, startOf, fragmentOf, cutCommand, lengthAt, cutFrom, pieces}
 use Rattle.peer.specs.States.{isConnected}
-use Rattle.sending.specs.Calls.{queueGate, queuesAll, fragment, cutBy, commands, sendGate, sendsSound, sends}
+use Rattle.packets.specs.Packets.{cutBy}
+use Rattle.plans.specs.Refusals.{queueGate, sendGate}
+use Rattle.sending.specs.Calls.{queuesAll, fragment, commands, sendsSound, sends}
 use Rattle.packets.specs.declared.Start.{Start}
 use Rattle.packets.specs.declared.Start.the-variants as start
 use Rattle.packets.specs.declared.Cut.{Cut}

@@ -1,50 +1,28 @@
 -- A send is its commands set up in order, or none of them.
 use Prim.Native.Nat.{ℕ}
 use mathlib.Core.List.{List, [], _∷_}
-use lib.Dec.{leb, ltb}
+use lib.Dec.{leb}
 use lib.ListN.{length}
 use Rattle.numbers.specs.Pick.{pick}
-use Rattle.numbers.specs.Limits.{mostFragments}
-use Rattle.numbers.specs.declared.refusals.Refusal.the-variants.{NotConnected, InvalidChannel, PacketTooLarge, FragmentsExceeded, FailedToQueue}
-use Rattle.parts.specs.declared.groups.Standing.{Standing}
-use Rattle.peer.specs.States.{isConnected}
 use Rattle.peer.specs.Outcome.{Outcome, finished}
 use Rattle.peer.specs.Gate.{behind, onRecord}
 use Rattle.peer.specs.declared.settings.Settings.{Settings}
 use Rattle.peer.specs.declared.record.Peer.{Peer}
-use Rattle.peer.specs.declared.gate.Gate.{Gate}
-use Rattle.peer.specs.declared.gate.Gate.the-variants.{Open, Shut}
 use Rattle.stamps.specs.Counting.{channelAt}
 use Rattle.stamps.specs.declared.pieces.Piece.{Piece}
 use Rattle.setup.specs.Queueing.{room, queuedAll}
-use Rattle.packets.specs.Packets.{fragmentLength, pieceCount, whole, startOf, pieces}
-use Rattle.packets.specs.declared.Start.{Start}
-use Rattle.packets.specs.declared.Cut.{Cut}
+use Rattle.packets.specs.Packets.{fragmentLength, whole, startOf, cutBy, pieces}
+use Rattle.plans.specs.Refusals.{sendGate, queueGate}
 
 -- the fragment length comes from the record's MTU, the checksum from the settings
 abbrev pub fragment : Settings → Peer → ℕ
 fragment s p = fragmentLength (p .flow .mtu) (s .checksum)
-
-abbrev pub cutBy : Start → ℕ → ℕ → ℕ → Cut
-cutBy start channel length fragment =
-    record { channel = channel; length = length; fragment = fragment; count = pieceCount fragment length; start = start }
 
 -- the commands of a packet: exactly the fragment length is one, one byte more is pieces
 abbrev pub commands : ℕ → ℕ → ℕ → ℕ → Peer → List Piece
 commands fragment channel length flags p =
     let c = channelAt (p .channels) channel in
     pick (leb length fragment) (whole flags c channel length ∷ []) (pieces (cutBy (startOf flags c) channel length fragment))
-
--- 1, 2, 3
-abbrev pub sendGate : Settings → ℕ → ℕ → Standing → Gate
-sendGate s channel length standing =
-    pick (isConnected standing)
-    (pick (ltb channel (standing .count)) (pick (leb length (s .packet)) Open (Shut PacketTooLarge)) (Shut InvalidChannel))
-    (Shut NotConnected)
-
--- 4, then 5 "fewer free outgoing slots than commands needed", of so many commands
-abbrev pub queueGate : ℕ → ℕ → Gate
-queueGate count free = pick (leb count mostFragments) (pick (leb count free) Open (Shut FailedToQueue)) (Shut FragmentsExceeded)
 
 -- all of them or none
 abbrev pub queuesAll : List Piece → Peer → Outcome Peer

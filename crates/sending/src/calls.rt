@@ -3,8 +3,6 @@ ghost use mathlib.Core.Path.{_≡_};
 ghost use Rattle.peer.specs.Outcome.{Came};
 ghost use Rattle.peer.specs.Calls.{answerOf};
 ghost use Rattle.sending.specs.Calls.{sends};
-use crate::plans;
-use crate::plans::Plan;
 use peer::calls::Called;
 use peer::calls::Reply;
 use peer::gate;
@@ -12,6 +10,7 @@ use peer::gate::Gate;
 use peer::gate::Lent;
 use peer::record::Peer;
 use peer::settings::Settings;
+use plans::Plan;
 use stamps::counting;
 use stamps::outbox;
 
@@ -42,7 +41,7 @@ pub fn send(peer: Peer, settings: Settings, channel: u8, length: u32, flags: u32
             reply: Reply::Refused(why),
         };
     }
-    let mut o = outbox::open(
+    let fresh = outbox::open(
         p.totals,
         p.waiting,
         p.flow,
@@ -51,12 +50,13 @@ pub fn send(peer: Peer, settings: Settings, channel: u8, length: u32, flags: u32
         channel,
         lists,
     );
+    let fragment = packets::fragment_length(p.flow.mtu, settings.checksum) as u16;
     let plan = plans::judge(
         settings,
         p.standing,
-        p.flow,
+        fragment,
         channels,
-        o,
+        outbox::room(fresh),
         channel,
         length,
         flags,
@@ -71,6 +71,7 @@ pub fn send(peer: Peer, settings: Settings, channel: u8, length: u32, flags: u32
         Plan::Queue(packet) => packet,
     };
     let count = plans::count_of(packet);
+    let mut o = fresh;
     let mut j: u32 = 0;
     let mut offset: u32 = 0;
     while j < count {

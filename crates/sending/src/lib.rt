@@ -1,3 +1,2 @@
 // Send: a packet becomes commands, one or a piece each.
 pub mod calls;
-mod plans;

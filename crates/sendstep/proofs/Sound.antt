@@ -29,7 +29,7 @@ use Rattle.parts.specs.declared.groups.Times.{Times}
 use Rattle.parts.specs.declared.groups.Flow.{Flow}
 use Rattle.parts.specs.declared.groups.Lists.{Lists}
 use Rattle.parts.specs.declared.groups.Outgoing.{Outgoing}
-use Rattle.damage.proofs.WalkLaws.{all-append}
+use Rattle.held.proofs.WalkLaws.{all-append}
 use Rattle.peer.specs.Damage.{sound}
 use Rattle.peer.specs.Sounds.{Whole, Sounds}
 use Rattle.peer.specs.Updates.{renewed}

@@ -41,7 +41,9 @@ use Rattle.peer.specs.declared.settings.Settings.{Settings}
 use Rattle.peer.specs.declared.record.Peer.{Peer}
 use Rattle.stamps.specs.declared.pieces.Piece.{Piece}
 use Rattle.setup.specs.Queueing.{room, queuedAll}
-use Rattle.sending.specs.Calls.{cutBy, fragment, commands, sendGate, queueGate, queuesAll, sendsSound, sends}
+use Rattle.packets.specs.Packets.{cutBy}
+use Rattle.plans.specs.Refusals.{sendGate, queueGate}
+use Rattle.sending.specs.Calls.{fragment, commands, queuesAll, sendsSound, sends}
 use Rattle.sent.specs.Done.{Sent, Cutting, Numbered, reliably}
 use Rattle.sending.proofs.Sound.{queue-room, gate-channel, commands-fit}
 

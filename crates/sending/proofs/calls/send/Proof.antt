@@ -1,6 +1,6 @@
 -- `send` passes the gate and its own refusals; then its loop queues the packet's commands in order, and each group is what the outbox has.
 -- What the loop keeps is `Going`.
-use Prim.Native.Nat.{ℕ, _-_, _<_}
+use Prim.Native.Nat.{ℕ, _-_, _≤_, _<_}
 use mathlib.Core.Path.{refl, sym, _∙_}
 use native.Mathlib.Omega.{arith}
 use lib.ListN.{length-map}
@@ -11,16 +11,16 @@ use Rattle.peer.specs.Sounds.{Whole}
 use Rattle.peer.specs.declared.gate.Lent.the-variants.{Nothing}
 use Rattle.peer.proofs.Gates.{came-shut, open-sound}
 use Rattle.sending.specs.Calls.{sendsSound}
-use Rattle.sending.proofs.Ranges.{mtu-low, mtu-high, count-high}
+use Rattle.sending.proofs.Ranges.{mtu-high, length-high}
 use Rattle.sending.proofs.Going.{Going, going-start, going-exists, going-turn, send-shut, send-left}
 use Rattle.sending.proofs.calls.send.Statement.{statement}
 use Rattle.sending.proofs.calls.send.Tie as tie
 
 abbrev Inv-loop : tie.InvT-loop
-Inv-loop channel length flags p₀ channels o₀ packet count j₀ offset₀ p o j offset = Going packet count channel p₀ p o j offset
+Inv-loop channel length flags p₀ channels fragment packet count o₀ j₀ offset₀ p o j offset = Going packet count channel p₀ p o j offset
 
 abbrev μ-loop : tie.MeasureT-loop
-μ-loop channel length flags p₀ channels o₀ packet count j₀ offset₀ p o j offset = count - j
+μ-loop channel length flags p₀ channels fragment packet count o₀ j₀ offset₀ p o j offset = count - j
 
 worths-requires : tie.Need-worths-requires Inv-loop μ-loop
 worths-requires c κs = search needs
@@ -47,15 +47,25 @@ enum-told c = search needs
 open-requires : tie.Need-open-requires Inv-loop μ-loop
 open-requires c κs = search needs
 
-judge-requires : tie.Need-judge-requires Inv-loop μ-loop
-judge-requires c κs =
-    let t = c .before .before .before .before .before .before .before in
+fragment-length-requires : tie.Need-fragment-length-requires Inv-loop μ-loop
+fragment-length-requires c κs = search needs
+
+cast-fragment : tie.Need-cast-fragment Inv-loop μ-loop
+cast-fragment c =
+    let t = c .before .before .before .before .before .before in
     let g = t .before .before in
     let w = g .before in
     let b = w .before .before .before .before .before in
     let a = b .args in
     let good = open-sound (a .settings) Nothing (a .peer) (w .worths .result) (w .worths .ensures) (g .pass .result) (g .pass .ensures) (t .enum-told .given .1) in
-    (mtu-low (a .peer) good, mtu-high (a .peer) good, count-high (a .peer) good)
+    let h : c .fragment-length .result ≤ 65535 = rw (c .fragment-length .ensures) (length-high (a .peer .flow .mtu) (a .settings .checksum) (mtu-high (a .peer) good)) in
+    search needs
+
+room-requires : tie.Need-room-requires Inv-loop μ-loop
+room-requires c κs = search needs
+
+judge-requires : tie.Need-judge-requires Inv-loop μ-loop
+judge-requires c κs = search needs
 
 enum-known-plan : tie.Need-enum-known-plan Inv-loop μ-loop
 enum-known-plan c = search needs
@@ -63,7 +73,8 @@ enum-known-plan c = search needs
 returns-2 : tie.Need-returns-2 Inv-loop μ-loop
 returns-2 c =
     let j = c .before .before .before in
-    let o = j .before .before .before in
+    let f = j .before .before .before in
+    let o = f .before in
     let t = o .before .before .before .before .before in
     let g = t .before .before in
     let w = g .before in
@@ -71,7 +82,8 @@ returns-2 c =
     let a = b .args in
     let k = c .before .plan .given in
     send-shut (a .settings) (a .channel) (a .length) (a .flags) (a .peer) (w .worths .result) (w .worths .ensures) (g .pass .result) (g .pass .ensures)
-    (t .enum-told .given .1) (o .«open» .result) (o .«open» .ensures) (j .judge .result) (j .judge .ensures) (k .0 .0) (k .1)
+    (t .enum-told .given .1) (o .«open» .result) (o .«open» .ensures) (f .fragment-length .result) (j .before .room .result)
+    (f .fragment-length .ensures) (j .before .room .ensures) (j .judge .result) (j .judge .ensures) (k .0 .0) (k .1)
 
 enum-known-plan-2 : tie.Need-enum-known-plan-2 Inv-loop μ-loop
 enum-known-plan-2 c = search needs
@@ -82,23 +94,25 @@ count-of-requires c κs = search needs
 loop-holds : tie.Need-loop-holds Inv-loop μ-loop
 loop-holds c =
     let j = c .before .before .before .before in
-    let o = j .before .before .before in
+    let f = j .before .before .before in
+    let o = f .before in
     let t = o .before .before .before .before .before in
     let g = t .before .before in
     let w = g .before in
     let b = w .before .before .before .before .before in
     let a = b .args in
-    let f = b .good .0 .1 .1 .1 .1 .1 .1 .1 .1 .1 .1 .1 .1 .1 .1 .1 in
+    let u = b .good .0 .1 .1 .1 .1 .1 .1 .1 .1 .1 .1 .1 .1 .1 .1 .1 in
     let whole : Whole (a .peer) =
     record {
-      channels = sym (length-map (a .peer .channels) _) ∙ f .0 .1 .0 .1;
-      outgoing = sym (length-map (a .peer .outgoing) _) ∙ f .1 .0 .1 .0 .1;
-      incoming = sym (length-map (a .peer .incoming) _) ∙ f .1 .1 .0 .1 .0 .1;
+      channels = sym (length-map (a .peer .channels) _) ∙ u .0 .1 .0 .1;
+      outgoing = sym (length-map (a .peer .outgoing) _) ∙ u .1 .0 .1 .0 .1;
+      incoming = sym (length-map (a .peer .incoming) _) ∙ u .1 .1 .0 .1 .0 .1;
     }
     in
     let k = c .before .before .plan2 .given in
     going-start (a .settings) (a .channel) (a .length) (a .flags) (a .peer) (w .worths .result) (w .worths .ensures) (g .pass .result) (g .pass .ensures)
-    (t .enum-told .given .1) (o .«open» .result) (o .«open» .ensures) (j .judge .result) (j .judge .ensures) whole (k .0 .0) (k .1) (c .count-of .result) (c .count-of .ensures)
+    (t .enum-told .given .1) (o .«open» .result) (o .«open» .ensures) (f .fragment-length .result) (j .before .room .result)
+    (f .fragment-length .ensures) (j .before .room .ensures) (j .judge .result) (j .judge .ensures) whole (k .0 .0) (k .1) (c .count-of .result) (c .count-of .ensures)
 
 piece-at-requires : tie.Need-piece-at-requires Inv-loop μ-loop
 piece-at-requires c κs = search needs
@@ -158,23 +172,25 @@ returns-3 c =
     let l = n .before .before .before .before .before .before .before in
     let m = l .before in
     let j = m .before .before .before .before in
-    let o = j .before .before .before in
+    let f = j .before .before .before in
+    let o = f .before in
     let t = o .before .before .before .before .before in
     let g = t .before .before in
     let w = g .before in
     let b = w .before .before .before .before .before in
     let a = b .args in
-    let f = b .good .0 .1 .1 .1 .1 .1 .1 .1 .1 .1 .1 .1 .1 .1 .1 .1 in
+    let u = b .good .0 .1 .1 .1 .1 .1 .1 .1 .1 .1 .1 .1 .1 .1 .1 .1 in
     let whole : Whole (a .peer) =
     record {
-      channels = sym (length-map (a .peer .channels) _) ∙ f .0 .1 .0 .1;
-      outgoing = sym (length-map (a .peer .outgoing) _) ∙ f .1 .0 .1 .0 .1;
-      incoming = sym (length-map (a .peer .incoming) _) ∙ f .1 .1 .0 .1 .0 .1;
+      channels = sym (length-map (a .peer .channels) _) ∙ u .0 .1 .0 .1;
+      outgoing = sym (length-map (a .peer .outgoing) _) ∙ u .1 .0 .1 .0 .1;
+      incoming = sym (length-map (a .peer .incoming) _) ∙ u .1 .1 .0 .1 .0 .1;
     }
     in
     let k = m .before .before .plan2 .given in
     send-left (a .settings) (a .channel) (a .length) (a .flags) (a .peer) (w .worths .result) (w .worths .ensures) (g .pass .result) (g .pass .ensures)
-    (t .enum-told .given .1) (o .«open» .result) (o .«open» .ensures) (j .judge .result) (j .judge .ensures) whole (k .0 .0) (k .1) (m .count-of .result) (l .loop .p) (l .loop .o) (l .loop .j) (l .loop .offset) (l .loop .inv)
+    (t .enum-told .given .1) (o .«open» .result) (o .«open» .ensures) (f .fragment-length .result) (j .before .room .result)
+    (f .fragment-length .ensures) (j .before .room .ensures) (j .judge .result) (j .judge .ensures) whole (k .0 .0) (k .1) (m .count-of .result) (l .loop .p) (l .loop .o) (l .loop .j) (l .loop .offset) (l .loop .inv)
     (n .before .before .before .before .before .before .loop-test .left) (n .number .result) (n .number .ensures)
 
 pub send-spec : {M : Type 1} → statement M
@@ -189,6 +205,9 @@ send-spec =
     returns
     enum-told
     open-requires
+    fragment-length-requires
+    cast-fragment
+    room-requires
     judge-requires
     enum-known-plan
     returns-2

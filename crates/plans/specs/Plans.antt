@@ -1,0 +1,54 @@
+-- Only the code's own: a packet as one value, its commands one after another, and what a send is to do. The rule is in sending's Calls.
+use Prim.Native.Nat.{ℕ, _+_}
+use mathlib.Core.List.{List, [], _∷_}
+use lib.Dec.{leb}
+use lib.ListN.{replicate}
+use Rattle.numbers.specs.Pick.{pick}
+use Rattle.parts.specs.declared.groups.Standing.{Standing}
+use Rattle.parts.specs.declared.groups.Channel.{Channel}
+use Rattle.peer.specs.Gate.{then}
+use Rattle.peer.specs.declared.settings.Settings.{Settings}
+use Rattle.peer.specs.declared.gate.Gate.{Gate}
+use Rattle.peer.specs.declared.gate.Gate.the-variants.{Open, Shut}
+use Rattle.stamps.specs.Counting.{channelAt}
+use Rattle.stamps.specs.declared.pieces.Piece.{Piece}
+use Rattle.packets.specs.Packets.{whole, startOf, cutBy, lengthAt, cutPiece, cutFrom, pieces}
+use Rattle.plans.specs.Refusals.{sendGate, queueGate}
+use Rattle.plans.specs.declared.Packet.{Packet}
+use Rattle.plans.specs.declared.Packet.the-variants.{One, Pieces}
+use Rattle.plans.specs.declared.Plan.{Plan}
+use Rattle.plans.specs.declared.Plan.the-variants.{Refused, Queue}
+
+abbrev pub packetOf : ℕ → Channel → ℕ → ℕ → ℕ → Packet
+packetOf flags c channel length fragment =
+    pick (leb length fragment) (One (whole flags c channel length)) (Pieces (cutBy (startOf flags c) channel length fragment))
+
+abbrev pub piecesOf : Packet → List Piece
+piecesOf (One x) = x ∷ []
+piecesOf (Pieces x) = pieces x
+
+abbrev pub countOf : Packet → ℕ
+countOf (One x) = 1
+countOf (Pieces x) = x .count
+
+-- the n commands that are left, from command j at its offset on
+abbrev pub leftOf : Packet → ℕ → ℕ → ℕ → List Piece
+leftOf (One x) n j offset = replicate n x
+leftOf (Pieces x) n j offset = cutFrom x n j offset
+
+abbrev pub pieceAt : Packet → ℕ → ℕ → Piece
+pieceAt (One x) j offset = x
+pieceAt (Pieces x) j offset = cutPiece x j offset
+
+abbrev pub nextAt : Packet → ℕ → ℕ
+nextAt (One x) offset = offset
+nextAt (Pieces x) offset = offset + lengthAt x offset
+
+abbrev pub planBy : Gate → Packet → Plan
+planBy Open packet = Queue packet
+planBy (Shut why) packet = Refused why
+
+abbrev pub planOf : Settings → Standing → ℕ → List Channel → ℕ → ℕ → ℕ → ℕ → Plan
+planOf s standing fragment cs free channel length flags =
+    let packet = packetOf flags (channelAt cs channel) channel length fragment in
+    planBy (then (sendGate s channel length standing) (queueGate (countOf packet) free)) packet
