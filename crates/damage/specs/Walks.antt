@@ -1,5 +1,5 @@
--- For private functions of the damage test alone: what each walk over a list answers, that every slot exists, has no mark yet and passes
--- a test, and is marked then. Nothing here need be believed: `worth-sound` in proofs/PoolLaws gives the rule back.
+-- For functions inside the house alone: what each walk over a list answers, that every slot exists, has no mark yet and passes a test,
+-- and is marked then. Nothing here need be believed: `worth-sound` in proofs/PoolLaws gives the rule back.
 use Prim.Native.Nat.{ℕ, zero, suc, _+_}
 use mathlib.Core.Bool.{Bool, true}
 use mathlib.Core.List.{List, [], _∷_}

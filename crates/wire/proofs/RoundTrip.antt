@@ -1,4 +1,5 @@
 -- The two round trips: what was written is read, and what was read is written, into any buffer. A write changes no byte outside its place.
+-- A command has one encoding.
 -- The argument: induction on the widths, with a number's own round trip at each; then the answers, which tell the results apart.
 use mathlib.Core.Path.{_≡_, refl, ap, subst, _∙_, sym}
 use mathlib.Core.Bool.{Bool, true, false}
@@ -7,7 +8,7 @@ use Prim.Native.Nat.{ℕ, _+_, _%_, _^_, _≤_, _<_}
 use native.Mathlib.Omega.{arith}
 use lib.Dec.{ltb, leb}
 use lib.ListN.{length, getD, take, drop, length-drop}
-use lib.Seq.{sets, sets-eq, take-add, take-length, drop-drop, length-take-le}
+use lib.Seq.{sets, sets-eq, take-add, take-append-seam, take-length, drop-drop, length-take-le}
 use borrow.Author.Tests.{ltb-true, leb-true, le-leb, lt-leb, eq-eqb}
 use Rattle.numbers.specs.Pick.{pick, both}
 use Rattle.numbers.specs.Answers.{Answer, done, refused}
@@ -187,6 +188,9 @@ module _ (s : List ℕ) (i next : ℕ) (c : Command) (e : answerOf (rd.Found c n
   found-room : i + span c ≤ length s
   found-room = rw kinds (whole-room s i found-readable)
 
+  found-wide : length (take (span c) (drop i s)) ≡ span c
+  found-wide = length-take-le (span c) (drop i s) (rw (length-drop i s) (omega (arith, found-room)))
+
   rows : rowOf c ≡ rowAt s i (layout (kindOf (c .fields)))
   rows = ap (λ (l : List ℕ). drop 2 l) values ∙ ap (λ (k : ℕ). rowAt s i (layout k)) (sym kinds)
 
@@ -206,9 +210,7 @@ read-then-write s t after i j size c r b e w = record { room = there; short = no
     same = omega (arith, found-next s i (i + size) c e)
 
     wide : length (take (span c) (drop i s)) ≡ span c
-    wide =
-        length-take-le (span c) (drop i s)
-        (rw (length-drop i s) (omega (arith, found-room s i (i + size) c e)))
+    wide = found-wide s i (i + size) c e
 
     there : j + size ≤ length t → (r ≡ wr.Done (j + size)) × (after ≡ take j t ++ take size (drop i s) ++ drop (j + size) t)
     there h =
@@ -227,3 +229,25 @@ read-then-write s t after i j size c r b e w = record { room = there; short = no
         both-false (namesFields c) (leb (j + span c) (length t)) (lt-leb (j + span c) (length t) (omega (arith, same)))
         in
         (writings-apart r wr.Refused (w .answer ∙ answered t j c false no), w .buffer ∙ bytes-are t j c false no)
+
+-- a command has one encoding: wherever it is found, the bytes are the same
+pub one-encoding :
+    (s t : List ℕ) (i j m n : ℕ) (c : Command) → Bytes s → Bytes t → answerOf (rd.Found c m) ≡ readAt s i → answerOf (rd.Found c n) ≡ readAt t j
+    → take (span c) (drop i s) ≡ take (span c) (drop j t)
+one-encoding s t i j m n c bs bt e f =
+    sym (laid a refl)
+    ∙ ap (λ (l : List ℕ). take (length a) l) (sym (found-copy s i m c e a 0 bs) ∙ found-copy t j n c f a 0 bt)
+    ∙ ap (λ (k : ℕ). take k (sets a 0 b)) (sym wide)
+    ∙ laid b wide
+  where
+    a : List ℕ
+    a = take (span c) (drop i s)
+
+    b : List ℕ
+    b = take (span c) (drop j t)
+
+    wide : length b ≡ length a
+    wide = found-wide t j n c f ∙ sym (found-wide s i m c e)
+
+    laid : (v : List ℕ) → length v ≡ length a → take (length v) (sets a 0 v) ≡ v
+    laid v h = ap (λ (l : List ℕ). take (length v) l) (sets-eq v a 0 (omega (arith, h))) ∙ take-append-seam v (drop (0 + length v) a)
