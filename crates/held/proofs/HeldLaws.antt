@@ -17,7 +17,8 @@ use Rattle.parts.specs.Fresh.{noIncoming}
 use Rattle.parts.specs.Damage.{all, held, heldFit, inFit, own, lengths}
 use Rattle.runs.specs.Free.{markedAll}
 use Rattle.held.specs.Walks.{belowCount, passes, inPasses, heldPass}
-use Rattle.held.proofs.WalkLaws.{part-step, part-end, any, middle, pass-append, pass-two, all-append}
+use Rattle.runs.proofs.Views.{part-step, part-end}
+use Rattle.held.proofs.WalkLaws.{any, middle, pass-append, pass-two, all-append}
 use Rattle.held.proofs.SumLaws.{sum-append}
 
 -- a count above the channels means all of them
@@ -39,42 +40,42 @@ module _ (count n : ℕ) (q : n ≡ belowCount count) where
 module _ (cs : List Channel) (n k : ℕ) (d : Channel) (e : n ≤ length cs) (h : k < n) where
   pub fit-long : 12 < getD cs k d .held .len → heldFit (drop k (take n cs)) ≡ false
   unfolding heldFit
-  fit-long q = rw (part-step cs n k d e h, lt-leb (getD cs k d .held .len) 12 q)
+  fit-long q = rw (part-step cs k n d h (omega arith), lt-leb (getD cs k d .held .len) 12 q)
 
   pub fit-turn : getD cs k d .held .len ≤ 12 → heldFit (drop k (take n cs)) ≡ heldFit (drop (k + 1) (take n cs))
   unfolding heldFit
-  fit-turn q = rw (part-step cs n k d e h, le-leb (getD cs k d .held .len) 12 q)
+  fit-turn q = rw (part-step cs k n d h (omega arith), le-leb (getD cs k d .held .len) 12 q)
 
 pub fit-end : (cs : List Channel) (n k : ℕ) → n ≤ k → heldFit (drop k (take n cs)) ≡ true
 unfolding heldFit
-fit-end cs n k h = rw (part-end cs n k h)
+fit-end cs n k h = rw (part-end cs k n h)
 
 module _ (slots : List Incoming) (count : ℕ) (cs : List Channel) (n k : ℕ) (m : List ℕ) where
   pub held-stop : (d : Channel) → n ≤ length cs → k < n → false ≡ passes (inPasses slots count true k) m (inItems (getD cs k d .held))
       → heldPass slots count k m (drop k (take n cs)) ≡ false
   unfolding heldPass
-  held-stop d e h q = rw (part-step cs n k d e h, ← q)
+  held-stop d e h q = rw (part-step cs k n d h (omega arith), ← q)
 
   pub held-turn : (d : Channel) (after : List ℕ) → n ≤ length cs → k < n
       → true ≡ passes (inPasses slots count true k) m (inItems (getD cs k d .held)) → after ≡ markedAll m (inItems (getD cs k d .held))
       → heldPass slots count k m (drop k (take n cs)) ≡ heldPass slots count (k + 1) after (drop (k + 1) (take n cs))
   unfolding heldPass
-  held-turn d after e h q w = rw (part-step cs n k d e h, ← q, w)
+  held-turn d after e h q w = rw (part-step cs k n d h (omega arith), ← q, w)
 
   pub held-end : n ≤ k → heldPass slots count k m (drop k (take n cs)) ≡ true
   unfolding heldPass
-  held-end h = rw (part-end cs n k h)
+  held-end h = rw (part-end cs k n h)
 
 module _ (slots : List Incoming) (cs : List Channel) (n k : ℕ) where
   pub held-sum : (d : Channel) (t u : ℕ) → n ≤ length cs → k < n → u ≡ t + lengths slots (inItems (getD cs k d .held))
       → t + lengths slots (held (drop k (take n cs))) ≡ u + lengths slots (held (drop (k + 1) (take n cs)))
   unfolding held
   held-sum d t u e h q =
-      rw (part-step cs n k d e h, sum-append slots (inItems (getD cs k d .held)) (held (drop (k + 1) (take n cs)))) (omega arith)
+      rw (part-step cs k n d h (omega arith), sum-append slots (inItems (getD cs k d .held)) (held (drop (k + 1) (take n cs)))) (omega arith)
 
   pub held-sum-end : n ≤ k → lengths slots (held (drop k (take n cs))) ≡ 0
   unfolding held lengths
-  held-sum-end h = rw (part-end cs n k h)
+  held-sum-end h = rw (part-end cs k n h)
 
 -- the walks over the channels' lists: one walk over what they hold, with the rule of each slot and of its channel
 spread : (a b c d e f : Bool) → both (both a (both b c)) (both d (both e f)) ≡ both (both a d) (both (both b e) (both c f))

@@ -4,11 +4,9 @@ use Prim.Native.Nat.{ℕ, _+_, _≤_, _<_}
 use mathlib.Core.Path.{_≡_, refl, sym, _∙_}
 use mathlib.Core.List.{List, [], _∷_, _++_}
 use mathlib.Core.Bool.{Bool, true, false, not}
-use native.Mathlib.Numerals.{add-one}
 use native.Mathlib.Omega.{arith}
 use lib.Dec.{ltb}
-use lib.ListN.{length, take, drop, getD, set, replicate, length-take, drop-of-length-le}
-use lib.Seq.{drop-cons, getD-take}
+use lib.ListN.{length, take, drop, getD, set, replicate}
 use borrow.Author.Tests.{lt-ltb, le-ltb, ne-eqb}
 use Rattle.numbers.proofs.BoolLaws.{both-assoc, both-with-true}
 use Rattle.numbers.specs.Pick.{pick, both}
@@ -17,16 +15,6 @@ use Rattle.runs.proofs.WalkLaws.{view-step, view-end}
 use Rattle.runs.proofs.Scans.{scan-rule}
 use Rattle.parts.specs.Damage.{all}
 use Rattle.held.specs.Walks.{passes, Walks}
-
--- what is in view from place k on, whatever the elements are
-module _ {A : Type 0} (xs : List A) (n k : ℕ) where
-  pub part-step : (d : A) → n ≤ length xs → k < n → drop k (take n xs) ≡ getD xs k d ∷ drop (k + 1) (take n xs)
-  part-step d e h =
-      let j : k < length (take n xs) = simp length-take (omega arith) in
-      rw (add-one, drop-cons (take n xs) k d, getD-take)
-
-  pub part-end : n ≤ k → drop k (take n xs) ≡ []
-  part-end h = drop-of-length-le (take n xs) {i = k} (simp length-take (omega arith))
 
 -- the turns of a walk
 module _ (f : ℕ → Bool) (m xs : List ℕ) (n k : ℕ) (e : n ≤ length xs) (h : k < n) where

@@ -1,29 +1,26 @@
 // Ops 1 to 6: the calls that reply done or refused.
-use crate::commands;
-use crate::frame;
-use crate::frame::Frame;
-use crate::line;
+use frames::Frame;
 use peer::calls::Called;
 use peer::calls::Reply;
 use peer::record::Peer;
 use peer::settings::Settings;
 use stamps::pieces::Piece;
 
-pub(crate) fn call(f: Frame, input: &[u8], settings: Settings, peer: Peer) -> Peer {
-    let called = made(f, input, settings, peer);
+// The reply goes into the line, the record on.
+pub(crate) fn told(called: Called) -> Peer {
     let reply = called.reply;
-    line::value(number(reply));
+    script::line::value(number(reply));
     called.peer
 }
 
-fn made(f: Frame, input: &[u8], settings: Settings, peer: Peer) -> Called {
+pub(crate) fn made(f: Frame, input: &[u8], settings: Settings, peer: Peer) -> Called {
     let op = f.op;
     match op {
         1 => opening::reset(peer, settings),
         2 => opening::begin(peer, settings, f.n0, f.n1),
         3 => opening::set_state(peer, settings, f.n0),
         4 => ping::ping(peer, settings),
-        5 => sending::calls::send(peer, settings, frame::byte(f.n0), f.n1, f.n2),
+        5 => sending::calls::send(peer, settings, frames::byte(f.n0), f.n1, f.n2),
         _ => setup::calls::setup(peer, settings, piece(f, input)),
     }
 }
@@ -35,7 +32,7 @@ fn piece(f: Frame, input: &[u8]) -> Piece {
         command,
         packet: f.n4 == 1,
         offset: f.n5,
-        length: frame::short(f.n6),
+        length: frames::short(f.n6),
     }
 }
 

@@ -1,17 +1,13 @@
 // Reads a script of frames and writes one line for each, as SCRIPT.md says.
 mod calls;
-mod commands;
 mod fits;
-mod frame;
-mod line;
 mod record;
-mod row;
 mod setters;
 mod settings;
 mod steps;
 mod store;
 
-use frame::Frame;
+use frames::Frame;
 use peer::record::Peer;
 use peer::settings::Settings;
 
@@ -19,32 +15,32 @@ use peer::settings::Settings;
 fn told(f: Frame, input: &[u8], store: &[u8]) {
     let op = f.op;
     match op {
-        16 => line::value(store::hash(store, f.n0, f.n1)),
-        30 => commands::read(frame::bytes(input), f.n0),
+        16 => script::line::value(store::hash(store, f.n0, f.n1)),
+        30 => commands::read(frames::bytes(input), f.n0),
         31 => commands::write(input, f.n4),
-        32 => line::value(numbers::clock::distance(f.n0, f.n1)),
-        fits::BAD => line::word(b" bad"),
-        fits::UNKNOWN => line::word(b" unknown"),
+        32 => script::line::value(numbers::clock::distance(f.n0, f.n1)),
+        fits::BAD => script::line::word(b" bad"),
+        fits::UNKNOWN => script::line::word(b" unknown"),
         _ => (),
     }
 }
 
 // The frame at hand, its op judged.
 fn asked(input: &[u8], store: &[u8]) -> Frame {
-    let mut f = frame::taken(input);
-    line::begin(f.op);
+    let mut f = frames::taken(input);
+    script::line::begin(f.op);
     let op = fits::op(f, input);
     f.op = op;
     told(f, input, store);
     f
 }
 
-// The record after an op; a call writes its reply. Each group of ops has its module and its arm.
+// The record after an op; a call writes its reply.
 fn changed(f: Frame, input: &[u8], settings: Settings, peer: Peer) -> Peer {
     let op = f.op;
     match op {
-        1..=6 => calls::call(f, input, settings, peer),
-        7 => steps::call(f, settings, peer),
+        1..=6 => calls::told(calls::made(f, input, settings, peer)),
+        7 => steps::told(sendstep::calls::step(peer, settings, steps::queue(f.n0), f.n1)),
         20 => setters::number(f.n0, f.n1, peer),
         21..=24 => setters::part(f, input, peer),
         _ => peer,
@@ -58,13 +54,13 @@ fn play(input: &mut [u8], store: &[u8]) {
     let mut peer = settings::fresh();
     while turns > 0 {
         turns -= 1;
-        if !frame::is_next(input) {
+        if !frames::is_next(input) {
             break;
         }
         let f = asked(input, store);
         bench = settings::set(f, bench);
         peer = changed(f, input, bench.settings, peer);
-        line::end(f.op, record::hash(f.op == 15, peer));
+        script::line::end(f.op, record::hash(f.op == 15, peer));
     }
 }
 

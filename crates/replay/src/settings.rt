@@ -1,5 +1,5 @@
 // Op 0: the settings for the calls that follow.
-use crate::frame::Frame;
+use frames::Frame;
 use peer::defaults::Kept;
 use peer::record::Peer;
 use peer::settings::Settings;

@@ -1,23 +1,20 @@
 // Op 7: the send step.
-use crate::frame::Frame;
-use crate::line;
-use crate::record;
-use crate::row::Row;
 use parts::groups::Outgoing;
 use peer::record::Peer;
-use peer::settings::Settings;
-use sendstep::calls;
+use script::record;
+use script::row::Row;
 use sendstep::calls::Reply;
+use sendstep::calls::Stepped;
 use sendstep::heads::Queue;
 
-pub(crate) fn call(f: Frame, settings: Settings, peer: Peer) -> Peer {
-    let stepped = calls::step(peer, settings, queue(f.n0), f.n1);
+// The reply goes into the line, the record on.
+pub(crate) fn told(stepped: Stepped) -> Peer {
     let reply = stepped.reply;
     tell(reply);
     stepped.peer
 }
 
-fn queue(list: u32) -> Queue {
+pub(crate) fn queue(list: u32) -> Queue {
     if list == 0 {
         Queue::Outgoing
     } else {
@@ -28,14 +25,14 @@ fn queue(list: u32) -> Queue {
 // The reply's number, then 0 for nothing to send, or 1 and the head's numbers.
 fn tell(reply: Reply) {
     match reply {
-        Reply::Refused(why) => line::value(why.number()),
-        Reply::Nothing => line::pair(0, 0),
+        Reply::Refused(why) => script::line::value(why.number()),
+        Reply::Nothing => script::line::pair(0, 0),
         Reply::Head(o) => head(o),
     }
 }
 
 fn head(o: Outgoing) {
-    line::pair(0, 1);
+    script::line::pair(0, 1);
     let row = Row {
         hash: 0,
         is_shown: true,

@@ -1,5 +1,6 @@
 pub mod CellLaws
 pub mod MakeLaws
+pub mod Views
 pub mod WalkLaws
 pub mod ListLaws
 pub mod Scans

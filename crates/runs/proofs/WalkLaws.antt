@@ -4,11 +4,10 @@ use Prim.Native.Nat.{ℕ, zero, suc, _+_, _-_, _≤_, _<_}
 use mathlib.Core.Path.{_≡_, ap, sym}
 use mathlib.Core.List.{List, [], _∷_}
 use mathlib.Core.Bool.{Bool, true, false}
-use native.Mathlib.Numerals.{add-one}
 use native.Mathlib.Omega.{arith}
-use lib.ListN.{length, take, drop, getD, set, length-take, drop-of-length-le}
-use lib.Seq.{drop-cons, getD-take}
+use lib.ListN.{length, take, drop, getD, set}
 use borrow.Author.Tests.{lt-ltb, le-ltb, eq-eqb, ne-eqb}
+use Rattle.runs.proofs.Views.{part-step, part-end}
 use Rattle.runs.specs.Runs.{findFrom}
 use Rattle.runs.specs.Free.{firstFrom, countFrom, scanned, Scanned, Scans}
 use Rattle.runs.specs.declared.Found.the-variants.{At, Nowhere}
@@ -16,12 +15,10 @@ use Rattle.runs.specs.declared.Free.the-variants.{Lowest, Full}
 
 -- n of the cells are in view: the view from place k is cell k and the view from the next place
 pub view-step : (xs : List ℕ) (n k : ℕ) → n ≤ length xs → k < n → drop k (take n xs) ≡ getD xs k 0 ∷ drop (k + 1) (take n xs)
-view-step xs n k e h =
-    let j : k < length (take n xs) = simp length-take (omega arith) in
-    rw (add-one, drop-cons (take n xs) k 0, getD-take)
+view-step xs n k e h = part-step xs k n 0 h (omega arith)
 
 pub view-end : (xs : List ℕ) (n k : ℕ) → n ≤ k → drop k (take n xs) ≡ []
-view-end xs n k h = drop-of-length-le (take n xs) {i = k} (simp length-take (omega arith))
+view-end xs n k h = part-end xs k n h
 
 module _ (xs : List ℕ) (n k s : ℕ) (e : n ≤ length xs) (h : k < n) where
   pub find-hit : getD xs k 0 ≡ s → findFrom k (drop k (take n xs)) s ≡ At k

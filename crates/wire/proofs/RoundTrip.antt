@@ -30,7 +30,8 @@ use Rattle.table.proofs.ByteLaws.{put-length, put-below, put-above, number-same
 use Rattle.table.proofs.LayoutLaws.{named, layout-known}
 use Rattle.command.proofs.Settled.{apart}
 use Rattle.wire.proofs.ReadLaws.{chosen, whole-room}
-use Rattle.wire.proofs.WriteLaws.{answered, bytes-are, named-kind, row-of-length}
+use Rattle.command.proofs.RowLengths.{row-of-length}
+use Rattle.wire.proofs.WriteLaws.{answered, bytes-are, named-kind}
 use Rattle.wire.proofs.Settled.{readings-apart, writings-apart}
 
 -- ---- a row in bytes

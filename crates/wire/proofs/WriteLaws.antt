@@ -1,6 +1,6 @@
 -- What the writer answers and leaves in the buffer, where its tests fail and where they hold.
 -- The argument: a layout is as long as its command's row, so the zeros past the row are never put.
-use mathlib.Core.Path.{_≡_, refl, ap, _∙_, sym}
+use mathlib.Core.Path.{_≡_, ap, _∙_, sym}
 use mathlib.Core.Bool.{Bool, true, false}
 use mathlib.Core.List.{List, [], _∷_}
 use Prim.Native.Nat.{ℕ, _+_, _%_, _≤_, _<_}
@@ -13,33 +13,14 @@ use Rattle.numbers.specs.Answers.{done, refused}
 use Rattle.numbers.specs.declared.refusals.Refusal.the-variants.{BadCommand}
 use Rattle.table.specs.Layout.{layout, sizeOf}
 use Rattle.table.specs.Bytes.{putRow, pad}
-use Rattle.command.specs.Rows.{kindOf, fieldsRow, rowOf, namesFields}
+use Rattle.command.specs.Rows.{kindOf, rowOf, namesFields}
 use Rattle.wire.specs.Writing.{writable, writeAnswer, writeBytes, Written}
 use Rattle.command.specs.declared.fields.Command.{Command}
-use Rattle.command.specs.declared.fields.Fields.{Fields}
-use Rattle.command.specs.declared.fields.Fields.the-variants as vr
 use Rattle.wire.specs.declared.writer.Writing.the-variants as writing
 use Rattle.numbers.proofs.BoolLaws.{both-true, both-false}
 use Rattle.table.proofs.LayoutLaws.{layout-length}
 use Rattle.table.proofs.RowLaws.{put-pad}
-
-fields-length : (f : Fields) → length (layout (kindOf f)) ≡ 3 + length (fieldsRow f)
-unfolding layout
-fields-length (vr.Acknowledge n t) = refl
-fields-length (vr.Connect c d) = refl
-fields-length (vr.VerifyConnect c) = refl
-fields-length (vr.Disconnect d) = refl
-fields-length vr.Ping = refl
-fields-length (vr.SendReliable l) = refl
-fields-length (vr.SendUnreliable n l) = refl
-fields-length (vr.SendFragment n g) = refl
-fields-length (vr.SendUnsequenced g l) = refl
-fields-length (vr.BandwidthLimit i o) = refl
-fields-length (vr.ThrottleConfigure i a d) = refl
-fields-length (vr.SendUnreliableFragment n g) = refl
-
-pub row-of-length : (c : Command) → length (layout (kindOf (c .fields))) ≡ length (rowOf c)
-row-of-length c = fields-length (c .fields) ∙ (omega arith)
+use Rattle.command.proofs.RowLengths.{row-of-length}
 
 module _ (s : List ℕ) (i : ℕ) (c : Command) where
   abbrev kind : ℕ

@@ -1,0 +1,23 @@
+-- `worded`: a word is set from number 64 on; below it none.
+use borrow.Author.Tests.{lt-ltb, le-ltb}
+use borrow.Author.Needs.{needs}
+use Rattle.bench.proofs.values.worded.Statement.{statement}
+use Rattle.bench.proofs.values.worded.Tie as tie
+
+cast-i : tie.Need-cast-i
+cast-i c = search needs
+
+mul-to : tie.Need-mul-to
+mul-to c = search needs
+
+array-write-to : tie.Need-array-write-to
+array-write-to c = search needs
+
+returns : tie.Need-returns
+returns c = rw (le-ltb _ _ (c .if1 .taken))
+
+returns-2 : tie.Need-returns-2
+returns-2 c = rw (lt-ltb _ _ (c .if1 .left))
+
+pub worded-spec : {M : Type 1} → statement M
+worded-spec = tie.close (tie.spec cast-i mul-to array-write-to returns returns-2)

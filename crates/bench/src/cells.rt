@@ -1,0 +1,114 @@
+// Ops 21 and 22: a list with another cell, a channel with another number.
+ghost use mathlib.Core.Path.{_≡_};
+ghost use Prim.Native.Nat.{_%_};
+ghost use Rattle.bench.specs.Values.{at};
+ghost use Rattle.bench.specs.Cells.{outCell, inCell, outAt, inAt};
+use crate::values;
+use numbers::counters::Reliable;
+use numbers::counters::Unreliable;
+use parts::groups::Channel;
+use parts::groups::Lists;
+use slots::incoming::InList;
+use slots::outgoing::OutList;
+
+fn out_cell(which: u32, x: u16, l: OutList) -> OutList
+    ensures { λ r. ⌜ r ≡ outCell which x l ⌝ }
+{
+    let mut to = l;
+    if which == 0 {
+        to.len = x;
+        return to;
+    }
+    let i = ((which - 1) % 32) as usize;
+    to.slots[i] = x;
+    to
+}
+
+fn in_cell(which: u32, x: u16, l: InList) -> InList
+    ensures { λ r. ⌜ r ≡ inCell which x l ⌝ }
+{
+    let mut to = l;
+    if which == 0 {
+        to.len = x;
+        return to;
+    }
+    let i = ((which - 1) % 12) as usize;
+    to.slots[i] = x;
+    to
+}
+
+fn out_at(list: u32, k: u32, which: u32, x: u16, l: OutList) -> OutList
+    ensures { λ r. ⌜ r ≡ outAt list k which x l ⌝ }
+{
+    if list == k {
+        return out_cell(which, x, l);
+    }
+    l
+}
+
+fn in_at(list: u32, k: u32, which: u32, x: u16, l: InList) -> InList
+    ensures { λ r. ⌜ r ≡ inAt list k which x l ⌝ }
+{
+    if list == k {
+        return in_cell(which, x, l);
+    }
+    l
+}
+
+// "list (0 sent, 1 send-reliable, 2 outgoing, 3 dispatched"
+pub fn lists(list: u32, which: u32, x: u16, l: Lists) -> Lists
+    ensures { λ r. ⌜ r .sent ≡ outAt list 0 which x (l .sent) ⌝ }
+    ensures { λ r. ⌜ r .reliable ≡ outAt list 1 which x (l .reliable) ⌝ }
+    ensures { λ r. ⌜ r .outgoing ≡ outAt list 2 which x (l .outgoing) ⌝ }
+    ensures { λ r. ⌜ r .dispatched ≡ inAt list 3 which x (l .dispatched) ⌝ }
+{
+    let sent = out_at(list, 0, which, x, l.sent);
+    let reliable = out_at(list, 1, which, x, l.reliable);
+    let outgoing = out_at(list, 2, which, x, l.outgoing);
+    let dispatched = in_at(list, 3, which, x, l.dispatched);
+    Lists {
+        sent,
+        reliable,
+        outgoing,
+        dispatched,
+    }
+}
+
+// A channel's own list.
+pub fn held(which: u32, x: u16, c: Channel) -> Channel
+    ensures { λ r. ⌜ r .«outgoing_reliable» ≡ c .«outgoing_reliable» ⌝ }
+    ensures { λ r. ⌜ r .«outgoing_unreliable» ≡ c .«outgoing_unreliable» ⌝ }
+    ensures { λ r. ⌜ r .«incoming_reliable» ≡ c .«incoming_reliable» ⌝ }
+    ensures { λ r. ⌜ r .«incoming_unreliable» ≡ c .«incoming_unreliable» ⌝ }
+    ensures { λ r. ⌜ r .held ≡ inCell which x (c .held) ⌝ }
+{
+    let mut to = c;
+    to.held = in_cell(which, x, c.held);
+    to
+}
+
+// "which (0 to 3)": the numbers of a channel in the record's order.
+pub fn channel(which: u32, x: u32, c: Channel) -> Channel
+    ensures { λ r. ⌜ r .«outgoing_reliable» .0 ≡ at which 0 (x % 65536) (c .«outgoing_reliable» .0) ⌝ }
+    ensures { λ r. ⌜ r .«outgoing_unreliable» .0 ≡ at which 1 (x % 65536) (c .«outgoing_unreliable» .0) ⌝ }
+    ensures { λ r. ⌜ r .«incoming_reliable» .0 ≡ at which 2 (x % 65536) (c .«incoming_reliable» .0) ⌝ }
+    ensures { λ r. ⌜ r .«incoming_unreliable» .0 ≡ at which 3 (x % 65536) (c .«incoming_unreliable» .0) ⌝ }
+    ensures { λ r. ⌜ r .held ≡ c .held ⌝ }
+{
+    let a = c.outgoing_reliable;
+    let b = c.outgoing_unreliable;
+    let d = c.incoming_reliable;
+    let e = c.incoming_unreliable;
+    let held = c.held;
+    let outgoing_reliable = Reliable(values::short(which, 0, x, a.0));
+    let outgoing_unreliable = Unreliable(values::short(which, 1, x, b.0));
+    let incoming_reliable = Reliable(values::short(which, 2, x, d.0));
+    let incoming_unreliable = Unreliable(values::short(which, 3, x, e.0));
+    Channel {
+        outgoing_reliable,
+        outgoing_unreliable,
+        incoming_reliable,
+        incoming_unreliable,
+        held,
+    }
+}

@@ -1,0 +1,3 @@
+// Ops 20 to 22 of SCRIPT.md, on the groups of the record: "the bench's own: they make any record, sound or damaged, for the next call".
+pub mod cells;
+pub mod values;

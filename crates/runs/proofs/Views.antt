@@ -1,0 +1,28 @@
+-- What is left of a list from place k on, whatever its elements are: element k and what is left from the next place, or nothing.
+-- The argument: `drop-cons`, and the length of what is taken.
+use Prim.Native.Nat.{ℕ, _+_, _≤_, _<_}
+use mathlib.Core.Path.{_≡_}
+use mathlib.Core.List.{List, [], _∷_}
+use native.Mathlib.Numerals.{add-one}
+use native.Mathlib.Omega.{arith}
+use lib.ListN.{length, take, drop, getD, length-take, drop-of-length-le}
+use lib.Seq.{drop-cons, getD-take}
+
+module _ {A : Type 0} (xs : List A) (k : ℕ) where
+  pub rest-step : (d : A) → k < length xs → drop k xs ≡ getD xs k d ∷ drop (k + 1) xs
+  rest-step d h = rw (add-one, drop-cons xs k d)
+
+  pub rest-end : length xs ≤ k → drop k xs ≡ []
+  rest-end h = drop-of-length-le xs {i = k} h
+
+  -- of the first n
+  pub part-step : (n : ℕ) (d : A) → k < n → k < length xs → drop k (take n xs) ≡ getD xs k d ∷ drop (k + 1) (take n xs)
+  part-step n d p q =
+      let j : k < length (take n xs) = simp length-take (omega arith) in
+      rw (add-one, drop-cons (take n xs) k d, getD-take)
+
+  pub part-end : (n : ℕ) → n ≤ k → drop k (take n xs) ≡ []
+  part-end n h = drop-of-length-le (take n xs) {i = k} (simp length-take (omega arith))
+
+  pub part-out : (n : ℕ) → length xs ≤ k → drop k (take n xs) ≡ []
+  part-out n h = drop-of-length-le (take n xs) {i = k} (simp length-take (omega arith))
