@@ -1,6 +1,8 @@
 // Commands in frames, and ops 30 and 31: a command read from bytes, and one written to them, into a line that no contract speaks of.
 ghost use mathlib.Core.Path.{_≡_};
 ghost use mathlib.Core.List.{_∷_};
+ghost use lib.Dec.{ltb};
+ghost use Rattle.numbers.specs.Pick.{pick};
 ghost use Rattle.numbers.specs.Answers.{done};
 ghost use Rattle.command.specs.Rows.{kindOf, rowOf};
 ghost use Rattle.build.specs.Built.{answerOf};
@@ -8,7 +10,6 @@ ghost use Rattle.commands.specs.Commands.{rowAt, builtAt, isDone, orPing
 use build::Built;
 use command::fields::Command;
 use command::fields::Fields;
-use command::rows;
 use numbers::counters::Reliable;
 use script::record;
 use script::row::Row;
@@ -43,11 +44,17 @@ fn asked(input: &[u8], head: u8, tail: u8) -> [u32; 16]
     let mut row = [0u32; 16];
     let mut j = 0;
     while j < 16 {
-        let from = if j < 3 { head } else { tail };
-        row[j as usize] = frames::number(input, from, j);
+        row[j as usize] = frames::number(input, from(head, tail, j), j);
         j += 1;
     }
     row
+}
+
+// Number j of the row is so many places behind this one.
+fn from(head: u8, tail: u8, j: u8) -> u8
+    ensures { λ r. ⌜ r ≡ pick (ltb j 3) head tail ⌝ }
+{
+    if j < 3 { head } else { tail }
 }
 
 pub fn is_command(input: &[u8], head: u8, tail: u8) -> bool

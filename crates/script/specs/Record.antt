@@ -2,7 +2,6 @@
 use Prim.Native.Nat.{ℕ, _+_}
 use mathlib.Core.List.{List, [], _∷_, _++_}
 use Rattle.numbers.specs.Pick.{pick}
-use Rattle.command.specs.Rows.{rowOf}
 use Rattle.runs.specs.Runs.{has}
 use Rattle.slots.specs.Lists.{outItems, inItems}
 use Rattle.slots.specs.declared.outgoing.OutList.{OutList}
@@ -21,7 +20,6 @@ use Rattle.parts.specs.declared.groups.Lists.{Lists}
 use Rattle.parts.specs.declared.groups.Groups.{Groups}
 use Rattle.parts.specs.declared.groups.Waiting.{Waiting}
 use Rattle.parts.specs.declared.groups.Channel.{Channel}
-use Rattle.parts.specs.declared.groups.Outgoing.{Outgoing}
 use Rattle.parts.specs.declared.groups.Incoming.{Incoming}
 
 -- "43 numbers of `ENetPeer`": the first 17, and the other 26
@@ -63,12 +61,6 @@ channelRow c =
 unfoldable pub channelsRow : List Channel → List ℕ
 channelsRow [] = []
 channelsRow (c ∷ cs) = channelRow c ++ channelsRow cs
-
--- "then the command's fields in its struct's order"
-abbrev pub outgoingRow : Outgoing → List ℕ
-outgoingRow o =
-    o .reliable .0 ∷ o .unreliable .0 ∷ o .sent ∷ o .timeout ∷ o .queued ∷ o .offset ∷ o .length ∷ o .attempts
-    ∷ pick (o .packet) 1 0 ∷ rowOf (o .command)
 
 abbrev pub incomingRow : Incoming → List ℕ
 incomingRow i = i .byte ∷ i .channel ∷ i .number .0 ∷ i .fragments ∷ i .remaining ∷ i .length ∷ []

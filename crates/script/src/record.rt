@@ -5,6 +5,7 @@ ghost use Rattle.runs.specs.Runs.{has};
 ghost use Rattle.table.specs.Layout.{layout as widths};
 ghost use Rattle.command.specs.Rows.{rowOf};
 ghost use Rattle.slots.specs.Lists.{inItems};
+ghost use Rattle.parts.specs.Rows.{slotRow};
 ghost use Rattle.parts.specs.Damage.{below, usedOut, usedIn};
 ghost use Rattle.script.specs.Row.{told};
 ghost use Rattle.script.specs.Record.{
@@ -14,7 +15,6 @@ ghost use Rattle.script.specs.Record.{
   groupsRow,
   channelRow,
   channelsRow,
-  outgoingRow,
   incomingRow,
   usedRow,
 };
@@ -152,7 +152,7 @@ fn channel(row: Row, c: Channel) -> Row
 
 // Each used slot.
 pub fn outgoing(row: Row, pool: [Outgoing; OUTGOING], l: Lists) -> Row
-    ensures { λ r. ⌜ r ≡ told row (usedRow outgoingRow (usedOut l) 0 pool) ⌝ }
+    ensures { λ r. ⌜ r ≡ told row (usedRow slotRow (usedOut l) 0 pool) ⌝ }
 {
     let mut after = row;
     let mut i = 0;
@@ -182,7 +182,7 @@ fn is_waiting(l: Lists, s: u16) -> bool
 }
 
 pub fn outgoing_slot(row: Row, s: Outgoing) -> Row
-    ensures { λ r. ⌜ r ≡ told row (outgoingRow s) ⌝ }
+    ensures { λ r. ⌜ r ≡ told row (slotRow s) ⌝ }
 {
     let a = s.reliable;
     let b = s.unreliable;

@@ -8,13 +8,14 @@ use borrow.Author.Needs.{needs}
 use Rattle.parts.specs.Fresh.{noOutgoing}
 use Rattle.parts.specs.Damage.{usedOut}
 use Rattle.script.specs.Row.{told}
-use Rattle.script.specs.Record.{usedRow, outgoingRow}
+use Rattle.parts.specs.Rows.{slotRow}
+use Rattle.script.specs.Record.{usedRow}
 use Rattle.script.proofs.Laws.{used-hit, used-miss, used-end}
 use Rattle.script.proofs.record.outgoing.Statement.{statement}
 use Rattle.script.proofs.record.outgoing.Tie as tie
 
 abbrev Inv-loop : tie.InvT-loop
-Inv-loop l pool after₀ i₀ after i = (i ≤ 32) × (told after₀ (usedRow outgoingRow (usedOut l) 0 pool) ≡ told after (usedRow outgoingRow (usedOut l) i (drop i pool)))
+Inv-loop l pool after₀ i₀ after i = (i ≤ 32) × (told after₀ (usedRow slotRow (usedOut l) 0 pool) ≡ told after (usedRow slotRow (usedOut l) i (drop i pool)))
 
 abbrev μ-loop : tie.MeasureT-loop
 μ-loop l pool after₀ i₀ after i = 32 - i
@@ -55,8 +56,8 @@ loop-again c =
     let h : i < length (a .t2) = omega arith in
     let v = sym (c .before .is-waiting .ensures) in
     ⊎-elim
-    (λ w. (omega arith, m .loop .inv .1 ∙ used-hit outgoingRow used r (c .if1 .after) (a .t2) i noOutgoing h (v ∙ w .0 .taken) (w .3 ∙ w .2 .ensures)))
-    (λ w. (omega arith, m .loop .inv .1 ∙ used-miss outgoingRow used r (c .if1 .after) (a .t2) i noOutgoing h (v ∙ w .0 .left) (w .1)))
+    (λ w. (omega arith, m .loop .inv .1 ∙ used-hit slotRow used r (c .if1 .after) (a .t2) i noOutgoing h (v ∙ w .0 .taken) (w .3 ∙ w .2 .ensures)))
+    (λ w. (omega arith, m .loop .inv .1 ∙ used-miss slotRow used r (c .if1 .after) (a .t2) i noOutgoing h (v ∙ w .0 .left) (w .1)))
     (c .if1 .came)
 
 returns : tie.Need-returns Inv-loop μ-loop
@@ -64,7 +65,7 @@ returns c =
     let m = c .before in
     let a = m .before .args in
     let e : length (a .t2) ≡ 32 = search needs in
-    sym (m .loop .inv .1 ∙ used-end outgoingRow (usedOut (a .l)) (m .loop .after) (a .t2) (m .loop .i) (omega arith))
+    sym (m .loop .inv .1 ∙ used-end slotRow (usedOut (a .l)) (m .loop .after) (a .t2) (m .loop .i) (omega arith))
 
 pub outgoing-spec : {M : Type 1} → statement M
 outgoing-spec =
