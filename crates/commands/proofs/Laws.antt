@@ -16,7 +16,7 @@ use Rattle.table.specs.Bytes.{fits}
 use Rattle.table.proofs.LayoutLaws.{not-known}
 use Rattle.build.specs.Built.{builtFrom}
 use Rattle.build.proofs.ShapeLaws.{built-none}
-use Rattle.frames.specs.Frames.{numberAt}
+use Rattle.script.specs.Frames.{numberAt}
 use Rattle.commands.specs.Commands.{placeOf, rowFrom, rowAt, builtAt}
 
 -- the turn and the end of the loop that fills the row

@@ -7,7 +7,7 @@ use lib.Dec.{ltb, eqb}
 use Rattle.numbers.specs.Pick.{pick}
 use Rattle.numbers.specs.Answers.{Answer, done}
 use Rattle.build.specs.Built.{builtFrom}
-use Rattle.frames.specs.Frames.{numberAt}
+use Rattle.script.specs.Frames.{numberAt}
 
 -- number j of the row
 abbrev pub placeOf : ℕ → ℕ → ℕ → ℕ

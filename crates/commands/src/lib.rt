@@ -11,7 +11,8 @@ use build::Built;
 use command::fields::Command;
 use command::fields::Fields;
 use numbers::counters::Reliable;
-use script::record;
+use script::frames;
+use script::line;
 use script::row::Row;
 use wire::reader;
 use wire::reader::Reading;
@@ -87,18 +88,18 @@ pub fn command(input: &[u8], head: u8, tail: u8) -> Command
 pub fn read(bytes: &[u8], place: u32) {
     match reader::read(bytes, place as usize) {
         Reading::Found { command, next } => found(command, next),
-        Reading::Refused => script::line::value(REFUSED),
+        Reading::Refused => line::value(REFUSED),
     }
 }
 
 // The next place, then the command's numbers.
 fn found(c: Command, next: usize) {
-    script::line::pair(0, (next % 65536) as u32);
+    line::pair(0, (next % 65536) as u32);
     let row = Row {
         hash: 0,
         is_shown: true,
     };
-    record::command(row, c);
+    rows::command(row, c);
 }
 
 pub fn write(input: &[u8], room: u32) {
@@ -106,16 +107,16 @@ pub fn write(input: &[u8], room: u32) {
     let n = (room % 65) as usize;
     match writer::write(&mut buffer[0..n], 0, command(input, 0, 2)) {
         Writing::Done(end) => listed(&buffer, end),
-        Writing::Refused => script::line::value(REFUSED),
+        Writing::Refused => line::value(REFUSED),
     }
 }
 
 // Each byte written.
 fn listed(buffer: &[u8; 64], end: usize) {
-    script::line::value(0);
+    line::value(0);
     let mut i = 0;
     while i < 64 && i < end {
-        script::line::value(wide(buffer[i]));
+        line::value(wide(buffer[i]));
         i += 1;
     }
 }

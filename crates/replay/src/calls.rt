@@ -1,15 +1,17 @@
 // Ops 1 to 6: the calls that reply done or refused.
-use frames::Frame;
 use peer::calls::Called;
 use peer::calls::Reply;
 use peer::record::Peer;
 use peer::settings::Settings;
+use script::frames;
+use script::frames::Frame;
+use script::line;
 use stamps::pieces::Piece;
 
 // The reply goes into the line, the record on.
 pub(crate) fn told(called: Called) -> Peer {
     let reply = called.reply;
-    script::line::value(number(reply));
+    line::value(number(reply));
     called.peer
 }
 

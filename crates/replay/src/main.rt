@@ -7,20 +7,22 @@ mod settings;
 mod steps;
 mod store;
 
-use frames::Frame;
 use peer::record::Peer;
 use peer::settings::Settings;
+use script::frames;
+use script::frames::Frame;
+use script::line;
 
 // What the ops that do not stand on the record write.
 fn told(f: Frame, input: &[u8], store: &[u8]) {
     let op = f.op;
     match op {
-        16 => script::line::value(store::hash(store, f.n0, f.n1)),
+        16 => line::value(store::hash(store, f.n0, f.n1)),
         30 => commands::read(frames::bytes(input), f.n0),
         31 => commands::write(input, f.n4),
-        32 => script::line::value(numbers::clock::distance(f.n0, f.n1)),
-        fits::BAD => script::line::word(b" bad"),
-        fits::UNKNOWN => script::line::word(b" unknown"),
+        32 => line::value(numbers::clock::distance(f.n0, f.n1)),
+        fits::BAD => line::word(b" bad"),
+        fits::UNKNOWN => line::word(b" unknown"),
         _ => (),
     }
 }
@@ -28,7 +30,7 @@ fn told(f: Frame, input: &[u8], store: &[u8]) {
 // The frame at hand, its op judged.
 fn asked(input: &[u8], store: &[u8]) -> Frame {
     let mut f = frames::taken(input);
-    script::line::begin(f.op);
+    line::begin(f.op);
     let op = fits::op(f, input);
     f.op = op;
     told(f, input, store);
@@ -60,7 +62,7 @@ fn play(input: &mut [u8], store: &[u8]) {
         let f = asked(input, store);
         bench = settings::set(f, bench);
         peer = changed(f, input, bench.settings, peer);
-        script::line::end(f.op, record::hash(f.op == 15, peer));
+        line::end(f.op, record::hash(f.op == 15, peer));
     }
 }
 

@@ -1,7 +1,6 @@
 // Ops 20 to 24: the bench's own changes of the record, sound or not. The frame was seen to fit.
 use bench::cells;
 use bench::values;
-use frames::Frame;
 use numbers::counters::Reliable;
 use numbers::counters::Unreliable;
 use parts::groups::Channel;
@@ -9,6 +8,8 @@ use parts::groups::Incoming;
 use parts::groups::Lists;
 use parts::groups::Outgoing;
 use peer::record::Peer;
+use script::frames;
+use script::frames::Frame;
 
 // Op 20: each group, which changes where the number is its own.
 pub(crate) fn number(which: u32, x: u32, mut p: Peer) -> Peer {

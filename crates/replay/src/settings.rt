@@ -1,8 +1,8 @@
 // Op 0: the settings for the calls that follow.
-use frames::Frame;
 use peer::defaults::Kept;
 use peer::record::Peer;
 use peer::settings::Settings;
+use script::frames::Frame;
 
 // The store's length; a larger one does not fit.
 pub const STORE: u32 = 49152;

@@ -1,7 +1,7 @@
 // Op 7: the send step.
 use parts::groups::Outgoing;
 use peer::record::Peer;
-use script::record;
+use script::line;
 use script::row::Row;
 use sendstep::calls::Reply;
 use sendstep::calls::Stepped;
@@ -25,17 +25,17 @@ pub(crate) fn queue(list: u32) -> Queue {
 // The reply's number, then 0 for nothing to send, or 1 and the head's numbers.
 fn tell(reply: Reply) {
     match reply {
-        Reply::Refused(why) => script::line::value(why.number()),
-        Reply::Nothing => script::line::pair(0, 0),
+        Reply::Refused(why) => line::value(why.number()),
+        Reply::Nothing => line::pair(0, 0),
         Reply::Head(o) => head(o),
     }
 }
 
 fn head(o: Outgoing) {
-    script::line::pair(0, 1);
+    line::pair(0, 1);
     let row = Row {
         hash: 0,
         is_shown: true,
     };
-    record::outgoing_slot(row, o);
+    rows::outgoing_slot(row, o);
 }

@@ -1,11 +1,12 @@
 // Op 16: the hash of so many bytes of the store, cut at its end.
+use script::row;
 
 pub(crate) fn hash(store: &[u8], first: u32, count: u32) -> u32 {
     let mut hash = 0;
     let mut left = count;
     let mut i = first as usize;
     while 0 < left && i < store.len() {
-        hash = script::row::mixed(hash, wide(store[i]));
+        hash = row::mixed(hash, wide(store[i]));
         left -= 1;
         i += 1;
     }

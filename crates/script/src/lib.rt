@@ -1,4 +1,4 @@
-// What a script's line says (SCRIPT.md): the record's row of numbers, in document 01's order, into a hash and, where asked, the line.
+// The format of a script (SCRIPT.md): its frames, its lines, and the hash of a row of numbers.
+pub mod frames;
 pub mod line;
-pub mod record;
 pub mod row;

@@ -3,10 +3,7 @@ ghost use mathlib.Core.Path.{_≡_};
 ghost use mathlib.Core.List.{[], _∷_};
 ghost use lib.ListN.{take};
 ghost use Rattle.script.specs.Row.{mixed as mix, told};
-ghost use Rattle.script.specs.Record.{outRow, inRow};
 use crate::line;
-use slots::incoming::InList;
-use slots::outgoing::OutList;
 
 pub struct Row {
     pub hash: u32,
@@ -38,22 +35,8 @@ pub fn put_all(row: Row, numbers: &[u32]) -> Row
     after
 }
 
-// A list: its length as it is, then its slots, never more than its pool has.
-pub fn put_out(row: Row, l: OutList) -> Row
-    ensures { λ r. ⌜ r ≡ told row (outRow l) ⌝ }
-{
-    let slots = l.slots;
-    put_slots(put(row, l.len as u32), &slots, l.len as usize)
-}
-
-pub fn put_in(row: Row, l: InList) -> Row
-    ensures { λ r. ⌜ r ≡ told row (inRow l) ⌝ }
-{
-    let slots = l.slots;
-    put_slots(put(row, l.len as u32), &slots, l.len as usize)
-}
-
-fn put_slots(row: Row, slots: &[u16], n: usize) -> Row
+// The first n of them, or all.
+pub fn put_slots(row: Row, slots: &[u16], n: usize) -> Row
     ensures { λ r. ⌜ r ≡ told row (take n (now (slots .entry))) ⌝ }
 {
     let mut after = row;

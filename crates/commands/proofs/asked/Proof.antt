@@ -5,7 +5,7 @@ use mathlib.Core.List.{_++_}
 use native.Mathlib.Omega.{arith}
 use lib.ListN.{length, take, length-set}
 use denote.Ref.{now}
-use Rattle.frames.specs.Frames.{numberAt}
+use Rattle.script.specs.Frames.{numberAt}
 use Rattle.commands.specs.Commands.{placeOf, rowFrom, rowAt}
 use Rattle.commands.proofs.Laws.{row-turn, row-end}
 use borrow.Author.Needs.{needs}
