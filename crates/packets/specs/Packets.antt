@@ -9,11 +9,12 @@ use lib.ListN.{take}
 use Rattle.numbers.specs.Pick.{pick, both}
 use Rattle.numbers.specs.Bits.{bit}
 use Rattle.numbers.specs.Counters.{step}
+use Rattle.numbers.specs.declared.counters.Reliable.{Reliable}
+use Rattle.numbers.specs.declared.counters.Unreliable.{Unreliable}
 use Rattle.command.specs.declared.fields.Command.{Command}
 use Rattle.command.specs.declared.fields.Fragment.{Fragment}
 use Rattle.command.specs.declared.fields.Fields.{Fields}
 use Rattle.command.specs.declared.fields.Fields.the-variants.{SendReliable, SendUnreliable, SendFragment, SendUnsequenced, SendUnreliableFragment}
-use Rattle.parts.specs.declared.groups.Channel.{Channel}
 use Rattle.stamps.specs.declared.pieces.Piece.{Piece}
 use Rattle.packets.specs.declared.Start.{Start}
 use Rattle.packets.specs.declared.Start.the-variants as start
@@ -35,9 +36,16 @@ unsequencedByte = 9 + 64
 abbrev pub unreliableFragmentByte : ℕ
 unreliableFragmentByte = 12
 
+-- the datagram's header, 4 bytes, and a fragment command's 24
+abbrev pub overhead : ℕ
+overhead = 28
+
+abbrev pub checksumSize : ℕ
+checksumSize = 4
+
 -- "Fragment length is MTU - 28, less 4 with a checksum; longer is cut."
 abbrev pub fragmentLength : ℕ → Bool → ℕ
-fragmentLength mtu checksum = mtu - 28 - pick checksum 4 0
+fragmentLength mtu checksum = mtu - overhead - pick checksum checksumSize 0
 
 -- as many whole fragments as fit, and one for the rest
 abbrev pub pieceCount : ℕ → ℕ → ℕ
@@ -52,31 +60,35 @@ isUnsequenced flags = bit flags 1
 abbrev pub isFragment : ℕ → Bool
 isFragment flags = bit flags 3
 
+-- the last number before a counter turns over
+abbrev pub lastNumber : ℕ
+lastNumber = 65535
+
 -- the unreliable number has nowhere to go on to
-abbrev pub spent : Channel → Bool
-spent c = leb 65535 (c .«outgoing_unreliable» .0)
+abbrev pub spent : Unreliable → Bool
+spent u = leb lastNumber (u .0)
 
 -- a command before it is set up, which gives it its numbers
 abbrev pub blank : ℕ → ℕ → Fields → Command
 blank byte channel fields = record { byte = byte; channel = channel; number = record { 0 = 0 }; fields = fields }
 
 -- a packet that is not cut: flag 2 without flag 1 is unsequenced; then flag 1, or a spent number, reliable; the rest unreliable
-abbrev pub wholeCommand : ℕ → Channel → ℕ → ℕ → Command
-wholeCommand flags c channel length =
+abbrev pub wholeCommand : ℕ → Unreliable → ℕ → ℕ → Command
+wholeCommand flags u channel length =
     pick (both (isUnsequenced flags) (not (isReliable flags))) (blank unsequencedByte channel (SendUnsequenced (record { 0 = 0 }) length))
-    (pick (pick (isReliable flags) true (spent c)) (blank reliableByte channel (SendReliable length))
+    (pick (pick (isReliable flags) true (spent u)) (blank reliableByte channel (SendReliable length))
     (blank unreliableByte channel (SendUnreliable (record { 0 = 0 }) length)))
 
-abbrev pub whole : ℕ → Channel → ℕ → ℕ → Piece
-whole flags c channel length = record { command = wholeCommand flags c channel length; packet = true; offset = 0; length = length }
+abbrev pub whole : ℕ → Unreliable → ℕ → ℕ → Piece
+whole flags u channel length = record { command = wholeCommand flags u channel length; packet = true; offset = 0; length = length }
 
 -- a packet that is cut: flag 8 without flag 1 counts by the unreliable number, unless it is spent; else by the reliable one.
 -- The number after the channel's, taken once, before any piece.
-abbrev pub startOf : ℕ → Channel → Start
-startOf flags c =
-    pick (both (isFragment flags) (both (not (isReliable flags)) (not (spent c))))
-    (start.Unreliable (record { 0 = step (c .«outgoing_unreliable» .0) }))
-    (start.Reliable (record { 0 = step (c .«outgoing_reliable» .0) }))
+abbrev pub startOf : ℕ → Reliable → Unreliable → Start
+startOf flags r u =
+    pick (both (isFragment flags) (both (not (isReliable flags)) (not (spent u))))
+    (start.Unreliable (record { 0 = step (u .0) }))
+    (start.Reliable (record { 0 = step (r .0) }))
 
 -- a packet cut by its start and the fragment length
 abbrev pub cutBy : Start → ℕ → ℕ → ℕ → Cut

@@ -11,7 +11,6 @@ use numbers::bits;
 use numbers::counters::Group;
 use numbers::counters::Reliable;
 use numbers::counters::Unreliable;
-use parts::groups::Channel;
 use stamps::pieces::Piece;
 
 // 128 asks for acknowledgement, 64 says unsequenced.
@@ -33,6 +32,11 @@ const SEND_UNRELIABLE_FRAGMENT: u8 = 12;
 // The last number before a counter turns over.
 const LAST: u16 = 65535;
 
+// The datagram's header, 4 bytes, and a fragment command's 24.
+const OVERHEAD: u32 = 28;
+
+const CHECKSUM: u32 = 4;
+
 // The number that a cut packet begins with, of the kind that its pieces count by.
 pub enum Start {
     Reliable(Reliable),
@@ -53,9 +57,9 @@ pub fn fragment_length(mtu: u32, checksum: bool) -> u32
     ensures { λ r. ⌜ r ≡ fragmentLength mtu checksum ⌝ }
 {
     if checksum {
-        return minus(minus(mtu, 28), 4);
+        return minus(minus(mtu, OVERHEAD), CHECKSUM);
     }
-    minus(mtu, 28)
+    minus(mtu, OVERHEAD)
 }
 
 fn minus(a: u32, b: u32) -> u32
@@ -68,10 +72,9 @@ fn minus(a: u32, b: u32) -> u32
 }
 
 // A cut packet: flag 8 without flag 1 goes unreliable while that number is below 65,535. Flag 2 is not asked.
-pub fn starting(flags: u32, c: Channel) -> Start
-    ensures { λ r. ⌜ r ≡ startOf flags c ⌝ }
+pub fn starting(flags: u32, reliable: Reliable, unreliable: Unreliable) -> Start
+    ensures { λ r. ⌜ r ≡ startOf flags reliable unreliable ⌝ }
 {
-    let unreliable = c.outgoing_unreliable;
     if bits::is_set(flags, 3) {
         if !bits::is_set(flags, 0) {
             if unreliable.0 < LAST {
@@ -79,7 +82,6 @@ pub fn starting(flags: u32, c: Channel) -> Start
             }
         }
     }
-    let reliable = c.outgoing_reliable;
     Start::Reliable(reliable.next())
 }
 
@@ -94,8 +96,8 @@ fn unsequenced(flags: u32) -> bool
 }
 
 // A packet that is not cut: flag 2 without flag 1, then flag 1 or a spent unreliable number, then the rest.
-fn whole_command(flags: u32, c: Channel, channel: u8, length: u16) -> Command
-    ensures { λ r. ⌜ r ≡ wholeCommand flags c channel length ⌝ }
+fn whole_command(flags: u32, unreliable: Unreliable, channel: u8, length: u16) -> Command
+    ensures { λ r. ⌜ r ≡ wholeCommand flags unreliable channel length ⌝ }
 {
     if unsequenced(flags) {
         return blank(
@@ -110,7 +112,6 @@ fn whole_command(flags: u32, c: Channel, channel: u8, length: u16) -> Command
     if bits::is_set(flags, 0) {
         return blank(SEND_RELIABLE, channel, Fields::SendReliable { length });
     }
-    let unreliable = c.outgoing_unreliable;
     if LAST <= unreliable.0 {
         return blank(SEND_RELIABLE, channel, Fields::SendReliable { length });
     }
@@ -137,10 +138,10 @@ fn blank(byte: u8, channel: u8, fields: Fields) -> Command
 }
 
 // The one piece of a packet that is not cut.
-pub fn whole(flags: u32, c: Channel, channel: u8, length: u16) -> Piece
-    ensures { λ r. ⌜ r ≡ whole flags c channel length ⌝ }
+pub fn whole(flags: u32, unreliable: Unreliable, channel: u8, length: u16) -> Piece
+    ensures { λ r. ⌜ r ≡ whole flags unreliable channel length ⌝ }
 {
-    let command = whole_command(flags, c, channel, length);
+    let command = whole_command(flags, unreliable, channel, length);
     Piece {
         command,
         packet: true,

@@ -1,11 +1,13 @@
 -- A group of the record with another number in it, or another list: what is not named stays as it is.
 use Prim.Native.Nat.{ℕ}
+use mathlib.Core.List.{List}
 use Rattle.numbers.specs.declared.counters.Reliable.{Reliable}
 use Rattle.numbers.specs.declared.counters.Unreliable.{Unreliable}
 use Rattle.numbers.specs.declared.counters.Group.{Group}
-use Rattle.slots.specs.Lists.{outgoing, outItems, outKeep}
+use Rattle.slots.specs.Lists.{outgoing, incoming, outItems, outKeep, inItems, inKeep}
 use Rattle.runs.specs.Runs.{pushed, without}
 use Rattle.slots.specs.declared.outgoing.OutList.{OutList}
+use Rattle.slots.specs.declared.incoming.InList.{InList}
 use Rattle.parts.specs.declared.groups.Standing.{Standing}
 use Rattle.parts.specs.declared.groups.Totals.{Totals}
 use Rattle.parts.specs.declared.groups.Times.{Times}
@@ -60,6 +62,20 @@ abbrev pub withOutgoingGroup : Groups → Group → Groups
 withOutgoingGroup g x =
     record { flags = g .flags; reserved = g .reserved; incoming = g .incoming; outgoing = x; words = g .words }
 
+-- the base and the words of the unsequenced window
+abbrev pub withWindow : Groups → Group → List ℕ → Groups
+withWindow g base words =
+    record { flags = g .flags; reserved = g .reserved; incoming = base; outgoing = g .outgoing; words = words }
+
+abbrev pub withFlags : Groups → ℕ → Groups
+withFlags g x = record { flags = x; reserved = g .reserved; incoming = g .incoming; outgoing = g .outgoing; words = g .words }
+
+abbrev pub withDispatched : Lists → InList → Lists
+withDispatched l x = record { sent = l .sent; reliable = l .reliable; outgoing = l .outgoing; dispatched = x }
+
+abbrev pub withTotal : Waiting → ℕ → Waiting
+withTotal w x = record { event = w .event; total = x; queued = w .queued }
+
 abbrev pub withQueued : Waiting → ℕ → Waiting
 withQueued w x = record { event = w .event; total = w .total; queued = x }
 
@@ -72,6 +88,27 @@ withNumbers c r u =
       «incoming_reliable» = c .«incoming_reliable»;
       «incoming_unreliable» = c .«incoming_unreliable»;
       held = c .held;
+    }
+
+-- its two incoming numbers
+abbrev pub withLast : Channel → Reliable → Unreliable → Channel
+withLast c r u =
+    record {
+      «outgoing_reliable» = c .«outgoing_reliable»;
+      «outgoing_unreliable» = c .«outgoing_unreliable»;
+      «incoming_reliable» = r;
+      «incoming_unreliable» = u;
+      held = c .held;
+    }
+
+abbrev pub withHeld : Channel → InList → Channel
+withHeld c x =
+    record {
+      «outgoing_reliable» = c .«outgoing_reliable»;
+      «outgoing_unreliable» = c .«outgoing_unreliable»;
+      «incoming_reliable» = c .«incoming_reliable»;
+      «incoming_unreliable» = c .«incoming_unreliable»;
+      held = x;
     }
 
 -- a slot's sent time, timeout and attempts
@@ -96,3 +133,10 @@ longer l s = outKeep l (pushed outgoing (outItems l) s)
 
 abbrev pub shorter : OutList → OutList
 shorter l = outKeep l (without (outItems l) 0)
+
+-- and of the incoming pool
+abbrev pub inLonger : InList → ℕ → InList
+inLonger l s = inKeep l (pushed incoming (inItems l) s)
+
+abbrev pub inShorter : InList → InList
+inShorter l = inKeep l (without (inItems l) 0)

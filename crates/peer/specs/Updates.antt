@@ -1,4 +1,4 @@
--- The record with another group: what a call does not name stays as it is. A group that joins the record is added in `renewed`.
+-- The record with another group: what a call does not name stays as it is. A group that joins the record is added in `remade`.
 use mathlib.Core.List.{List}
 use Rattle.parts.specs.declared.groups.Standing.{Standing}
 use Rattle.parts.specs.declared.groups.Totals.{Totals}
@@ -10,11 +10,12 @@ use Rattle.parts.specs.declared.groups.Groups.{Groups}
 use Rattle.parts.specs.declared.groups.Waiting.{Waiting}
 use Rattle.parts.specs.declared.groups.Channel.{Channel}
 use Rattle.parts.specs.declared.groups.Outgoing.{Outgoing}
+use Rattle.parts.specs.declared.groups.Incoming.{Incoming}
 use Rattle.peer.specs.declared.record.Peer.{Peer}
 
 -- all the groups that a call may change
-abbrev pub renewed : Peer → Standing → Totals → Times → Loss → Flow → Lists → Groups → Waiting → List Channel → List Outgoing → Peer
-renewed p standing totals times loss flow lists groups waiting channels outgoing =
+abbrev pub remade : Peer → Standing → Totals → Times → Loss → Flow → Lists → Groups → Waiting → List Channel → List Outgoing → List Incoming → Peer
+remade p standing totals times loss flow lists groups waiting channels outgoing incoming =
     record {
       ids = p .ids;
       standing = standing;
@@ -31,8 +32,13 @@ renewed p standing totals times loss flow lists groups waiting channels outgoing
       waiting = waiting;
       channels = channels;
       outgoing = outgoing;
-      incoming = p .incoming;
+      incoming = incoming;
     }
+
+-- all but the incoming slots
+abbrev pub renewed : Peer → Standing → Totals → Times → Loss → Flow → Lists → Groups → Waiting → List Channel → List Outgoing → Peer
+renewed p standing totals times loss flow lists groups waiting channels outgoing =
+    remade p standing totals times loss flow lists groups waiting channels outgoing (p .incoming)
 
 -- one of them
 abbrev pub withStanding : Peer → Standing → Peer
@@ -64,3 +70,8 @@ withChannels p x = renewed p (p .standing) (p .totals) (p .times) (p .loss) (p .
 
 abbrev pub withOutgoing : Peer → List Outgoing → Peer
 withOutgoing p x = renewed p (p .standing) (p .totals) (p .times) (p .loss) (p .flow) (p .lists) (p .groups) (p .waiting) (p .channels) x
+
+-- the groups that an arrival may change
+abbrev pub withArrival : Peer → Lists → Groups → Waiting → List Channel → List Incoming → Peer
+withArrival p lists groups waiting channels incoming =
+    remade p (p .standing) (p .totals) (p .times) (p .loss) (p .flow) lists groups waiting channels (p .outgoing) incoming

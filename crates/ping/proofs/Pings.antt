@@ -20,7 +20,7 @@ use Rattle.setup.proofs.Stored.{open-room}
 use Rattle.ping.specs.Calls.{pingGate}
 
 pub ping-gate : (p : Peer) (o : Outbox)
-    → o ≡ outboxOf (p .totals) (p .waiting) (p .flow) (p .groups) (p .channels) itself (p .lists) → (free : ℕ) → free ≡ freeIn o
+    → o ≡ outboxOf (p .totals) (p .waiting) (p .flow) (p .groups) (p .channels) itself (p .lists) → (free : ℕ) → free ≡ freeIn (o .marks)
     → (may : Gate) → may ≡ pingGate (p .standing) free → may ≡ pingGate (p .standing) (room p)
 ping-gate p o oe free fe may me = me ∙ ap (pingGate (p .standing)) (fe ∙ open-room p itself o oe)
 

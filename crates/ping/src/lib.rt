@@ -82,7 +82,8 @@ pub fn ping(peer: Peer, settings: Settings) -> Called
         ITSELF,
         lists,
     );
-    let may = may_ping(p.standing, outbox::room(o));
+    let marks = o.marks;
+    let may = may_ping(p.standing, outbox::room(marks));
     if let Gate::Shut(why) = may {
         return Called {
             peer: p,

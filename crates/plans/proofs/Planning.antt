@@ -3,18 +3,18 @@
 -- first at each turn, whether it is one command or pieces.
 use Prim.Native.Nat.{ℕ, suc, _+_, _-_, _≤_, _<_}
 use mathlib.Core.Path.{_≡_, refl, ap, sym, _∙_}
-use mathlib.Core.List.{List, [], _∷_}
+use mathlib.Core.List.{[], _∷_}
 use native.Mathlib.Omega.{arith}
 use native.Mathlib.Nat.{sub-zero}
 use lib.ListN.{length}
+use Rattle.numbers.specs.declared.counters.Reliable.{Reliable}
+use Rattle.numbers.specs.declared.counters.Unreliable.{Unreliable}
 use Rattle.numbers.specs.declared.refusals.Refusal.{Refusal}
 use Rattle.parts.specs.declared.groups.Standing.{Standing}
-use Rattle.parts.specs.declared.groups.Channel.{Channel}
 use Rattle.peer.specs.Gate.{then}
 use Rattle.peer.specs.declared.settings.Settings.{Settings}
 use Rattle.peer.specs.declared.gate.Gate.{Gate}
 use Rattle.peer.specs.declared.gate.Gate.the-variants.{Open, Shut}
-use Rattle.stamps.specs.Counting.{channelAt}
 use Rattle.packets.specs.Packets.{cutFrom, pieces}
 use Rattle.plans.specs.Refusals.{sendGate, queueGate}
 use Rattle.plans.specs.Plans.{packetOf, piecesOf, countOf, leftOf, pieceAt, nextAt, planBy, planOf}
@@ -24,14 +24,14 @@ use Rattle.plans.specs.declared.Plan.{Plan}
 use Rattle.plans.specs.declared.Plan.the-variants.{Refused, Queue}
 use Rattle.packets.proofs.Cuts.{cut-length}
 
-module _ (s : Settings) (standing : Standing) (fragment : ℕ) (cs : List Channel) (free channel n flags : ℕ) where
+module _ (s : Settings) (standing : Standing) (fragment : ℕ) (r : Reliable) (u : Unreliable) (free channel n flags : ℕ) where
   abbrev packet : Packet
-  packet = packetOf flags (channelAt cs channel) channel n fragment
+  packet = packetOf flags r u channel n fragment
 
   abbrev plan : Gate → Gate → Plan
   plan g h = planBy (then g h) packet
 
-  pub plan-first : (why : Refusal) → sendGate s channel n standing ≡ Shut why → Refused why ≡ planOf s standing fragment cs free channel n flags
+  pub plan-first : (why : Refusal) → sendGate s channel n standing ≡ Shut why → Refused why ≡ planOf s standing fragment r u free channel n flags
   plan-first why e = ap (λ (g : Gate). plan g (queueGate (countOf packet) free)) (sym e)
 
   -- x and count are what the code answered
@@ -40,10 +40,10 @@ module _ (s : Settings) (standing : Standing) (fragment : ℕ) (cs : List Channe
     then-is : g ≡ then (sendGate s channel n standing) (queueGate (countOf packet) free)
     then-is = ge ∙ rw (e, ce, xe)
 
-    pub plan-last : (why : Refusal) → g ≡ Shut why → Refused why ≡ planOf s standing fragment cs free channel n flags
+    pub plan-last : (why : Refusal) → g ≡ Shut why → Refused why ≡ planOf s standing fragment r u free channel n flags
     plan-last why q = ap (λ (h : Gate). planBy h packet) (sym q ∙ then-is)
 
-    pub plan-all : g ≡ Open → Queue x ≡ planOf s standing fragment cs free channel n flags
+    pub plan-all : g ≡ Open → Queue x ≡ planOf s standing fragment r u free channel n flags
     plan-all q = ap Queue xe ∙ ap (λ (h : Gate). planBy h packet) (sym q ∙ then-is)
 
 -- ---- the commands of a packet

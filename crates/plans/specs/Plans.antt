@@ -4,13 +4,13 @@ use mathlib.Core.List.{List, [], _∷_}
 use lib.Dec.{leb}
 use lib.ListN.{replicate}
 use Rattle.numbers.specs.Pick.{pick}
+use Rattle.numbers.specs.declared.counters.Reliable.{Reliable}
+use Rattle.numbers.specs.declared.counters.Unreliable.{Unreliable}
 use Rattle.parts.specs.declared.groups.Standing.{Standing}
-use Rattle.parts.specs.declared.groups.Channel.{Channel}
 use Rattle.peer.specs.Gate.{then}
 use Rattle.peer.specs.declared.settings.Settings.{Settings}
 use Rattle.peer.specs.declared.gate.Gate.{Gate}
 use Rattle.peer.specs.declared.gate.Gate.the-variants.{Open, Shut}
-use Rattle.stamps.specs.Counting.{channelAt}
 use Rattle.stamps.specs.declared.pieces.Piece.{Piece}
 use Rattle.packets.specs.Packets.{whole, startOf, cutBy, lengthAt, cutPiece, cutFrom, pieces}
 use Rattle.plans.specs.Refusals.{sendGate, queueGate}
@@ -19,9 +19,10 @@ use Rattle.plans.specs.declared.Packet.the-variants.{One, Pieces}
 use Rattle.plans.specs.declared.Plan.{Plan}
 use Rattle.plans.specs.declared.Plan.the-variants.{Refused, Queue}
 
-abbrev pub packetOf : ℕ → Channel → ℕ → ℕ → ℕ → Packet
-packetOf flags c channel length fragment =
-    pick (leb length fragment) (One (whole flags c channel length)) (Pieces (cutBy (startOf flags c) channel length fragment))
+-- by a channel's two outgoing numbers
+abbrev pub packetOf : ℕ → Reliable → Unreliable → ℕ → ℕ → ℕ → Packet
+packetOf flags r u channel length fragment =
+    pick (leb length fragment) (One (whole flags u channel length)) (Pieces (cutBy (startOf flags r u) channel length fragment))
 
 abbrev pub piecesOf : Packet → List Piece
 piecesOf (One x) = x ∷ []
@@ -48,7 +49,7 @@ abbrev pub planBy : Gate → Packet → Plan
 planBy Open packet = Queue packet
 planBy (Shut why) packet = Refused why
 
-abbrev pub planOf : Settings → Standing → ℕ → List Channel → ℕ → ℕ → ℕ → ℕ → Plan
-planOf s standing fragment cs free channel length flags =
-    let packet = packetOf flags (channelAt cs channel) channel length fragment in
+abbrev pub planOf : Settings → Standing → ℕ → Reliable → Unreliable → ℕ → ℕ → ℕ → ℕ → Plan
+planOf s standing fragment r u free channel length flags =
+    let packet = packetOf flags r u channel length fragment in
     planBy (then (sendGate s channel length standing) (queueGate (countOf packet) free)) packet

@@ -1,16 +1,14 @@
 // What a send is to do: whether it is refused, and which commands it queues.
 ghost use mathlib.Core.Path.{_≡_};
-ghost use Rattle.stamps.specs.Counting.{channelAt};
 ghost use Rattle.packets.specs.Packets.{pieceCount};
 ghost use Rattle.plans.specs.Refusals.{sendGate, queueGate};
 ghost use Rattle.plans.specs.Plans.{packetOf, countOf, pieceAt, nextAt, planOf};
 use numbers::consts;
+use numbers::counters::Reliable;
+use numbers::counters::Unreliable;
 use numbers::refusals::Refusal;
 use packets::Cut;
-use parts::groups::CHANNELS;
-use parts::groups::Channel;
 use parts::groups::Standing;
-use peer::defaults::NO_CHANNEL;
 use peer::gate::Gate;
 use peer::record::Peer;
 use peer::settings::Settings;
@@ -69,14 +67,21 @@ fn piece_count(fragment: u16, length: u32) -> u32
 }
 
 // Exactly the fragment length is one command, one more is pieces.
-fn packet_of(flags: u32, c: Channel, channel: u8, length: u32, fragment: u16) -> Packet
-    ensures { λ r. ⌜ r ≡ packetOf flags c channel length fragment ⌝ }
+fn packet_of(
+    flags: u32,
+    reliable: Reliable,
+    unreliable: Unreliable,
+    channel: u8,
+    length: u32,
+    fragment: u16,
+) -> Packet
+    ensures { λ r. ⌜ r ≡ packetOf flags reliable unreliable channel length fragment ⌝ }
 {
     if length <= fragment as u32 {
-        return Packet::One(packets::whole(flags, c, channel, length as u16));
+        return Packet::One(packets::whole(flags, unreliable, channel, length as u16));
     }
     let count = piece_count(fragment, length);
-    let start = packets::starting(flags, c);
+    let start = packets::starting(flags, reliable, unreliable);
     Packet::Pieces(Cut {
         channel,
         length,
@@ -115,35 +120,25 @@ pub fn next_at(packet: Packet, offset: u32) -> u32
     }
 }
 
-// One of all 0 for a channel that is not there.
-fn channel_at(all: [Channel; CHANNELS], channel: u8) -> Channel
-    ensures { λ r. ⌜ r ≡ channelAt all channel ⌝ }
-{
-    if CHANNELS <= channel as usize {
-        return NO_CHANNEL;
-    }
-    all[channel as usize]
-}
-
-// 1, 2, 3, then the packet, then 4, 5: all of them are judged before anything changes.
+// 1, 2, 3, then the packet by the channel's two numbers, then 4, 5: all of them are judged before anything changes.
 pub fn judge(
     settings: Settings,
     standing: Standing,
     fragment: u16,
-    channels: [Channel; CHANNELS],
+    reliable: Reliable,
+    unreliable: Unreliable,
     free: usize,
     channel: u8,
     length: u32,
     flags: u32,
 ) -> Plan
-    ensures { λ r. ⌜ r ≡ planOf settings standing fragment channels free channel length flags ⌝ }
+    ensures { λ r. ⌜ r ≡ planOf settings standing fragment reliable unreliable free channel length flags ⌝ }
 {
     let gate = may_send(settings, standing, channel, length);
     if let Gate::Shut(why) = gate {
         return Plan::Refused(why);
     }
-    let c = channel_at(channels, channel);
-    let packet = packet_of(flags, c, channel, length, fragment);
+    let packet = packet_of(flags, reliable, unreliable, channel, length, fragment);
     let room = may_queue(count_of(packet), free);
     if let Gate::Shut(why) = room {
         return Plan::Refused(why);

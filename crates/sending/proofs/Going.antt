@@ -10,13 +10,15 @@ use lib.ListN.{length, set, replicate}
 use borrow.Author.Tests.{ltb-true, leb-true}
 use Rattle.numbers.specs.Pick.{pick, both}
 use Rattle.numbers.specs.Limits.{mostFragments}
+use Rattle.numbers.specs.declared.counters.Reliable.{Reliable}
+use Rattle.numbers.specs.declared.counters.Unreliable.{Unreliable}
 use Rattle.numbers.specs.declared.refusals.Refusal.{Refusal}
 use Rattle.numbers.specs.declared.refusals.Refusal.the-variants.{FailedToQueue}
 use Rattle.slots.specs.Lists.{outgoing}
 use Rattle.runs.specs.Free.{markedAll}
 use Rattle.parts.specs.Sizes.{channels}
 use Rattle.parts.specs.Damage.{usedOut}
-use Rattle.parts.specs.Updates.{withOutgoingTotal, withReliable, withOutgoingGroup, withQueued}
+use Rattle.parts.specs.Updates.{withOutgoingTotal, withReliable, withOutgoingGroup, withQueued, withNumbers}
 use Rattle.parts.specs.declared.groups.Channel.{Channel}
 use Rattle.peer.specs.Damage.{sound}
 use Rattle.peer.specs.Outcome.{Came, finished}
@@ -31,7 +33,7 @@ use Rattle.peer.specs.declared.gate.Gate.the-variants.{Open, Shut}
 use Rattle.peer.specs.declared.gate.Lent.the-variants.{Nothing}
 use Rattle.peer.specs.declared.calls.Reply.the-variants.{Done, Refused}
 use Rattle.peer.proofs.Gates.{worthsOf, soundBy, openness, open-sound, behind-shut, behind-open, then-behind, came-open}
-use Rattle.stamps.specs.Counting.{channelAt, numbered}
+use Rattle.stamps.specs.Counting.{channelAt}
 use Rattle.stamps.specs.Outboxes.{queueing, outboxOf, freeIn}
 use Rattle.stamps.specs.declared.pieces.Piece.{Piece}
 use Rattle.stamps.specs.declared.outbox.Outbox.{Outbox}
@@ -44,6 +46,7 @@ use Rattle.packets.specs.Packets.{cutBy}
 use Rattle.plans.specs.Refusals.{sendGate, queueGate}
 use Rattle.sending.specs.Calls.{fragment, commands, sendsSound, sends}
 use Rattle.plans.specs.Plans.{packetOf, piecesOf, countOf, leftOf, pieceAt, nextAt, planBy, planOf}
+use Rattle.packets.specs.declared.Cut.{Cut}
 use Rattle.packets.specs.declared.Start.{Start}
 use Rattle.packets.specs.declared.Start.the-variants as start
 use Rattle.command.specs.declared.fields.Fragment.{Fragment}
@@ -73,11 +76,11 @@ module _ (x : Packet) (count channel : ℕ) (p₀ : Peer) where
   pub record Going (p : Peer) (o : Outbox) (j offset : ℕ) : Type 0 where
     pub low : j ≤ count
     pub on : (j offset : ℕ) → pieceAt x j offset .command .channel ≡ channel
+    pub within : channel < channels
     pub here : channel < length (p .channels)
     pub says : Says (o .marks) (usedOut (o .lists))
     pub ready : Ready (leftOf x (count - j) j offset) (stored p channel o (p .outgoing))
     pub same : queuedAll (piecesOf x) p₀ ≡ queuedAll (leftOf x (count - j) j offset) (stored p channel o (p .outgoing))
-    pub kept : p .channels ≡ p₀ .channels
 
   module _ (p : Peer) (o : Outbox) (j offset : ℕ) (g : Going p o j offset) where
     module _ (h : j < count) (y : Piece) (ye : y ≡ pieceAt x j offset) (q : Queued) (qe : q ≡ queueing o y) where
@@ -102,6 +105,7 @@ module _ (x : Packet) (count channel : ℕ) (p₀ : Peer) where
           (record {
             low = omega arith;
             on = g .on;
+            within = g .within;
             here = g .here;
             says = turned .says;
             ready = turned .ready;
@@ -109,20 +113,27 @@ module _ (x : Packet) (count channel : ℕ) (p₀ : Peer) where
                 g .same
                 ∙ ap (λ (l : List Piece). queuedAll l (stored p channel o (p .outgoing))) split
                 ∙ ap (queuedAll rest) (turned .next);
-            kept = g .kept;
           })
 
     pub going-end : count ≤ j → queuedAll (piecesOf x) p₀ ≡ stored p channel o (p .outgoing)
     unfolding queuedAll
     going-end h = g .same ∙ ap (λ (l : List Piece). queuedAll l (stored p channel o (p .outgoing))) (left-end x count j offset h)
 
--- ---- what a packet's commands are
+-- ---- what a packet's commands are: by the two numbers of one of the channels
+abbrev packetOn : ℕ → List Channel → ℕ → ℕ → ℕ → Packet
+packetOn flags cs channel = packetOf flags (channelAt cs channel .«outgoing_reliable») (channelAt cs channel .«outgoing_unreliable») channel
+
 pub packet-pieces : (fragment channel n flags : ℕ) (p : Peer)
-    → piecesOf (packetOf flags (channelAt (p .channels) channel) channel n fragment) ≡ commands fragment channel n flags p
+    → piecesOf (packetOn flags (p .channels) channel n fragment) ≡ commands fragment channel n flags p
 packet-pieces fragment channel n flags p = go (leb n fragment)
   where
-    go : (b : Bool) → piecesOf (pick b (One (whole flags (channelAt (p .channels) channel) channel n)) (Pieces (cutBy (startOf flags (channelAt (p .channels) channel)) channel n fragment)))
-        ≡ pick b (whole flags (channelAt (p .channels) channel) channel n ∷ []) (pieces (cutBy (startOf flags (channelAt (p .channels) channel)) channel n fragment))
+    u : Unreliable
+    u = channelAt (p .channels) channel .«outgoing_unreliable»
+
+    x : Cut
+    x = cutBy (startOf flags (channelAt (p .channels) channel .«outgoing_reliable») u) channel n fragment
+
+    go : (b : Bool) → piecesOf (pick b (One (whole flags u channel n)) (Pieces x)) ≡ pick b (whole flags u channel n ∷ []) (pieces x)
     go true = refl
     go false = refl
 
@@ -130,8 +141,8 @@ cut-channel : (s : Start) (channel : ℕ) (f : Fragment) → cutCommand s channe
 cut-channel (start.Reliable n) channel f = refl
 cut-channel (start.Unreliable n) channel f = refl
 
-whole-channel : (flags : ℕ) (c : Channel) (channel n : ℕ) → whole flags c channel n .command .channel ≡ channel
-whole-channel flags c channel n = go (both (isUnsequenced flags) (not (isReliable flags))) (pick (isReliable flags) true (spent c))
+whole-channel : (flags : ℕ) (u : Unreliable) (channel n : ℕ) → whole flags u channel n .command .channel ≡ channel
+whole-channel flags u channel n = go (both (isUnsequenced flags) (not (isReliable flags))) (pick (isReliable flags) true (spent u))
   where
     go : (a b : Bool)
         → pick a (blank unsequencedByte channel (SendUnsequenced (record { 0 = 0 }) n))
@@ -141,12 +152,18 @@ whole-channel flags c channel n = go (both (isUnsequenced flags) (not (isReliabl
     go false true = refl
     go false false = refl
 
-packet-on : (flags : ℕ) (c : Channel) (channel n fragment j offset : ℕ) → pieceAt (packetOf flags c channel n fragment) j offset .command .channel ≡ channel
-packet-on flags c channel n fragment j offset = go (leb n fragment)
+packet-on : (flags : ℕ) (cs : List Channel) (channel n fragment j offset : ℕ) → pieceAt (packetOn flags cs channel n fragment) j offset .command .channel ≡ channel
+packet-on flags cs channel n fragment j offset = go (leb n fragment)
   where
-    go : (b : Bool) → pieceAt (pick b (One (whole flags c channel n)) (Pieces (cutBy (startOf flags c) channel n fragment))) j offset .command .channel ≡ channel
-    go true = whole-channel flags c channel n
-    go false = cut-channel (startOf flags c) channel _
+    r : Reliable
+    r = channelAt cs channel .«outgoing_reliable»
+
+    u : Unreliable
+    u = channelAt cs channel .«outgoing_unreliable»
+
+    go : (b : Bool) → pieceAt (pick b (One (whole flags u channel n)) (Pieces (cutBy (startOf flags r u) channel n fragment))) j offset .command .channel ≡ channel
+    go true = whole-channel flags u channel n
+    go false = cut-channel (startOf flags r u) channel _
 
 -- a plan to queue has passed both gates
 plan-open : (g : Gate) (k x : Packet) → planBy g k ≡ plan.Queue x → (g ≡ Open) × (k ≡ x)
@@ -168,12 +185,12 @@ then-second (Shut why) h e = absurd (omega (arith, ap openness e))
 -- ---- the send: ws, g, o, size, free and k are what the code answered
 module _ (s : Settings) (channel n flags : ℕ) (p : Peer) (ws : List ℕ) (v : ws ≡ worthsOf p) (g : Gate) (e : g ≡ gateOf (fits s Nothing) (soundBy p ws))
     (passed : g ≡ Open) (o : Outbox) (oe : o ≡ outboxOf (p .totals) (p .waiting) (p .flow) (p .groups) (p .channels) channel (p .lists)) (size free : ℕ)
-    (se : size ≡ fragment s p) (fe : free ≡ freeIn o) (k : Plan) (ke : k ≡ planOf s (p .standing) size (p .channels) free channel n flags) where
+    (se : size ≡ fragment s p) (fe : free ≡ freeIn (o .marks)) (k : Plan) (ke : k ≡ planOf s (p .standing) size (o .counters .reliable) (o .counters .unreliable) free channel n flags) where
   good : sound p ≡ true
   good = open-sound s Nothing p ws v g e passed
 
   abbrev packet : Packet
-  packet = packetOf flags (channelAt (p .channels) channel) channel n (fragment s p)
+  packet = packetOn flags (p .channels) channel n (fragment s p)
 
   abbrev xs : List Piece
   xs = commands (fragment s p) channel n flags p
@@ -188,6 +205,7 @@ module _ (s : Settings) (channel n flags : ℕ) (p : Peer) (ws : List ℕ) (v : 
   unfolding gates
   plan-is =
       ke
+      ∙ ap (λ (o : Outbox). planOf s (p .standing) size (o .counters .reliable) (o .counters .unreliable) free channel n flags) oe
       ∙ rw se
       (ap (λ (free : ℕ). planBy (then (sendGate s channel n (p .standing)) (queueGate (countOf packet) free)) packet) (fe ∙ open-room p channel o oe))
       ∙ ap (λ (m : ℕ). planBy (then (sendGate s channel n (p .standing)) (queueGate m (room p))) packet) count-is
@@ -222,8 +240,11 @@ module _ (s : Settings) (channel n flags : ℕ) (p : Peer) (ws : List ℕ) (v : 
     on : channel < p .standing .count
     on = ltb-true channel (p .standing .count) (gate-channel s channel n (p .standing) first)
 
+    within : channel < channels
+    within = omega (arith, on, count-high p good)
+
     here : channel < length (p .channels)
-    here = omega (arith, on, count-high p good, w .channels)
+    here = omega (arith, within, w .channels)
 
     pieces-are : piecesOf x ≡ xs
     pieces-are = ap piecesOf (sym is) ∙ packet-pieces (fragment s p) channel n flags p
@@ -239,27 +260,27 @@ module _ (s : Settings) (channel n flags : ℕ) (p : Peer) (ws : List ℕ) (v : 
         rw ce
         (record {
           low = omega arith;
-          on = λ j offset. rw (← is) (packet-on flags (channelAt (p .channels) channel) channel n (fragment s p) j offset);
+          on = λ j offset. rw (← is) (packet-on flags (p .channels) channel n (fragment s p) j offset);
+          within = within;
           here = here;
           says = rw oe (says-first (usedOut (p .lists)));
           ready =
               rw (start-left, stored-is)
               (record { whole = w; good = good; fit = commands-fit (fragment s p) channel n flags p (gate-channel s channel n (p .standing) first); few = few });
           same = rw (start-left, stored-is, pieces-are);
-          kept = refl;
         })
 
-    pub send-left : (count : ℕ) (r : Peer) (o′ : Outbox) (j offset : ℕ) → Going x count channel p r o′ j offset → count ≤ j → (cs : List Channel)
-        → cs ≡ numbered (p .channels) channel (o′ .counters)
+    -- c is the channel as the code read it
+    pub send-left : (count : ℕ) (r : Peer) (o′ : Outbox) (j offset : ℕ) → Going x count channel p r o′ j offset → count ≤ j → (c : Channel) → c ≡ channelAt (r .channels) channel
         → Came answerOf (sends s channel n flags p) Done
         (renewed r (r .standing) (withOutgoingTotal (r .totals) (o′ .total)) (r .times) (r .loss) (withReliable (r .flow) (o′ .counters .own)) (o′ .lists)
-        (withOutgoingGroup (r .groups) (o′ .counters .group)) (withQueued (r .waiting) (o′ .queued)) cs (r .outgoing))
-    send-left count r o′ j offset t h cs ce =
-        let c : cs ≡ numbered (r .channels) channel (o′ .counters) = ce ∙ ap (λ (l : List Channel). numbered l channel (o′ .counters)) (sym (t .kept)) in
+        (withOutgoingGroup (r .groups) (o′ .counters .group)) (withQueued (r .waiting) (o′ .queued))
+        (set (r .channels) channel (withNumbers c (o′ .counters .reliable) (o′ .counters .unreliable))) (r .outgoing))
+    send-left count r o′ j offset t h c ce =
         came-open s Nothing p ws v g e p (sendsSound s channel n flags p) answerOf Done _ passed
         (rw (send-is, behind-open gates p (finished (queuedAll xs p)) opened)
         (record {
           answer = refl;
           after =
-              rw c (sym (ap (λ (l : List Piece). queuedAll l p) (sym pieces-are) ∙ going-end x count channel p r o′ j offset t h));
+              rw ce (sym (ap (λ (l : List Piece). queuedAll l p) (sym pieces-are) ∙ going-end x count channel p r o′ j offset t h));
         }))

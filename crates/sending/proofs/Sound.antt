@@ -10,6 +10,7 @@ use lib.Dec.{leb, ltb}
 use lib.ListN.{length}
 use lib.ListN.{length as lengthOf}
 use Rattle.numbers.specs.Pick.{pick, both}
+use Rattle.numbers.specs.declared.counters.Unreliable.{Unreliable}
 use Rattle.numbers.proofs.BoolLaws.{both-true}
 use Rattle.command.specs.Rows.{namesFields}
 use Rattle.command.specs.declared.fields.Command.{Command}
@@ -48,11 +49,11 @@ abbrev fits : ℕ → Command → Bool
 fits count c = both (onChannel (c .channel) count) (namesFields c)
 
 module _ (channel count : ℕ) (on : ltb channel count ≡ true) where
-  pub whole-fit : (flags : ℕ) (c : Channel) (length : ℕ) → allFit count (whole flags c channel length ∷ []) ≡ true
+  pub whole-fit : (flags : ℕ) (u : Unreliable) (length : ℕ) → allFit count (whole flags u channel length ∷ []) ≡ true
   unfolding allFit
-  whole-fit flags c length =
-      both-true (fits count (whole flags c channel length .command)) true
-      (go (both (isUnsequenced flags) (not (isReliable flags))) (pick (isReliable flags) true (spent c))) refl
+  whole-fit flags u length =
+      both-true (fits count (whole flags u channel length .command)) true
+      (go (both (isUnsequenced flags) (not (isReliable flags))) (pick (isReliable flags) true (spent u))) refl
     where
       go : (a b : Bool)
           → fits count
@@ -104,10 +105,10 @@ commands-fit fragment channel length flags p on = go (leb length fragment)
     c = channelAt (p .channels) channel
 
     x : Cut
-    x = cutBy (startOf flags c) channel length fragment
+    x = cutBy (startOf flags (c .«outgoing_reliable») (c .«outgoing_unreliable»)) channel length fragment
 
-    go : (b : Bool) → allFit (p .standing .count) (pick b (whole flags c channel length ∷ []) (pieces x)) ≡ true
-    go true = whole-fit channel (p .standing .count) on flags c length
+    go : (b : Bool) → allFit (p .standing .count) (pick b (whole flags (c .«outgoing_unreliable») channel length ∷ []) (pieces x)) ≡ true
+    go true = whole-fit channel (p .standing .count) on flags (c .«outgoing_unreliable») length
     go false = cut-fit x (p .standing .count) on (x .count) 0 0
 
 -- setting all up or none keeps soundness and lengths

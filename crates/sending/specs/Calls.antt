@@ -22,7 +22,8 @@ fragment s p = fragmentLength (p .flow .mtu) (s .checksum)
 abbrev pub commands : ℕ → ℕ → ℕ → ℕ → Peer → List Piece
 commands fragment channel length flags p =
     let c = channelAt (p .channels) channel in
-    pick (leb length fragment) (whole flags c channel length ∷ []) (pieces (cutBy (startOf flags c) channel length fragment))
+    pick (leb length fragment) (whole flags (c .«outgoing_unreliable») channel length ∷ [])
+    (pieces (cutBy (startOf flags (c .«outgoing_reliable») (c .«outgoing_unreliable»)) channel length fragment))
 
 -- all of them or none
 abbrev pub queuesAll : List Piece → Peer → Outcome Peer

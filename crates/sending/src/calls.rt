@@ -11,7 +11,6 @@ use peer::gate::Lent;
 use peer::record::Peer;
 use peer::settings::Settings;
 use plans::Plan;
-use stamps::counting;
 use stamps::outbox;
 
 // Refused by 11, 13, 1, 2, 3, 4 and 5, in this order.
@@ -50,13 +49,18 @@ pub fn send(peer: Peer, settings: Settings, channel: u8, length: u32, flags: u32
         channel,
         lists,
     );
+    let now = fresh.counters;
+    let reliable = now.reliable;
+    let unreliable = now.unreliable;
     let fragment = packets::fragment_length(p.flow.mtu, settings.checksum) as u16;
+    let marks = fresh.marks;
     let plan = plans::judge(
         settings,
         p.standing,
         fragment,
-        channels,
-        outbox::room(fresh),
+        reliable,
+        unreliable,
+        outbox::room(marks),
         channel,
         length,
         flags,
@@ -85,18 +89,23 @@ pub fn send(peer: Peer, settings: Settings, channel: u8, length: u32, flags: u32
     }
     let k = o.counters;
     let own = k.own;
+    let reliable = k.reliable;
+    let unreliable = k.unreliable;
     let group = k.group;
     let mut flow = p.flow;
     flow.reliable = own;
     let mut groups = p.groups;
     groups.outgoing = group;
-    let numbered = counting::number(channels, channel, k);
+    let i = channel as usize;
+    let mut c = p.channels[i];
+    c.outgoing_reliable = reliable;
+    c.outgoing_unreliable = unreliable;
     let joined = o.lists;
     p.totals.outgoing = o.total;
     p.waiting.queued = o.queued;
     p.flow = flow;
     p.groups = groups;
-    p.channels = numbered;
+    p.channels[i] = c;
     p.lists = joined;
     Called {
         peer: p,

@@ -87,29 +87,28 @@ commands-to fragment channel n flags p = go (leb n fragment)
     c : Channel
     c = channelAt (p .channels) channel
 
-    x : Cut
-    x = cutBy (startOf flags c) channel n fragment
+    one : Piece
+    one = whole flags (c .«outgoing_unreliable») channel n
 
-    go : (b : Bool) → AllTo (reliably (pick b (whole flags c channel n ∷ []) (pieces x))) (pick b (whole flags c channel n ∷ []) (pieces x))
+    x : Cut
+    x = cutBy (startOf flags (c .«outgoing_reliable») (c .«outgoing_unreliable»)) channel n fragment
+
+    go : (b : Bool) → AllTo (reliably (pick b (one ∷ []) (pieces x))) (pick b (one ∷ []) (pieces x))
     go true = (refl, tt)
     go false = all-first (isReliable (x .start)) (pieces x) (pieces-to x (x .count) 0 0)
 
 -- the start is the number after the channel's
-start-reliable : (flags : ℕ) (c : Channel) (m : Reliable) → startOf flags c ≡ start.Reliable m → m .0 ≡ step (c .«outgoing_reliable» .0)
-start-reliable flags c m = go (both (isFragment flags) (both (not (reliableFlag flags)) (not (spent c))))
+start-reliable : (flags : ℕ) (r : Reliable) (u : Unreliable) (m : Reliable) → startOf flags r u ≡ start.Reliable m → m .0 ≡ step (r .0)
+start-reliable flags r u m = go (both (isFragment flags) (both (not (reliableFlag flags)) (not (spent u))))
   where
-    go : (b : Bool)
-        → pick b (start.Unreliable (record { 0 = step (c .«outgoing_unreliable» .0) })) (start.Reliable (record { 0 = step (c .«outgoing_reliable» .0) })) ≡ start.Reliable m
-        → m .0 ≡ step (c .«outgoing_reliable» .0)
+    go : (b : Bool) → pick b (start.Unreliable (record { 0 = step (u .0) })) (start.Reliable (record { 0 = step (r .0) })) ≡ start.Reliable m → m .0 ≡ step (r .0)
     go true e = absurd (omega (arith, ap kindOf e))
     go false e = sym (ap numberOf e)
 
-start-unreliable : (flags : ℕ) (c : Channel) (m : Unreliable) → startOf flags c ≡ start.Unreliable m → m .0 ≡ step (c .«outgoing_unreliable» .0)
-start-unreliable flags c m = go (both (isFragment flags) (both (not (reliableFlag flags)) (not (spent c))))
+start-unreliable : (flags : ℕ) (r : Reliable) (u : Unreliable) (m : Unreliable) → startOf flags r u ≡ start.Unreliable m → m .0 ≡ step (u .0)
+start-unreliable flags r u m = go (both (isFragment flags) (both (not (reliableFlag flags)) (not (spent u))))
   where
-    go : (b : Bool)
-        → pick b (start.Unreliable (record { 0 = step (c .«outgoing_unreliable» .0) })) (start.Reliable (record { 0 = step (c .«outgoing_reliable» .0) })) ≡ start.Unreliable m
-        → m .0 ≡ step (c .«outgoing_unreliable» .0)
+    go : (b : Bool) → pick b (start.Unreliable (record { 0 = step (u .0) })) (start.Reliable (record { 0 = step (r .0) })) ≡ start.Unreliable m → m .0 ≡ step (u .0)
     go true e = sym (ap numberOf e)
     go false e = absurd (omega (arith, ap kindOf e))
 
@@ -164,14 +163,17 @@ module _ (s : Settings) (channel n flags : ℕ) (p : Peer) (w : Whole p) (z : se
 
   -- and where it was cut
   module _ (long : fragment s p < n) where
-    abbrev c : Channel
-    c = channelAt (p .channels) channel
+    abbrev r : Reliable
+    r = channelAt (p .channels) channel .«outgoing_reliable»
+
+    abbrev u : Unreliable
+    u = channelAt (p .channels) channel .«outgoing_unreliable»
 
     abbrev x : Cut
-    x = cutBy (startOf flags c) channel n (fragment s p)
+    x = cutBy (startOf flags r u) channel n (fragment s p)
 
     cut-is : xs ≡ pieces x
-    cut-is = ap (λ (b : Bool). pick b (whole flags c channel n ∷ []) (pieces x)) (lt-leb n (fragment s p) long)
+    cut-is = ap (λ (b : Bool). pick b (whole flags u channel n ∷ []) (pieces x)) (lt-leb n (fragment s p) long)
 
     good : sound p ≡ true
     good = sound-open (fitSettings s) (sound p) first
@@ -182,12 +184,12 @@ module _ (s : Settings) (channel n flags : ℕ) (p : Peer) (w : Whole p) (z : se
     on : channel < p .standing .count
     on = ltb-true channel (p .standing .count) (gate-channel s channel n (p .standing) second)
 
-    numbers : (b : Start) → startOf flags c ≡ b → (i : ℕ) → i < x .count → Numbered b channel p i (getD (filled (pieces x) p) i noOutgoing)
+    numbers : (b : Start) → startOf flags r u ≡ b → (i : ℕ) → i < x .count → Numbered b channel p i (getD (filled (pieces x) p) i noOutgoing)
     numbers (start.Reliable m) e i h =
-        let v : m .0 ≡ step (c .«outgoing_reliable» .0) = start-reliable flags c m e in
+        let v : m .0 ≡ step (r .0) = start-reliable flags r u m e in
         rw v at (reliable-numbers x p (w .channels) (omega (arith, on, count-high p good)) (rw cut-is at ready) i h m e v)
     numbers (start.Unreliable m) e i h =
-        let v : m .0 ≡ step (c .«outgoing_unreliable» .0) = start-unreliable flags c m e in
+        let v : m .0 ≡ step (u .0) = start-unreliable flags r u m e in
         rw v at (unreliable-numbers x p (w .channels) (omega (arith, on, count-high p good)) (rw cut-is at ready) i h m e v (omega (arith, long)) wide)
 
     pub send-cut : Cutting x p
@@ -197,5 +199,5 @@ module _ (s : Settings) (channel n flags : ℕ) (p : Peer) (w : Whole p) (z : se
           part = λ i d h. piece-part x i d h;
           full = λ i d h. full-piece x (omega (arith, long)) wide refl i d h;
           last = λ i d h. last-piece x (omega (arith, long)) wide refl i d h;
-          numbers = numbers (startOf flags c) refl;
+          numbers = numbers (startOf flags r u) refl;
         }

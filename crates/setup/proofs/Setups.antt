@@ -63,7 +63,7 @@ module _ (s : Settings) (x : Piece) (p : Peer) (ws : List ℕ) (v : ws ≡ worth
 
 -- setup's own gate, on as many free slots as the code counted
 pub setup-gate : (x : Piece) (p : Peer) (o : Outbox)
-    → o ≡ outboxOf (p .totals) (p .waiting) (p .flow) (p .groups) (p .channels) (x .command .channel) (p .lists) → (free : ℕ) → free ≡ freeIn o
+    → o ≡ outboxOf (p .totals) (p .waiting) (p .flow) (p .groups) (p .channels) (x .command .channel) (p .lists) → (free : ℕ) → free ≡ freeIn (o .marks)
     → (may : Gate) → may ≡ setupGate x (p .standing .count) free → may ≡ setupGate x (p .standing .count) (room p)
 setup-gate x p o oe free fe may me = me ∙ ap (setupGate x (p .standing .count)) (fe ∙ open-room p (x .command .channel) o oe)
 

@@ -116,8 +116,8 @@ module _ (x : Piece) (p : Peer) (h : 1 ≤ room p) (o : Outbox)
   one-stored = let f = room-slot p h in queue-stored x p marks₀ says₀ (f .slot) (f .low) q (e ∙ ap (λ (o : Outbox). queueing o x) oe)
 
 pub open-room : (p : Peer) (channel : ℕ) (o : Outbox) → o ≡ outboxOf (p .totals) (p .waiting) (p .flow) (p .groups) (p .channels) channel (p .lists)
-    → freeIn o ≡ room p
-open-room p channel o oe = ap freeIn oe ∙ marked-count outgoing (usedOut (p .lists))
+    → freeIn (o .marks) ≡ room p
+open-room p channel o oe = ap (λ (x : Outbox). freeIn (x .marks)) oe ∙ marked-count outgoing (usedOut (p .lists))
 
 -- ---- several on one channel
 set-twice : {A : Type 0} (xs : List A) (i : ℕ) (a b : A) → set (set xs i a) i b ≡ set xs i b

@@ -81,7 +81,8 @@ pub fn setup(peer: Peer, settings: Settings, x: Piece) -> Called
         c.channel,
         lists,
     );
-    let may = judge(x, p.standing.count, outbox::room(o));
+    let marks = o.marks;
+    let may = judge(x, p.standing.count, outbox::room(marks));
     if let Gate::Shut(why) = may {
         return Called {
             peer: p,

@@ -58,5 +58,5 @@ outboxOf totals waiting flow groups cs channel lists =
       marks = markedAll (replicate outgoing 0) (usedOut lists);
     }
 
-abbrev pub freeIn : Outbox → ℕ
-freeIn o = countFrom (isMarked (o .marks)) outgoing 0
+abbrev pub freeIn : List ℕ → ℕ
+freeIn marks = countFrom (isMarked marks) outgoing 0

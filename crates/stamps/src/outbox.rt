@@ -136,10 +136,9 @@ pub fn open(
     }
 }
 
-// How many slots are free.
-pub fn room(o: Outbox) -> usize
-    ensures { λ r. ⌜ r ≡ freeIn o ⌝ }
+// How many slots are free, by the marks of the others.
+pub fn room(marks: [u8; OUTGOING]) -> usize
+    ensures { λ r. ⌜ r ≡ freeIn marks ⌝ }
 {
-    let marks = o.marks;
     runs::marks::clear(&marks)
 }

@@ -29,7 +29,7 @@ next-requires-2 c κs = search needs
 
 returns-2 : tie.Need-returns-2
 returns-2 c =
-    let m = c .before .before in
+    let m = c .before in
     let set = sym (m .before .is-set .ensures) in
     let number = ap (λ (n : ℕ). start.Reliable (record { 0 = n })) (c .next2 .ensures) in
     ⊎-elim

@@ -30,18 +30,18 @@ blank-requires-3 c κs = search needs
 
 returns-3 : tie.Need-returns-3
 returns-3 c =
-    let m = c .before .before .before .before .before in
+    let m = c .before .before .before .before in
     let sequenced = sym (m .before .before .unsequenced .ensures) ∙ m .before .if1 .left in
-    rw (sequenced, sym (m .is-set .ensures) ∙ c .before .before .before .before .if2 .left, le-leb _ _ (c .before .if3 .taken)) (c .blank3 .ensures)
+    rw (sequenced, sym (m .is-set .ensures) ∙ c .before .before .before .if2 .left, le-leb _ _ (c .before .if3 .taken)) (c .blank3 .ensures)
 
 blank-requires-4 : tie.Need-blank-requires-4
 blank-requires-4 c κs = search needs
 
 returns-4 : tie.Need-returns-4
 returns-4 c =
-    let m = c .before .before .before .before .before in
+    let m = c .before .before .before .before in
     let sequenced = sym (m .before .before .unsequenced .ensures) ∙ m .before .if1 .left in
-    rw (sequenced, sym (m .is-set .ensures) ∙ c .before .before .before .before .if2 .left, lt-leb _ _ (c .before .if3 .left)) (c .blank4 .ensures)
+    rw (sequenced, sym (m .is-set .ensures) ∙ c .before .before .before .if2 .left, lt-leb _ _ (c .before .if3 .left)) (c .blank4 .ensures)
 
 pub whole-command-spec : {M : Type 1} → statement M
 whole-command-spec =

@@ -49,7 +49,7 @@ enum-known-may c = search needs
 returns-2 : tie.Need-returns-2
 returns-2 c =
     let j = c .before .before .before in
-    let o = j .before .before .before in
+    let o = j .before .before .before .before in
     let t = o .before .before .before .before .before in
     let g = t .before .before in
     let w = g .before in
@@ -70,7 +70,7 @@ mul-slot : tie.Need-mul-slot
 mul-slot c =
     let q = c .before in
     let j = q .before .before .before in
-    let o = j .before .before .before in
+    let o = j .before .before .before .before in
     let t = o .before .before .before .before .before in
     let g = t .before .before in
     let w = g .before in
@@ -87,7 +87,7 @@ element-set-from-slot : tie.Need-element-set-from-slot
 element-set-from-slot c =
     let q = c .before in
     let j = q .before .before .before in
-    let o = j .before .before .before in
+    let o = j .before .before .before .before in
     let t = o .before .before .before .before .before in
     let g = t .before .before in
     let w = g .before in
@@ -108,7 +108,7 @@ returns-3 c =
     let n = c .before .before .before in
     let q = n .before .before .before .before .before .before .before .before in
     let j = q .before .before .before in
-    let o = j .before .before .before in
+    let o = j .before .before .before .before in
     let t = o .before .before .before .before .before in
     let g = t .before .before in
     let w = g .before in

@@ -16,13 +16,10 @@ returns c =
     let m = c .before .before .before in
     let a = m .before .args in
     let k = c .before .gate .given in
-    plan-first (a .settings) (a .standing) (a .fragment) (a .channels) (a .free) (a .channel) (a .length) (a .flags) (k .0 .0) (sym (m .may-send .ensures) ∙ k .1)
+    plan-first (a .settings) (a .standing) (a .fragment) (a .reliable) (a .unreliable) (a .free) (a .channel) (a .length) (a .flags) (k .0 .0) (sym (m .may-send .ensures) ∙ k .1)
 
 enum-told : tie.Need-enum-told
 enum-told c = search needs
-
-channel-at-requires : tie.Need-channel-at-requires
-channel-at-requires c κs = search needs
 
 packet-of-requires : tie.Need-packet-of-requires
 packet-of-requires c κs = search needs
@@ -41,14 +38,13 @@ returns-2 c =
     let q = c .before .before .before in
     let n = q .before in
     let x = n .before in
-    let t = x .before .before in
+    let t = x .before in
     let m = t .before .before in
     let a = m .before .args in
     let k = c .before .room .given in
     let on = sym (m .may-send .ensures) ∙ t .enum-told .given .1 in
-    plan-last (a .settings) (a .standing) (a .fragment) (a .channels) (a .free) (a .channel) (a .length) (a .flags) on (x .packet-of .result)
-    (x .packet-of .ensures ∙ rw (x .before .channel-at .ensures))
-    (n .count-of .result) (n .count-of .ensures) (q .may-queue .result) (q .may-queue .ensures) (k .0 .0) (k .1)
+    plan-last (a .settings) (a .standing) (a .fragment) (a .reliable) (a .unreliable) (a .free) (a .channel) (a .length) (a .flags) on (x .packet-of .result)
+    (x .packet-of .ensures) (n .count-of .result) (n .count-of .ensures) (q .may-queue .result) (q .may-queue .ensures) (k .0 .0) (k .1)
 
 enum-told-2 : tie.Need-enum-told-2
 enum-told-2 c = search needs
@@ -58,13 +54,12 @@ returns-3 c =
     let q = c .before .before in
     let n = q .before in
     let x = n .before in
-    let t = x .before .before in
+    let t = x .before in
     let m = t .before .before in
     let a = m .before .args in
     let on = sym (m .may-send .ensures) ∙ t .enum-told .given .1 in
-    plan-all (a .settings) (a .standing) (a .fragment) (a .channels) (a .free) (a .channel) (a .length) (a .flags) on (x .packet-of .result)
-    (x .packet-of .ensures ∙ rw (x .before .channel-at .ensures))
-    (n .count-of .result) (n .count-of .ensures) (q .may-queue .result) (q .may-queue .ensures) (c .enum-told2 .given .1)
+    plan-all (a .settings) (a .standing) (a .fragment) (a .reliable) (a .unreliable) (a .free) (a .channel) (a .length) (a .flags) on (x .packet-of .result)
+    (x .packet-of .ensures) (n .count-of .result) (n .count-of .ensures) (q .may-queue .result) (q .may-queue .ensures) (c .enum-told2 .given .1)
 
 pub judge-spec : {M : Type 1} → statement M
 judge-spec =
@@ -74,7 +69,6 @@ judge-spec =
     enum-known-gate
     returns
     enum-told
-    channel-at-requires
     packet-of-requires
     count-of-requires
     may-queue-requires

@@ -1,5 +1,5 @@
 -- `send` passes the gate and its own refusals; then its loop queues the packet's commands in order, and each group is what the outbox has.
--- What the loop keeps is `Going`.
+-- What the loop keeps is `Going`; by it the channel that is stored at the end is there.
 use Prim.Native.Nat.{ℕ, _-_, _≤_, _<_}
 use mathlib.Core.Path.{refl, sym, _∙_}
 use native.Mathlib.Omega.{arith}
@@ -10,6 +10,7 @@ use Rattle.peer.specs.Calls.{answerOf}
 use Rattle.peer.specs.Sounds.{Whole}
 use Rattle.peer.specs.declared.gate.Lent.the-variants.{Nothing}
 use Rattle.peer.proofs.Gates.{came-shut, open-sound}
+use Rattle.stamps.proofs.CountLaws.{channel-here}
 use Rattle.sending.specs.Calls.{sendsSound}
 use Rattle.sending.proofs.Ranges.{mtu-high, length-high}
 use Rattle.sending.proofs.Going.{Going, going-start, going-exists, going-turn, send-shut, send-left}
@@ -17,10 +18,10 @@ use Rattle.sending.proofs.calls.send.Statement.{statement}
 use Rattle.sending.proofs.calls.send.Tie as tie
 
 abbrev Inv-loop : tie.InvT-loop
-Inv-loop channel length flags p₀ channels fragment packet count o₀ j₀ offset₀ p o j offset = Going packet count channel p₀ p o j offset
+Inv-loop channel length flags p₀ fragment packet count o₀ j₀ offset₀ p o j offset = Going packet count channel p₀ p o j offset
 
 abbrev μ-loop : tie.MeasureT-loop
-μ-loop channel length flags p₀ channels fragment packet count o₀ j₀ offset₀ p o j offset = count - j
+μ-loop channel length flags p₀ fragment packet count o₀ j₀ offset₀ p o j offset = count - j
 
 worths-requires : tie.Need-worths-requires Inv-loop μ-loop
 worths-requires c κs = search needs
@@ -52,7 +53,7 @@ fragment-length-requires c κs = search needs
 
 cast-fragment : tie.Need-cast-fragment Inv-loop μ-loop
 cast-fragment c =
-    let t = c .before .before .before .before .before .before in
+    let t = c .before .before .before .before .before .before .before .before .before in
     let g = t .before .before in
     let w = g .before in
     let b = w .before .before .before .before .before in
@@ -73,8 +74,8 @@ enum-known-plan c = search needs
 returns-2 : tie.Need-returns-2 Inv-loop μ-loop
 returns-2 c =
     let j = c .before .before .before in
-    let f = j .before .before .before in
-    let o = f .before in
+    let f = j .before .before .before .before in
+    let o = f .before .before .before .before in
     let t = o .before .before .before .before .before in
     let g = t .before .before in
     let w = g .before in
@@ -94,8 +95,8 @@ count-of-requires c κs = search needs
 loop-holds : tie.Need-loop-holds Inv-loop μ-loop
 loop-holds c =
     let j = c .before .before .before .before in
-    let f = j .before .before .before in
-    let o = f .before in
+    let f = j .before .before .before .before in
+    let o = f .before .before .before .before in
     let t = o .before .before .before .before .before in
     let g = t .before .before in
     let w = g .before in
@@ -163,17 +164,34 @@ loop-again c =
     going-turn (k .0 .0) (n .count-of .result) _ _ (l .p) (l .o) (l .j) (l .offset) (l .inv) (y .before .loop-test .taken) (y .piece-at .result) (y .piece-at .ensures)
     (q .queue .result) (q .queue .ensures) (c .next-at .result) (c .next-at .ensures)
 
-number-requires : tie.Need-number-requires Inv-loop μ-loop
-number-requires c κs = search needs
+mul-c : tie.Need-mul-c Inv-loop μ-loop
+mul-c c =
+    let h = c .before .before .before .before .before .before .before .before .loop .inv .within in
+    search needs
+
+element-copy-out-c : tie.Need-element-copy-out-c Inv-loop μ-loop
+element-copy-out-c c =
+    let h = c .before .before .before .before .before .before .before .before .loop .inv .within in
+    search needs
+
+mul-c-2 : tie.Need-mul-c-2 Inv-loop μ-loop
+mul-c-2 c =
+    let h = c .before .before .before .before .before .before .before .before .before .before .before .before .loop .inv .within in
+    search needs
+
+element-set-from-c : tie.Need-element-set-from-c Inv-loop μ-loop
+element-set-from-c c =
+    let h = c .before .before .before .before .before .before .before .before .before .before .before .before .loop .inv .within in
+    search needs
 
 returns-3 : tie.Need-returns-3 Inv-loop μ-loop
 returns-3 c =
-    let n = c .before .before .before in
-    let l = n .before .before .before .before .before .before .before in
+    let n = c .before .before .before .before .before .before .before .before .before .before .before in
+    let l = n .before in
     let m = l .before in
     let j = m .before .before .before .before in
-    let f = j .before .before .before in
-    let o = f .before in
+    let f = j .before .before .before .before in
+    let o = f .before .before .before .before in
     let t = o .before .before .before .before .before in
     let g = t .before .before in
     let w = g .before in
@@ -191,7 +209,7 @@ returns-3 c =
     send-left (a .settings) (a .channel) (a .length) (a .flags) (a .peer) (w .worths .result) (w .worths .ensures) (g .pass .result) (g .pass .ensures)
     (t .enum-told .given .1) (o .«open» .result) (o .«open» .ensures) (f .fragment-length .result) (j .before .room .result)
     (f .fragment-length .ensures) (j .before .room .ensures) (j .judge .result) (j .judge .ensures) whole (k .0 .0) (k .1) (m .count-of .result) (l .loop .p) (l .loop .o) (l .loop .j) (l .loop .offset) (l .loop .inv)
-    (n .before .before .before .before .before .before .loop-test .left) (n .number .result) (n .number .ensures)
+    (n .loop-test .left) _ (channel-here (l .loop .p .channels) (a .channel) (l .loop .inv .here))
 
 pub send-spec : {M : Type 1} → statement M
 send-spec =
@@ -222,5 +240,8 @@ send-spec =
     add-j
     loop-less
     loop-again
-    number-requires
+    mul-c
+    element-copy-out-c
+    mul-c-2
+    element-set-from-c
     returns-3)

@@ -48,7 +48,7 @@ enum-known-may c = search needs
 returns-2 : tie.Need-returns-2
 returns-2 c =
     let j = c .before .before .before in
-    let o = j .before .before in
+    let o = j .before .before .before in
     let t = o .before .before .before .before .before .before in
     let g = t .before .before in
     let w = g .before in
@@ -69,7 +69,7 @@ mul-slot : tie.Need-mul-slot
 mul-slot c =
     let q = c .before in
     let j = q .before .before .before in
-    let o = j .before .before in
+    let o = j .before .before .before in
     let t = o .before .before .before .before .before .before in
     let g = t .before .before in
     let w = g .before in
@@ -86,7 +86,7 @@ element-set-from-slot : tie.Need-element-set-from-slot
 element-set-from-slot c =
     let q = c .before in
     let j = q .before .before .before in
-    let o = j .before .before in
+    let o = j .before .before .before in
     let t = o .before .before .before .before .before .before in
     let g = t .before .before in
     let w = g .before in
@@ -107,7 +107,7 @@ returns-3 c =
     let n = c .before .before .before in
     let q = n .before .before .before .before .before .before .before .before in
     let j = q .before .before .before in
-    let o = j .before .before in
+    let o = j .before .before .before in
     let t = o .before .before .before .before .before .before in
     let g = t .before .before in
     let w = g .before in

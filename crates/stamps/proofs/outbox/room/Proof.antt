@@ -13,7 +13,7 @@ clear-requires c κs = search needs
 
 returns : tie.Need-returns
 returns c =
-    let e : length (c .before .before .before .args .o .marks) ≡ 32 = search needs in
+    let e : length (c .before .before .args .t1) ≡ 32 = search needs in
     c .clear .ensures ∙ rw e
 
 pub room-spec : {M : Type 1} → statement M

@@ -1,0 +1,110 @@
+-- The incoming pool of a sound record clause by clause, over any parts of a record; the head of dispatched exists, and the total is low.
+-- The argument: `inSound` is a conjunction, taken apart and put together; at most 12 slots are named, each at most 4,096 long.
+use Prim.Native.Nat.{ℕ, _*_, _≤_, _<_}
+use mathlib.Core.Path.{_≡_, refl, ap, _∙_}
+use mathlib.Core.List.{List, [], _∷_, _++_}
+use mathlib.Core.Bool.{true}
+use native.Mathlib.Omega.{arith}
+use lib.Dec.{leb, ltb, eqb}
+use lib.ListN.{length, getD}
+use borrow.Author.Tests.{eqb-true, eq-eqb, leb-true}
+use Rattle.numbers.specs.Pick.{both}
+use Rattle.numbers.proofs.BoolLaws.{both-left, both-right, both-true}
+use Rattle.slots.specs.Lists.{incoming, inItems}
+use Rattle.runs.specs.Runs.{without}
+use Rattle.runs.specs.Free.{exist, once}
+use Rattle.slots.specs.declared.incoming.InList.{InList}
+use Rattle.slots.proofs.Keeps.{one, times, once-less, exist-less, exist-below}
+use Rattle.slots.proofs.Views.{in-items-keep}
+use Rattle.runs.proofs.Lowest.{free-and-named}
+use Rattle.parts.specs.Sizes.{cell}
+use Rattle.parts.specs.Fresh.{noIncoming}
+use Rattle.parts.specs.Damage.{all, held, inFit, own, lengths, inSound, usedIn}
+use Rattle.parts.specs.Updates.{inShorter}
+use Rattle.parts.specs.declared.groups.Lists.{Lists}
+use Rattle.parts.specs.declared.groups.Channel.{Channel}
+use Rattle.parts.specs.declared.groups.Incoming.{Incoming}
+use Rattle.peer.proofs.Clauses.{all-at, at-all}
+
+-- a list without its head
+pub shorter-items : (l : InList) (s : ℕ) (rest : List ℕ) → inItems l ≡ s ∷ rest → inItems (inShorter l) ≡ rest
+shorter-items l s rest e = in-items-keep l (without (inItems l) 0) ∙ ap (λ (xs : List ℕ). without xs 0) e
+
+-- what is named, where dispatched is known
+pub used-from : (l : Lists) (cs : List Channel) (xs : List ℕ) → inItems (l .dispatched) ≡ xs → usedIn l cs ≡ xs ++ held cs
+used-from l cs xs e = ap (λ (ys : List ℕ). ys ++ held cs) e
+
+-- each slot at most 4,096 long
+pub lengths-low : (slots : List Incoming) (count : ℕ) (xs : List ℕ) → all (inFit slots count) xs ≡ true
+    → lengths slots xs ≤ cell * length xs
+unfolding all lengths
+lengths-low slots count [] e = omega arith
+lengths-low slots count (x ∷ xs) e =
+    let i = getD slots x noIncoming in
+    let fit = both-left (inFit slots count x) (all (inFit slots count) xs) e in
+    let low = leb-true (i .length) cell (both-left (leb (i .length) cell) (ltb (i .channel) count) fit) in
+    omega (arith, low, lengths-low slots count xs (both-right (inFit slots count x) (all (inFit slots count) xs) e))
+
+module _ (slots : List Incoming) (l : Lists) (cs : List Channel) (count sum : ℕ) where
+  pub record Arrived : Type 0 where
+    pub exists : exist incoming (usedIn l cs) ≡ true
+    pub single : once (usedIn l cs) ≡ true
+    pub fit : all (inFit slots count) (usedIn l cs) ≡ true
+    pub own : own slots 0 cs ≡ true
+    pub total : sum ≡ lengths slots (usedIn l cs)
+
+  pub in-clauses : inSound slots l cs count sum ≡ true → Arrived
+  in-clauses h =
+      let used = usedIn l cs in
+      let named = both (exist incoming used) (once used) in
+      let fit = all (inFit slots count) used in
+      let theirs = own slots 0 cs in
+      let total = eqb sum (lengths slots used) in
+      let two = both-left named (both fit (both theirs total)) h in
+      let three = both-right named (both fit (both theirs total)) h in
+      let last = both-right fit (both theirs total) three in
+      record {
+        exists = both-left (exist incoming used) (once used) two;
+        single = both-right (exist incoming used) (once used) two;
+        fit = both-left fit (both theirs total) three;
+        own = both-left theirs total last;
+        total = eqb-true sum (lengths slots used) (both-right theirs total last);
+      }
+
+  pub clauses-in : Arrived → inSound slots l cs count sum ≡ true
+  clauses-in w =
+      let used = usedIn l cs in
+      let named = both (exist incoming used) (once used) in
+      let fit = all (inFit slots count) used in
+      let theirs = own slots 0 cs in
+      let total = eqb sum (lengths slots used) in
+      both-true named (both fit (both theirs total)) (both-true (exist incoming used) (once used) (w .exists) (w .single))
+      (both-true fit (both theirs total) (w .fit) (both-true theirs total (w .own) (eq-eqb sum (lengths slots used) (w .total))))
+
+module _ (slots : List Incoming) (l : Lists) (cs : List Channel) (count sum : ℕ) (w : Arrived slots l cs count sum) where
+  abbrev used : List ℕ
+  used = usedIn l cs
+
+  -- at most 12 slots of at most 4,096
+  pub total-low : sum ≤ cell * incoming
+  total-low =
+      omega (arith, w .total, lengths-low slots count used (w .fit), free-and-named incoming used (w .exists) (w .single))
+
+  -- other lists that name no slot more often
+  pub arrived-less : (m : Lists) (new : ℕ) → ((k : ℕ) → times (usedIn m cs) k ≤ times used k) → new ≡ lengths slots (usedIn m cs)
+      → Arrived slots m cs count new
+  arrived-less m new fewer e =
+      record {
+        exists = exist-less used (usedIn m cs) fewer incoming (w .exists);
+        single = once-less used (usedIn m cs) fewer (w .single);
+        fit =
+            at-all (inFit slots count) (usedIn m cs) (λ k h. all-at (inFit slots count) used (w .fit) k (omega (arith, fewer k, h)));
+        own = w .own;
+        total = e;
+      }
+
+  pub head-exists : (s : ℕ) (rest : List ℕ) → inItems (l .dispatched) ≡ s ∷ rest → s < incoming
+  head-exists s rest e =
+      let named = ap (λ (xs : List ℕ). times xs s) (used-from l cs (s ∷ rest) e) in
+      let once : one s s ≡ 1 = rw (eq-eqb s s refl) in
+      exist-below incoming used (w .exists) s (omega (arith, named, once))

@@ -1,0 +1,5 @@
+pub mod Arrived
+pub mod Receiving
+pub mod Sound
+pub mod Settled
+pub mod Taking
