@@ -1,4 +1,4 @@
-// Ops 1 to 6: the calls that reply done or refused.
+// Ops 1 to 6 and 12: the calls that reply done or refused.
 use peer::calls::Called;
 use peer::calls::Reply;
 use peer::record::Peer;
@@ -23,7 +23,8 @@ pub(crate) fn made(f: Frame, input: &[u8], settings: Settings, peer: Peer) -> Ca
         3 => opening::set_state(peer, settings, f.n0),
         4 => ping::ping(peer, settings),
         5 => sending::calls::send(peer, settings, frames::byte(f.n0), f.n1, f.n2),
-        _ => setup::calls::setup(peer, settings, piece(f, input)),
+        6 => setup::calls::setup(peer, settings, piece(f, input)),
+        _ => dispatch::dispatch(peer, settings, frames::byte(f.n0)),
     }
 }
 

@@ -12,8 +12,8 @@ pub(crate) fn op(f: Frame, input: &[u8]) -> u32 {
     let op = f.op;
     let is_fit = match op {
         0 => (f.n3 < 2) & (f.n4 <= settings::STORE),
-        1..=4 | 15 | 16 | 30 | 32 => true,
-        5 => f.n0 < 256,
+        1..=4 | 13 | 15 | 16 | 30 | 32 => true,
+        5 | 12 => f.n0 < 256,
         6 => (f.n4 < 2) & (f.n6 < 65536),
         7 => f.n0 < 2,
         20..=24 => is_set(f),

@@ -1,6 +1,7 @@
 // Reads a script of frames and writes one line for each, as SCRIPT.md says.
 mod calls;
 mod fits;
+mod receives;
 mod record;
 mod setters;
 mod settings;
@@ -41,8 +42,9 @@ fn asked(input: &[u8], store: &[u8]) -> Frame {
 fn changed(f: Frame, input: &[u8], settings: Settings, peer: Peer) -> Peer {
     let op = f.op;
     match op {
-        1..=6 => calls::told(calls::made(f, input, settings, peer)),
+        1..=6 | 12 => calls::told(calls::made(f, input, settings, peer)),
         7 => steps::told(sendstep::calls::step(peer, settings, steps::queue(f.n0), f.n1)),
+        13 => receives::told(receive::receive(peer, settings)),
         20 => setters::number(f.n0, f.n1, peer),
         21..=24 => setters::part(f, input, peer),
         _ => peer,

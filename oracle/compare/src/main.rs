@@ -1,5 +1,6 @@
 //! Writes call scripts (SCRIPT.md) with the lines that the oracle gives for them, and compares line files.
 
+mod arriving;
 mod build;
 mod damage;
 mod frame;
@@ -27,6 +28,7 @@ fn main() -> ExitCode {
         ["records", seed, count, script, lines] => write_records(seed, count, script, lines),
         ["damage", script, lines] => write_damage(script, lines),
         ["sending", seed, count, script, lines] => write_sending(seed, count, script, lines),
+        ["arriving", seed, count, script, lines] => write_arriving(seed, count, script, lines),
         ["every", set, script, lines] => write_every(set, script, lines),
         ["packing", seed, count] => pack(seed, count),
         ["vectors", script, lines] => write_vectors(script, lines),
@@ -50,14 +52,16 @@ fn usage() -> String {
   compare records SEED COUNT SCRIPT_FILE LINES_FILE
   compare damage SCRIPT_FILE LINES_FILE
   compare sending SEED COUNT SCRIPT_FILE LINES_FILE
+  compare arriving SEED COUNT SCRIPT_FILE LINES_FILE
   compare every SET SCRIPT_FILE LINES_FILE
-      SET: {}
+      SET: {}, {}
   compare packing SEED COUNT
   compare vectors SCRIPT_FILE LINES_FILE
   compare lines EXPECTED GOT",
         names.join(","),
         more.join(","),
-        sets::NAMES.join(", ")
+        sets::NAMES.join(", "),
+        arriving::NAMES.join(", ")
     )
 }
 
@@ -90,8 +94,14 @@ fn write_sending(seed: &str, count: &str, script: &str, lines: &str) -> Result<E
     written(script, lines, |output| sending::write(output, seed, count))
 }
 
+fn write_arriving(seed: &str, count: &str, script: &str, lines: &str) -> Result<ExitCode, String> {
+    let (seed, count) = (number(seed)?, number(count)?);
+    written(script, lines, |output| arriving::write(output, seed, count))
+}
+
 fn write_every(set: &str, script: &str, lines: &str) -> Result<ExitCode, String> {
-    let write = sets::named(set).ok_or_else(|| format!("there is no set {set}\n{}", usage()))?;
+    let write = sets::named(set).or_else(|| arriving::named(set));
+    let write = write.ok_or_else(|| format!("there is no set {set}\n{}", usage()))?;
     written(script, lines, write)
 }
 

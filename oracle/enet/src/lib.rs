@@ -14,6 +14,7 @@ pub use bench::Bench;
 pub use door::{
     command::{limits, size, write, Read},
     pack::Packed,
+    receive::Received,
     send::{Limits, Packet},
     throttle::Throttle,
     timed::{Made, Sender},

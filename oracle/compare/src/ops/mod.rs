@@ -3,12 +3,14 @@
 mod begin;
 pub mod cell;
 mod channel;
+mod dispatch;
 mod distance;
 mod incoming;
 mod number;
 pub mod outgoing;
 mod ping;
 mod read;
+mod receive;
 pub mod reset;
 mod row;
 pub mod send;
@@ -46,6 +48,8 @@ pub const MORE: &[Group] = &[
     send::GROUP,
     setup::GROUP,
     step::GROUP,
+    dispatch::GROUP,
+    receive::GROUP,
     row::GROUP,
     store::GROUP,
     number::GROUP,

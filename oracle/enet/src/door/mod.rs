@@ -3,6 +3,7 @@
 mod call;
 pub(crate) mod command;
 mod disconnect;
+mod dispatch;
 mod distance;
 mod dump;
 mod fields;
@@ -10,6 +11,7 @@ mod load;
 mod numbers;
 pub(crate) mod pack;
 mod ping;
+pub(crate) mod receive;
 mod reset;
 pub(crate) mod send;
 mod setup;
