@@ -5,10 +5,11 @@ use mathlib.Core.List.{List}
 use lib.Dec.{eqb, ltb}
 use lib.ListN.{set}
 use Rattle.numbers.specs.Pick.{pick}
+use Rattle.numbers.specs.Limits.{windowWords}
 
 -- the number that is named becomes x, any other stays
 abbrev pub at : ℕ → ℕ → ℕ → ℕ → ℕ
 at which k x old = pick (eqb which k) x old
 
 abbrev pub wordsAt : ℕ → ℕ → List ℕ → List ℕ
-wordsAt which x words = pick (ltb which 64) words (set words (which % 32) x)
+wordsAt which x words = pick (ltb which 64) words (set words (which % windowWords) x)

@@ -8,6 +8,8 @@ use numbers::counters::Reliable;
 use numbers::counters::Unreliable;
 use parts::groups::Channel;
 use parts::groups::Lists;
+use slots::INCOMING;
+use slots::OUTGOING;
 use slots::incoming::InList;
 use slots::outgoing::OutList;
 
@@ -19,7 +21,7 @@ fn out_cell(which: u32, x: u16, l: OutList) -> OutList
         to.len = x;
         return to;
     }
-    let i = ((which - 1) % 32) as usize;
+    let i = (which - 1) as usize % OUTGOING;
     to.slots[i] = x;
     to
 }
@@ -32,7 +34,7 @@ fn in_cell(which: u32, x: u16, l: InList) -> InList
         to.len = x;
         return to;
     }
-    let i = ((which - 1) % 12) as usize;
+    let i = (which - 1) as usize % INCOMING;
     to.slots[i] = x;
     to
 }

@@ -225,7 +225,7 @@ fn worded(which: u32, x: u32, words: [u32; UNSEQUENCED_WORDS]) -> [u32; UNSEQUEN
 {
     let mut to = words;
     if 64 <= which {
-        let i = (which % 32) as usize;
+        let i = which as usize % UNSEQUENCED_WORDS;
         to[i] = x;
     }
     to

@@ -1,6 +1,9 @@
 // Whether the numbers of a frame fit what its op makes of them.
 use crate::settings;
+use parts::groups::CHANNELS;
 use script::frames::Frame;
+use slots::INCOMING;
+use slots::OUTGOING;
 
 // In place of the op of a frame that makes no call: a number does not fit its parameter's type, or a place is not there.
 pub const BAD: u32 = 256;
@@ -31,9 +34,9 @@ fn is_set(f: Frame) -> bool {
     match op {
         20 => (f.n1 as u64) < room(f.n0),
         21 => (f.n1 < cells(f.n0)) & (f.n2 < 65536),
-        22 => (f.n0 < 8) & (f.n1 < 4) & (f.n2 < 65536),
+        22 => (f.n0 < CHANNELS as u32) & (f.n1 < 4) & (f.n2 < 65536),
         23 => is_outgoing(f),
-        _ => (f.n0 < 12) & (f.n1 < 256) & (f.n2 < 256) & (f.n3 < 65536),
+        _ => (f.n0 < INCOMING as u32) & (f.n1 < 256) & (f.n2 < 256) & (f.n3 < 65536),
     }
 }
 
@@ -60,14 +63,14 @@ fn room(which: u32) -> u64 {
 // A list's length and its slots; no cells where there is no such list.
 fn cells(list: u32) -> u32 {
     match list {
-        0..=2 => 33,
-        3 | 8..=15 => 13,
+        0..=2 => OUTGOING as u32 + 1,
+        3 | 8..=15 => INCOMING as u32 + 1,
         _ => 0,
     }
 }
 
 // Slot, reliable and unreliable number, piece length, attempts and packet.
 fn is_outgoing(f: Frame) -> bool {
-    let is_slot = (f.n0 < 32) & (f.n1 < 65536) & (f.n2 < 65536);
+    let is_slot = (f.n0 < OUTGOING as u32) & (f.n1 < 65536) & (f.n2 < 65536);
     is_slot & (f.n7 < 65536) & (f.n8 < 65536) & (f.n9 < 2)
 }

@@ -3,6 +3,7 @@ use bench::cells;
 use bench::values;
 use numbers::counters::Reliable;
 use numbers::counters::Unreliable;
+use parts::groups::CHANNELS;
 use parts::groups::Channel;
 use parts::groups::Incoming;
 use parts::groups::Lists;
@@ -10,6 +11,8 @@ use parts::groups::Outgoing;
 use peer::record::Peer;
 use script::frames;
 use script::frames::Frame;
+use slots::INCOMING;
+use slots::OUTGOING;
 
 // Op 20: each group, which changes where the number is its own.
 pub(crate) fn number(which: u32, x: u32, mut p: Peer) -> Peer {
@@ -30,9 +33,9 @@ pub(crate) fn number(which: u32, x: u32, mut p: Peer) -> Peer {
 
 // Ops 21 to 24: each part, which changes where the op is its own.
 pub(crate) fn part(f: Frame, input: &[u8], mut p: Peer) -> Peer {
-    let i = (f.n0 % 8) as usize;
-    let s = (f.n0 % 32) as usize;
-    let a = (f.n0 % 12) as usize;
+    let i = f.n0 as usize % CHANNELS;
+    let s = f.n0 as usize % OUTGOING;
+    let a = f.n0 as usize % INCOMING;
     p.lists = lists(f, p.lists);
     p.channels[i] = channel(f, p.channels[i]);
     p.outgoing[s] = outgoing(f, input, p.outgoing[s]);

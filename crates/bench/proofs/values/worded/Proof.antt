@@ -4,9 +4,6 @@ use borrow.Author.Needs.{needs}
 use Rattle.bench.proofs.values.worded.Statement.{statement}
 use Rattle.bench.proofs.values.worded.Tie as tie
 
-cast-i : tie.Need-cast-i
-cast-i c = search needs
-
 mul-to : tie.Need-mul-to
 mul-to c = search needs
 
@@ -20,4 +17,4 @@ returns-2 : tie.Need-returns-2
 returns-2 c = rw (lt-ltb _ _ (c .if1 .left))
 
 pub worded-spec : {M : Type 1} → statement M
-worded-spec = tie.close (tie.spec cast-i mul-to array-write-to returns returns-2)
+worded-spec = tie.close (tie.spec mul-to array-write-to returns returns-2)
