@@ -10,8 +10,10 @@ use Rattle.parts.specs.Damage.{all, held, heldFit, own, lengths}
 use Rattle.peer.specs.Damage.{sound}
 use Rattle.setup.specs.Queueing.{queuedAt, queued, queuedAll}
 use Rattle.packets.specs.Packets.{cutFrom}
+use Rattle.dispatching.specs.Dispatching.{readyCount, readyLast}
+use Rattle.numbers.specs.Bits.{withBit}
 use Rattle.cases.specs.Cases.{cases, Hold}
 
 pub stated : (words : List ℕ) → Hold (cases words)
-unfolding layout total firstFrom countFrom exist once noLists noChannel noOutgoing noIncoming freshPeer sound all held heldFit own lengths queuedAt queued queuedAll cutFrom
+unfolding layout total firstFrom countFrom exist once noLists noChannel noOutgoing noIncoming freshPeer sound all held heldFit own lengths queuedAt queued queuedAll cutFrom readyCount readyLast withBit
 stated words = refl

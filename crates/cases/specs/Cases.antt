@@ -5,22 +5,27 @@ use mathlib.Core.Path.{_≡_}
 use mathlib.Core.Bool.{false}
 use mathlib.Core.List.{List, [], _∷_, _++_, map}
 use lib.IntN.{ℤ, pos, negsuc}
-use lib.ListN.{getD, take}
+use lib.ListN.{getD, take, set, replicate}
 use Rattle.numbers.specs.Clock.{sampled}
 use Rattle.throttle.specs.Throttling.{valueAfter}
 use Rattle.throttle.specs.Throttling.{answerAfter as turnAfter}
 use Rattle.throttle.specs.declared.Throttle.{Throttle}
 use Rattle.window.specs.Window.{answerAfter, baseAfter}
-use Rattle.slots.specs.Lists.{outItems}
-use Rattle.parts.specs.Fresh.{noOutgoing}
+use Rattle.slots.specs.Lists.{outItems, inItems}
+use Rattle.slots.specs.declared.incoming.InList.{InList}
+use Rattle.parts.specs.Fresh.{noOutgoing, noChannel}
+use Rattle.parts.specs.Updates.{withHeld, withLast}
+use Rattle.parts.specs.declared.groups.Incoming.{Incoming}
 use Rattle.peer.specs.Fresh.{freshPeer}
 use Rattle.peer.specs.States.{connected}
 use Rattle.peer.specs.Outcome.{Outcome}
+use Rattle.peer.specs.Updates.{withArrival}
 use Rattle.opening.specs.Calls.{begins, setsState}
 use Rattle.peer.specs.declared.settings.Settings.{Settings}
 use Rattle.peer.specs.declared.defaults.Kept.{Kept}
 use Rattle.peer.specs.declared.record.Peer.{Peer}
 use Rattle.sending.specs.Calls.{sends}
+use Rattle.dispatch.specs.Calls.{dispatches}
 
 pub record Case : Type 0 where
   pub given : List ℤ
@@ -63,6 +68,26 @@ waiting o =
 abbrev queues : ℕ → ℕ → List ℤ
 queues mtu length = waiting (sends (settings mtu) 0 length 1 (opened mtu))
 
+-- a whole packet of channel 0, or the record of so many fragments, complete
+abbrev came : ℕ → ℕ → Incoming
+came number fragments = record { byte = 0; channel = 0; number = record { 0 = number }; fragments = fragments; remaining = 0; length = 0 }
+
+-- a peer whose channel 0 had the number `last` as its last and holds three, in slots 0, 1 and 2
+abbrev holding : ℕ → Incoming → Incoming → Incoming → Peer
+holding last a b c =
+    let p = opened 576 in
+    let three : InList = record { len = 3; slots = 0 ∷ 1 ∷ 2 ∷ replicate 9 0 } in
+    withArrival p (p .lists) (p .groups) (p .waiting)
+    (set (p .channels) 0 (withHeld (withLast noChannel (record { 0 = last }) (record { 0 = 0 })) three))
+    (set (set (set (p .incoming) 0 a) 1 b) 2 c)
+
+-- the reply's number, the last number of channel 0, then the slots in dispatched
+abbrev moved : Outcome Peer → List ℤ
+moved o =
+    pos (o .answer .number)
+    ∷ pos (getD (o .after .channels) 0 noChannel .«incoming_reliable» .0)
+    ∷ map pos (inItems (o .after .lists .dispatched))
+
 abbrev pub cases : List ℕ → List Case
 cases words =
     record { given = verdictAndBase 0 words 32767; stated = pos 1 ∷ pos 31744 ∷ [] }  -- P1
@@ -75,6 +100,7 @@ cases words =
     ∷ record { given = rolled 100 10 32 120; stated = pos 32 ∷ pos 0 ∷ [] }
     ∷ record { given = queues 576 548; stated = pos 0 ∷ pos 548 ∷ [] }  -- P8
     ∷ record { given = queues 576 549; stated = pos 0 ∷ pos 548 ∷ pos 1 ∷ [] }
+    ∷ record { given = moved (dispatches (settings 576) 0 (holding 65534 (came 65535 0) (came 0 3) (came 3 0))); stated = pos 0 ∷ pos 3 ∷ pos 0 ∷ pos 1 ∷ pos 2 ∷ [] }  -- P9
     ∷ []
 
 -- every case of a list gives what is stated

@@ -1,4 +1,3 @@
-pub mod Arrived
 pub mod Receiving
 pub mod Sound
 pub mod Settled

@@ -28,7 +28,7 @@ use Rattle.peer.proofs.Clauses.{sound-clauses}
 use Rattle.receive.specs.Calls.{answerOf, withoutFirst, lowered, receivesFrom, receivesSound, receives}
 use Rattle.receive.specs.declared.Reply.{Reply}
 use Rattle.receive.specs.declared.Reply.the-variants as vr
-use Rattle.receive.proofs.Arrived.{Arrived, in-clauses, head-exists}
+use Rattle.peer.proofs.Arrived.{Arrived, in-clauses, head-exists}
 
 -- a list has its head
 pub first-cons : (xs : List ℕ) (s : ℕ) → first xs ≡ Slot s → xs ≡ s ∷ drop 1 xs

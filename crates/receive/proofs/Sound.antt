@@ -32,7 +32,7 @@ use Rattle.peer.specs.declared.record.Peer.{Peer}
 use Rattle.peer.proofs.Sound.{gated-sounds}
 use Rattle.peer.proofs.Clauses.{Clauses, sound-clauses, clauses-sound}
 use Rattle.receive.specs.Calls.{withoutFirst, taken, receivesFrom, receivesSound, receives}
-use Rattle.receive.proofs.Arrived.{Arrived, in-clauses, clauses-in, shorter-items, used-from, total-low, arrived-less}
+use Rattle.peer.proofs.Arrived.{Arrived, in-clauses, clauses-in, shorter-items, used-from, total-low, arrived-less}
 
 -- the lists fit their pools
 shorter-fits : (l : InList) → leb (l .len) incoming ≡ true → leb (inShorter l .len) incoming ≡ true

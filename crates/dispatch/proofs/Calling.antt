@@ -1,0 +1,91 @@
+-- Dispatch comes out as the rule says, where the gate is open: refused with 2, or done, with nothing ready or some. The argument: each part
+-- is given by its equation; a sound record's count is at most 8; a channel stored as it was leaves the record as it was.
+use Prim.Native.Nat.{ℕ, zero, suc, _≤_, _<_}
+use native.Mathlib.Nat.{le-of-suc-le-suc, not-suc-le-zero}
+use mathlib.Core.Path.{_≡_, refl}
+use mathlib.Core.List.{List, [], _∷_}
+use mathlib.Core.Bool.{Bool, true, false}
+use native.Mathlib.Omega.{arith}
+use lib.Dec.{leb, eqb}
+use lib.ListN.{length, getD}
+use lib.Seq.{set-getD}
+use borrow.Author.Tests.{eqb-true, leb-true, lt-ltb, le-ltb}
+use Rattle.numbers.specs.Pick.{pick, both}
+use Rattle.numbers.specs.Limits.{leastMtu, mostMtu}
+use Rattle.numbers.specs.declared.refusals.Refusal.the-variants.{InvalidChannel}
+use Rattle.numbers.proofs.BoolLaws.{both-right}
+use Rattle.slots.specs.Lists.{inItems}
+use Rattle.parts.specs.Sizes.{channels}
+use Rattle.parts.specs.Fresh.{noChannel}
+use Rattle.parts.specs.declared.groups.Channel.{Channel}
+use Rattle.peer.specs.Damage.{sound}
+use Rattle.peer.specs.Outcome.{Came}
+use Rattle.peer.specs.Calls.{answerOf}
+use Rattle.peer.specs.Gate.{fits, gateOf}
+use Rattle.peer.specs.declared.calls.Reply.the-variants.{Done, Refused}
+use Rattle.peer.specs.declared.settings.Settings.{Settings}
+use Rattle.peer.specs.declared.record.Peer.{Peer}
+use Rattle.peer.specs.declared.gate.Lent.the-variants.{Nothing}
+use Rattle.peer.specs.declared.gate.Gate.{Gate}
+use Rattle.peer.specs.declared.gate.Gate.the-variants.{Open}
+use Rattle.peer.proofs.Gates.{worthsOf, soundBy, came-open, open-sound}
+use Rattle.peer.proofs.Clauses.{sound-clauses}
+use Rattle.dispatching.specs.Dispatching.{readyCount, readyLast, movedOn, dispatchedBy}
+use Rattle.dispatching.specs.declared.Dispatched.{Dispatched}
+use Rattle.dispatch.specs.Calls.{withDispatch, dispatchedOn, dispatchesSound, dispatches}
+
+-- a place of a list holds the same, whatever would stand past its end
+pub at-any : {A : Type 0} (xs : List A) (i : ℕ) (d e : A) → i < length xs → getD xs i d ≡ getD xs i e
+at-any [] i d e h = absurd (not-suc-le-zero h)
+at-any (x ∷ xs) zero d e h = refl
+at-any (x ∷ xs) (suc i) d e h = at-any xs i d e (le-of-suc-le-suc h)
+
+-- a sound record has at most 8 channels
+pub count-low : (p : Peer) → sound p ≡ true → p .standing .count ≤ channels
+count-low p h =
+    let low = leb leastMtu (p .flow .mtu) in
+    let high = leb (p .flow .mtu) mostMtu in
+    let few = leb (p .standing .count) channels in
+    leb-true (p .standing .count) channels (both-right high few (both-right low (both high few) (sound-clauses p h .range)))
+
+-- the channel, how many of its list are ready, and the number that is then the last
+module _ (channel : ℕ) (p : Peer) where
+  abbrev pub chosen : Channel
+  chosen = getD (p .channels) channel noChannel
+
+  abbrev pub ready : ℕ
+  ready = readyCount (p .incoming) (inItems (chosen .held)) (chosen .«incoming_reliable» .0)
+
+  abbrev pub last : ℕ
+  last = readyLast (p .incoming) (inItems (chosen .held)) (chosen .«incoming_reliable» .0)
+
+  abbrev pub gone : Dispatched
+  gone = movedOn ready last chosen (p .lists) (p .groups)
+
+  -- a property that the record has where none is ready, and the record from which they went
+  pub dispatched-has : (P : Peer → Type 0) → (ready ≡ 0 → P p) → P (withDispatch channel gone p) → P (dispatchedOn channel p)
+  dispatched-has P none some = go (eqb ready 0) refl
+    where
+      go : (b : Bool) → eqb ready 0 ≡ b
+          → P (withDispatch channel (pick b (record { channel = chosen; lists = p .lists; groups = p .groups }) gone) p)
+      go true e = rw (set-getD (p .channels) channel noChannel) (none (eqb-true ready 0 e))
+      go false e = some
+
+-- ws and g are what the code answered
+module _ (s : Settings) (channel : ℕ) (p : Peer) (ws : List ℕ) (v : ws ≡ worthsOf p)
+    (g : Gate) (e : g ≡ gateOf (fits s Nothing) (soundBy p ws)) (opens : g ≡ Open) where
+  pub dispatch-refused : p .standing .count ≤ channel → Came answerOf (dispatches s channel p) (Refused InvalidChannel) p
+  dispatch-refused h =
+      came-open s Nothing p ws v g e p (dispatchesSound channel p) answerOf (Refused InvalidChannel) p opens
+      (rw (le-ltb channel (p .standing .count) h) (record { answer = refl; after = refl }))
+
+  module _ (h : channel < p .standing .count) where
+    pub channel-exists : channel < channels
+    channel-exists = omega (arith, h, count-low p (open-sound s Nothing p ws v g e opens))
+
+    -- c is the channel as the code read it, d what it made of it
+    pub dispatch-done : (c : Channel) (d : Dispatched) → c ≡ getD (p .channels) channel noChannel
+        → d ≡ dispatchedBy (p .incoming) c (p .lists) (p .groups) → Came answerOf (dispatches s channel p) Done (withDispatch channel d p)
+    dispatch-done c d q z =
+        came-open s Nothing p ws v g e p (dispatchesSound channel p) answerOf Done (withDispatch channel d p) opens
+        (rw (lt-ltb channel (p .standing .count) h) (record { answer = refl; after = rw (z, q) }))

@@ -1,0 +1,4 @@
+pub mod Calling
+pub mod Sums
+pub mod Sound
+pub mod Moving

@@ -1,0 +1,61 @@
+-- The turns of the walk over a channel's list, and two laws of numbers: a sum less 1, and a bit of value 1 in a word of 16.
+-- The argument: what is left of the list is the slot at place k and what is left after it; whether it follows picks the rule's case.
+use Prim.Native.Nat.{ℕ, suc, _+_, _-_, _/_, _%_, _≤_, _<_}
+use mathlib.Core.Path.{_≡_, refl, _∙_}
+use mathlib.Core.Bool.{Bool, true, false}
+use mathlib.Core.List.{List}
+use native.Mathlib.Omega.{arith}
+use lib.ListN.{length, take, drop, getD}
+use borrow.Author.Tests.{eqb-false}
+use Rattle.numbers.specs.Pick.{pick}
+use Rattle.numbers.specs.Bits.{bit, withBit}
+use Rattle.runs.proofs.Views.{part-step, part-end}
+use Rattle.parts.specs.Fresh.{noIncoming}
+use Rattle.parts.specs.declared.groups.Incoming.{Incoming}
+use Rattle.dispatching.specs.Dispatching.{follows, numberAfter, readyCount, readyLast}
+
+-- i is the slot at place k, b whether it follows
+module _ (slots : List Incoming) (xs : List ℕ) (n k last : ℕ) (e : n ≤ length xs) (h : k < n)
+    (i : Incoming) (is : i ≡ getD slots (getD xs k 0) noIncoming) (b : Bool) (asked : b ≡ follows last i) where
+  count-step : readyCount slots (drop k (take n xs)) last ≡ pick b (suc (readyCount slots (drop (k + 1) (take n xs)) (numberAfter i))) 0
+  unfolding readyCount
+  count-step = rw (part-step xs k n 0 h (omega arith), asked, is)
+
+  last-step : readyLast slots (drop k (take n xs)) last ≡ pick b (readyLast slots (drop (k + 1) (take n xs)) (numberAfter i)) last
+  unfolding readyLast
+  last-step = rw (part-step xs k n 0 h (omega arith), asked, is)
+
+  pub count-stop : b ≡ false → readyCount slots (drop k (take n xs)) last ≡ 0
+  count-stop q = count-step ∙ rw q
+
+  pub last-stop : b ≡ false → readyLast slots (drop k (take n xs)) last ≡ last
+  last-stop q = last-step ∙ rw q
+
+  module _ (q : b ≡ true) (next : ℕ) (left : next ≡ numberAfter i) where
+    pub count-turn : readyCount slots (drop k (take n xs)) last ≡ suc (readyCount slots (drop (k + 1) (take n xs)) next)
+    count-turn = count-step ∙ rw (q, left)
+
+    pub last-turn : readyLast slots (drop k (take n xs)) last ≡ readyLast slots (drop (k + 1) (take n xs)) next
+    last-turn = last-step ∙ rw (q, left)
+
+-- the list is at its end
+pub count-end : (slots : List Incoming) (xs : List ℕ) (n k last : ℕ) → n ≤ k → readyCount slots (drop k (take n xs)) last ≡ 0
+unfolding readyCount
+count-end slots xs n k last h = rw (part-end xs k n h)
+
+pub last-end : (slots : List Incoming) (xs : List ℕ) (n k last : ℕ) → n ≤ k → readyLast slots (drop k (take n xs)) last ≡ last
+unfolding readyLast
+last-end slots xs n k last h = rw (part-end xs k n h)
+
+-- 1 from one of two numbers, or from their sum
+pub minus-in-sum : (a k : ℕ) → (k ≡ 0 → ⊥) → (a + k - 1) % 65536 ≡ (a + (k - 1)) % 65536
+minus-in-sum a k h = let e : a + k - 1 ≡ a + (k - 1) = omega (arith, h) in rw e
+
+-- a word of 16 bits has room for its first bit
+pub bit-stays : (x : ℕ) → x < 65536 → withBit x 0 % 65536 ≡ withBit x 0
+unfolding withBit
+bit-stays x h = go (bit x 0) refl
+  where
+    go : (b : Bool) → bit x 0 ≡ b → pick b x (x + 1) % 65536 ≡ pick b x (x + 1)
+    go true e = omega arith
+    go false e = omega (arith, eqb-false (x / 1 % 2) 1 e)
