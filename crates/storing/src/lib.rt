@@ -4,7 +4,7 @@ ghost use Prim.Native.Nat.{_+_, _≤_};
 ghost use lib.ListN.{length, drop, replicate};
 ghost use lib.Seq.{paste};
 ghost use Rattle.runs.specs.Free.{markedAll};
-ghost use Rattle.slots.specs.Lists.{incoming};
+ghost use Rattle.slots.specs.Lists.{incoming, inItems};
 ghost use Rattle.parts.specs.Damage.{below, usedIn};
 ghost use Rattle.storing.specs.Storing.{freeSlot, slotOf, awaiting, filled};
 use numbers::counters::Reliable;
@@ -16,22 +16,30 @@ use parts::groups::Lists;
 use parts::groups::Waiting;
 use runs::Free;
 use slots::INCOMING;
+use slots::incoming::InList;
 use slots::marks;
+
+// The slots that a list names have a mark too.
+fn mark(all: [u8; INCOMING], list: InList) -> [u8; INCOMING]
+    ensures { λ r. ⌜ r ≡ markedAll all (inItems list) ⌝ }
+{
+    let mut more = all;
+    let cells = list.slots;
+    runs::marks::mark(&mut more, &cells, list.len as usize);
+    more
+}
 
 // The slots that dispatched and the channels below the count name have a mark.
 fn marks_of(lists: Lists, channels: [Channel; CHANNELS], count: u32) -> [u8; INCOMING]
     ensures { λ r. ⌜ r ≡ markedAll (replicate incoming 0) (usedIn lists (below channels count)) ⌝ }
 {
-    let dispatched = lists.dispatched;
-    let mut all = [0u8; INCOMING];
-    let first = dispatched.slots;
-    runs::marks::mark(&mut all, &first, dispatched.len as usize);
+    let none = [0u8; INCOMING];
+    let mut all = mark(none, lists.dispatched);
     let mut k: usize = 0;
     while k < CHANNELS && k < count as usize {
         let channel = channels[k];
-        let held = channel.held;
-        let cells = held.slots;
-        runs::marks::mark(&mut all, &cells, held.len as usize);
+        let more = mark(all, channel.held);
+        all = more;
         k = k + 1;
     }
     all

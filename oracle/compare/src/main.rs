@@ -111,8 +111,8 @@ fn pack(seed: &str, count: &str) -> Result<ExitCode, String> {
     Ok(if same { ExitCode::SUCCESS } else { ExitCode::FAILURE })
 }
 
-/// What the repository stores for replay: each kind of damage, random records, the rules of sending and some
-/// sequences, then every other op.
+/// What the repository stores for replay: each kind of damage, random records, the rules of sending, some
+/// sequences of sending and of dispatch and receive, then every other op.
 fn write_vectors(script: &str, lines: &str) -> Result<ExitCode, String> {
     let plan = script::Plan { seed: 1, count: 3_000, choice: script::Choice::named(None)? };
     written(script, lines, |output| {
@@ -120,6 +120,7 @@ fn write_vectors(script: &str, lines: &str) -> Result<ExitCode, String> {
         records::write(output, 3, 150)?;
         rules::write(output)?;
         sending::write(output, 5, 250)?;
+        arriving::write(output, 7, 250)?;
         plan.write(output)
     })
 }

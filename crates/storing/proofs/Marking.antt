@@ -1,0 +1,34 @@
+-- The loop over the channels: a turn marks what one channel holds, and past the last one nothing is left to mark.
+-- The argument: marks of two lists one after the other are those of the two joined.
+use Prim.Native.Nat.{ℕ, _+_, _<_}
+use mathlib.Core.Path.{_≡_, sym, ap, _∙_}
+use mathlib.Core.List.{List, []}
+use lib.ListN.{length, take, drop, getD, replicate}
+use Rattle.runs.specs.Free.{markedAll}
+use Rattle.runs.proofs.Marked.{marked-append}
+use Rattle.runs.proofs.Views.{part-step}
+use Rattle.slots.specs.Lists.{incoming, inItems}
+use Rattle.parts.specs.Damage.{held, usedIn}
+use Rattle.parts.specs.declared.groups.Channel.{Channel}
+use Rattle.parts.specs.declared.groups.Lists.{Lists}
+
+pub marks-turn : (m after : List ℕ) (cs : List Channel) (n k : ℕ) (d : Channel) → k < n → k < length cs → after ≡ markedAll m (inItems (getD cs k d .held))
+    → markedAll m (held (drop k (take n cs))) ≡ markedAll after (held (drop (k + 1) (take n cs)))
+unfolding held
+marks-turn m after cs n k d p q e =
+    rw (part-step cs k n d p q, e) (marked-append m (inItems (getD cs k d .held)) (held (drop (k + 1) (take n cs))))
+
+marks-end : (m : List ℕ) (cs : List Channel) → cs ≡ [] → markedAll m (held cs) ≡ m
+unfolding held markedAll
+marks-end m cs e = rw e
+
+-- where no channel is left, the marks are those of dispatched and the channels joined
+pub marks-joined : (first all : List ℕ) (l : Lists) (cs rest : List Channel) → first ≡ markedAll (replicate incoming 0) (inItems (l .dispatched))
+    → markedAll first (held cs) ≡ markedAll all (held rest)
+    → rest ≡ []
+    → all ≡ markedAll (replicate incoming 0) (usedIn l cs)
+marks-joined first all l cs rest e so end =
+    sym (marked-append (replicate incoming 0) (inItems (l .dispatched)) (held cs)
+    ∙ ap (λ (m : List ℕ). markedAll m (held cs)) (sym e)
+    ∙ so
+    ∙ marks-end all rest end)
