@@ -1,3 +1,4 @@
-// Ops 20 to 22 of SCRIPT.md, on the groups of the record: "the bench's own: they make any record, sound or damaged, for the next call".
+// Ops 20 to 24 of SCRIPT.md, on the groups of the record: "the bench's own: they make any record, sound or damaged, for the next call".
 pub mod cells;
+pub mod pools;
 pub mod values;

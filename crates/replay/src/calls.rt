@@ -9,13 +9,14 @@ use script::line;
 use stamps::pieces::Piece;
 
 // The reply goes into the line, the record on.
-pub(crate) fn told(called: Called) -> Peer {
+pub(crate) fn call(f: Frame, input: &[u8], settings: Settings, peer: Peer) -> Peer {
+    let called = made(f, input, settings, peer);
     let reply = called.reply;
     line::value(number(reply));
     called.peer
 }
 
-pub(crate) fn made(f: Frame, input: &[u8], settings: Settings, peer: Peer) -> Called {
+fn made(f: Frame, input: &[u8], settings: Settings, peer: Peer) -> Called {
     let op = f.op;
     match op {
         1 => opening::reset(peer, settings),

@@ -42,9 +42,9 @@ fn asked(input: &[u8], store: &[u8]) -> Frame {
 fn changed(f: Frame, input: &[u8], settings: Settings, peer: Peer) -> Peer {
     let op = f.op;
     match op {
-        1..=6 | 12 => calls::told(calls::made(f, input, settings, peer)),
-        7 => steps::told(sendstep::calls::step(peer, settings, steps::queue(f.n0), f.n1)),
-        13 => receives::told(receive::receive(peer, settings)),
+        1..=6 | 12 => calls::call(f, input, settings, peer),
+        7 => steps::call(f, settings, peer),
+        13 => receives::call(settings, peer),
         20 => setters::number(f.n0, f.n1, peer),
         21..=24 => setters::part(f, input, peer),
         _ => peer,

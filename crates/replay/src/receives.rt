@@ -1,11 +1,12 @@
 // Op 13: receive.
 use peer::record::Peer;
-use receive::Received;
+use peer::settings::Settings;
 use receive::Reply;
 use script::line;
 
 // The reply goes into the line, the record on.
-pub(crate) fn told(received: Received) -> Peer {
+pub(crate) fn call(settings: Settings, peer: Peer) -> Peer {
+    let received = receive::receive(peer, settings);
     let reply = received.reply;
     tell(reply);
     received.peer

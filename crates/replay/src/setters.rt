@@ -1,5 +1,6 @@
 // Ops 20 to 24: the bench's own changes of the record, sound or not. The frame was seen to fit.
 use bench::cells;
+use bench::pools;
 use bench::values;
 use numbers::counters::Reliable;
 use numbers::counters::Unreliable;
@@ -11,8 +12,6 @@ use parts::groups::Outgoing;
 use peer::record::Peer;
 use script::frames;
 use script::frames::Frame;
-use slots::INCOMING;
-use slots::OUTGOING;
 
 // Op 20: each group, which changes where the number is its own.
 pub(crate) fn number(which: u32, x: u32, mut p: Peer) -> Peer {
@@ -33,13 +32,17 @@ pub(crate) fn number(which: u32, x: u32, mut p: Peer) -> Peer {
 
 // Ops 21 to 24: each part, which changes where the op is its own.
 pub(crate) fn part(f: Frame, input: &[u8], mut p: Peer) -> Peer {
-    let i = f.n0 as usize % CHANNELS;
-    let s = f.n0 as usize % OUTGOING;
-    let a = f.n0 as usize % INCOMING;
+    let all = p.channels;
+    let out_pool = p.outgoing;
+    let in_pool = p.incoming;
+    let c = channel(f, all[f.n0 as usize % CHANNELS]);
+    let all = pools::channels(f.n0, c, all);
+    let out_pool = pools::outgoing(f.op == 23, f.n0, outgoing(f, input), out_pool);
+    let in_pool = pools::incoming(f.op == 24, f.n0, incoming(f), in_pool);
     p.lists = lists(f, p.lists);
-    p.channels[i] = channel(f, p.channels[i]);
-    p.outgoing[s] = outgoing(f, input, p.outgoing[s]);
-    p.incoming[a] = incoming(f, p.incoming[a]);
+    p.channels = all;
+    p.outgoing = out_pool;
+    p.incoming = in_pool;
     p
 }
 
@@ -61,10 +64,7 @@ fn channel(f: Frame, c: Channel) -> Channel {
     c
 }
 
-fn outgoing(f: Frame, input: &[u8], slot: Outgoing) -> Outgoing {
-    if f.op != 23 {
-        return slot;
-    }
+fn outgoing(f: Frame, input: &[u8]) -> Outgoing {
     let reliable = Reliable(frames::short(f.n1));
     let unreliable = Unreliable(frames::short(f.n2));
     let command = commands::command(input, 10, 11);
@@ -82,10 +82,7 @@ fn outgoing(f: Frame, input: &[u8], slot: Outgoing) -> Outgoing {
     }
 }
 
-fn incoming(f: Frame, slot: Incoming) -> Incoming {
-    if f.op != 24 {
-        return slot;
-    }
+fn incoming(f: Frame) -> Incoming {
     let number = Reliable(frames::short(f.n3));
     Incoming {
         byte: frames::byte(f.n1),

@@ -1,20 +1,23 @@
 // Op 7: the send step.
 use parts::groups::Outgoing;
 use peer::record::Peer;
+use peer::settings::Settings;
+use script::frames::Frame;
 use script::line;
 use script::row::Row;
+use sendstep::calls;
 use sendstep::calls::Reply;
-use sendstep::calls::Stepped;
 use sendstep::heads::Queue;
 
 // The reply goes into the line, the record on.
-pub(crate) fn told(stepped: Stepped) -> Peer {
+pub(crate) fn call(f: Frame, settings: Settings, peer: Peer) -> Peer {
+    let stepped = calls::step(peer, settings, queue(f.n0), f.n1);
     let reply = stepped.reply;
     tell(reply);
     stepped.peer
 }
 
-pub(crate) fn queue(list: u32) -> Queue {
+fn queue(list: u32) -> Queue {
     if list == 0 {
         Queue::Outgoing
     } else {
