@@ -1,4 +1,5 @@
 // Ops 20 to 24 of SCRIPT.md, on the groups of the record: "the bench's own: they make any record, sound or damaged, for the next call".
 pub mod cells;
 pub mod pools;
+pub mod sets;
 pub mod values;

@@ -1,14 +1,11 @@
 // Ops 20 to 24: the bench's own changes of the record, sound or not. The frame was seen to fit.
 use bench::cells;
 use bench::pools;
+use bench::sets;
 use bench::values;
-use numbers::counters::Reliable;
-use numbers::counters::Unreliable;
 use parts::groups::CHANNELS;
 use parts::groups::Channel;
-use parts::groups::Incoming;
 use parts::groups::Lists;
-use parts::groups::Outgoing;
 use peer::record::Peer;
 use script::frames;
 use script::frames::Frame;
@@ -36,9 +33,10 @@ pub(crate) fn part(f: Frame, input: &[u8], mut p: Peer) -> Peer {
     let out_pool = p.outgoing;
     let in_pool = p.incoming;
     let c = channel(f, all[f.n0 as usize % CHANNELS]);
+    let command = commands::command(input, 10, 11);
     let all = pools::channels(f.n0, c, all);
-    let out_pool = pools::outgoing(f.op == 23, f.n0, outgoing(f, input), out_pool);
-    let in_pool = pools::incoming(f.op == 24, f.n0, incoming(f), in_pool);
+    let out_pool = pools::outgoing(f.op == 23, f.n0, sets::outgoing(f, command), out_pool);
+    let in_pool = pools::incoming(f.op == 24, f.n0, sets::incoming(f), in_pool);
     p.lists = lists(f, p.lists);
     p.channels = all;
     p.outgoing = out_pool;
@@ -62,34 +60,4 @@ fn channel(f: Frame, c: Channel) -> Channel {
         return cells::held(f.n1, frames::short(f.n2), c);
     }
     c
-}
-
-fn outgoing(f: Frame, input: &[u8]) -> Outgoing {
-    let reliable = Reliable(frames::short(f.n1));
-    let unreliable = Unreliable(frames::short(f.n2));
-    let command = commands::command(input, 10, 11);
-    Outgoing {
-        reliable,
-        unreliable,
-        sent: f.n3,
-        timeout: f.n4,
-        queued: f.n5,
-        offset: f.n6,
-        length: frames::short(f.n7),
-        attempts: frames::short(f.n8),
-        packet: f.n9 == 1,
-        command,
-    }
-}
-
-fn incoming(f: Frame) -> Incoming {
-    let number = Reliable(frames::short(f.n3));
-    Incoming {
-        byte: frames::byte(f.n1),
-        channel: frames::byte(f.n2),
-        number,
-        fragments: f.n4,
-        remaining: f.n5,
-        length: f.n6,
-    }
 }
