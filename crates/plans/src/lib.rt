@@ -1,5 +1,6 @@
 // What a send is to do: whether it is refused, and which commands it queues.
 ghost use mathlib.Core.Path.{_≡_};
+ghost use Rattle.parts.specs.Updates.{withReliable, withOutgoingGroup, withNumbers};
 ghost use Rattle.packets.specs.Packets.{pieceCount};
 ghost use Rattle.plans.specs.Refusals.{sendGate, queueGate};
 ghost use Rattle.plans.specs.Plans.{packetOf, countOf, pieceAt, nextAt, planOf};
@@ -8,10 +9,14 @@ use numbers::counters::Reliable;
 use numbers::counters::Unreliable;
 use numbers::refusals::Refusal;
 use packets::Cut;
+use parts::groups::Channel;
+use parts::groups::Flow;
+use parts::groups::Groups;
 use parts::groups::Standing;
 use peer::gate::Gate;
 use peer::record::Peer;
 use peer::settings::Settings;
+use stamps::counting::Counters;
 use stamps::pieces::Piece;
 
 // A packet as it goes out: in one command, or cut.
@@ -144,4 +149,34 @@ pub fn judge(
         return Plan::Refused(why);
     }
     Plan::Queue(packet)
+}
+
+// What the counters leave in the groups, once all is queued.
+pub fn flow_after(flow: Flow, k: Counters) -> Flow
+    ensures { λ r. ⌜ r ≡ withReliable flow (k .own) ⌝ }
+{
+    let own = k.own;
+    let mut f = flow;
+    f.reliable = own;
+    f
+}
+
+pub fn groups_after(groups: Groups, k: Counters) -> Groups
+    ensures { λ r. ⌜ r ≡ withOutgoingGroup groups (k .group) ⌝ }
+{
+    let group = k.group;
+    let mut g = groups;
+    g.outgoing = group;
+    g
+}
+
+pub fn channel_after(channel: Channel, k: Counters) -> Channel
+    ensures { λ r. ⌜ r ≡ withNumbers channel (k .reliable) (k .unreliable) ⌝ }
+{
+    let reliable = k.reliable;
+    let unreliable = k.unreliable;
+    let mut c = channel;
+    c.outgoing_reliable = reliable;
+    c.outgoing_unreliable = unreliable;
+    c
 }

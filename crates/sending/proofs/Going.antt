@@ -20,6 +20,8 @@ use Rattle.parts.specs.Sizes.{channels}
 use Rattle.parts.specs.Damage.{usedOut}
 use Rattle.parts.specs.Updates.{withOutgoingTotal, withReliable, withOutgoingGroup, withQueued, withNumbers}
 use Rattle.parts.specs.declared.groups.Channel.{Channel}
+use Rattle.parts.specs.declared.groups.Flow.{Flow}
+use Rattle.parts.specs.declared.groups.Groups.{Groups}
 use Rattle.peer.specs.Damage.{sound}
 use Rattle.peer.specs.Outcome.{Came, finished}
 use Rattle.peer.specs.Gate.{fits, gateOf, then, behind}
@@ -270,17 +272,19 @@ module _ (s : Settings) (channel n flags : ℕ) (p : Peer) (ws : List ℕ) (v : 
           same = rw (start-left, stored-is, pieces-are);
         })
 
-    -- c is the channel as the code read it
-    pub send-left : (count : ℕ) (r : Peer) (o′ : Outbox) (j offset : ℕ) → Going x count channel p r o′ j offset → count ≤ j → (c : Channel) → c ≡ channelAt (r .channels) channel
+    -- own is the channel as the code read it; c, flow and groups are what it made
+    pub send-left : (count : ℕ) (r : Peer) (o′ : Outbox) (j offset : ℕ) → Going x count channel p r o′ j offset → count ≤ j
+        → (own c : Channel) (flow : Flow) (groups : Groups) → own ≡ channelAt (r .channels) channel
+        → c ≡ withNumbers own (o′ .counters .reliable) (o′ .counters .unreliable) → flow ≡ withReliable (r .flow) (o′ .counters .own)
+        → groups ≡ withOutgoingGroup (r .groups) (o′ .counters .group)
         → Came answerOf (sends s channel n flags p) Done
-        (renewed r (r .standing) (withOutgoingTotal (r .totals) (o′ .total)) (r .times) (r .loss) (withReliable (r .flow) (o′ .counters .own)) (o′ .lists)
-        (withOutgoingGroup (r .groups) (o′ .counters .group)) (withQueued (r .waiting) (o′ .queued))
-        (set (r .channels) channel (withNumbers c (o′ .counters .reliable) (o′ .counters .unreliable))) (r .outgoing))
-    send-left count r o′ j offset t h c ce =
+        (renewed r (r .standing) (withOutgoingTotal (r .totals) (o′ .total)) (r .times) (r .loss) flow (o′ .lists)
+        groups (withQueued (r .waiting) (o′ .queued)) (set (r .channels) channel c) (r .outgoing))
+    send-left count r o′ j offset t h own c flow groups oe′ ce fe′ ge =
         came-open s Nothing p ws v g e p (sendsSound s channel n flags p) answerOf Done _ passed
         (rw (send-is, behind-open gates p (finished (queuedAll xs p)) opened)
         (record {
           answer = refl;
           after =
-              rw ce (sym (ap (λ (l : List Piece). queuedAll l p) (sym pieces-are) ∙ going-end x count channel p r o′ j offset t h));
+              rw (ce, oe′, fe′, ge) (sym (ap (λ (l : List Piece). queuedAll l p) (sym pieces-are) ∙ going-end x count channel p r o′ j offset t h));
         }))

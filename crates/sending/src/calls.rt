@@ -88,18 +88,11 @@ pub fn send(peer: Peer, settings: Settings, channel: u8, length: u32, flags: u32
         j = j + 1;
     }
     let k = o.counters;
-    let own = k.own;
-    let reliable = k.reliable;
-    let unreliable = k.unreliable;
-    let group = k.group;
-    let mut flow = p.flow;
-    flow.reliable = own;
-    let mut groups = p.groups;
-    groups.outgoing = group;
     let i = channel as usize;
-    let mut c = p.channels[i];
-    c.outgoing_reliable = reliable;
-    c.outgoing_unreliable = unreliable;
+    let own = p.channels[i];
+    let c = plans::channel_after(own, k);
+    let flow = plans::flow_after(p.flow, k);
+    let groups = plans::groups_after(p.groups, k);
     let joined = o.lists;
     p.totals.outgoing = o.total;
     p.waiting.queued = o.queued;

@@ -164,29 +164,38 @@ loop-again c =
     going-turn (k .0 .0) (n .count-of .result) _ _ (l .p) (l .o) (l .j) (l .offset) (l .inv) (y .before .loop-test .taken) (y .piece-at .result) (y .piece-at .ensures)
     (q .queue .result) (q .queue .ensures) (c .next-at .result) (c .next-at .ensures)
 
+mul-own : tie.Need-mul-own Inv-loop μ-loop
+mul-own c =
+    let h = c .before .before .loop .inv .within in
+    search needs
+
+element-copy-out-own : tie.Need-element-copy-out-own Inv-loop μ-loop
+element-copy-out-own c =
+    let h = c .before .before .loop .inv .within in
+    search needs
+
+channel-after-requires : tie.Need-channel-after-requires Inv-loop μ-loop
+channel-after-requires c κs = search needs
+
+flow-after-requires : tie.Need-flow-after-requires Inv-loop μ-loop
+flow-after-requires c κs = search needs
+
+groups-after-requires : tie.Need-groups-after-requires Inv-loop μ-loop
+groups-after-requires c κs = search needs
+
 mul-c : tie.Need-mul-c Inv-loop μ-loop
 mul-c c =
-    let h = c .before .before .before .before .before .before .before .before .loop .inv .within in
-    search needs
-
-element-copy-out-c : tie.Need-element-copy-out-c Inv-loop μ-loop
-element-copy-out-c c =
-    let h = c .before .before .before .before .before .before .before .before .loop .inv .within in
-    search needs
-
-mul-c-2 : tie.Need-mul-c-2 Inv-loop μ-loop
-mul-c-2 c =
-    let h = c .before .before .before .before .before .before .before .before .before .before .before .before .loop .inv .within in
+    let h = c .before .before .before .before .before .before .before .before .before .before .before .loop .inv .within in
     search needs
 
 element-set-from-c : tie.Need-element-set-from-c Inv-loop μ-loop
 element-set-from-c c =
-    let h = c .before .before .before .before .before .before .before .before .before .before .before .before .loop .inv .within in
+    let h = c .before .before .before .before .before .before .before .before .before .before .before .loop .inv .within in
     search needs
 
 returns-3 : tie.Need-returns-3 Inv-loop μ-loop
 returns-3 c =
-    let n = c .before .before .before .before .before .before .before .before .before .before .before in
+    let n = c .before .before .before .before .before .before .before .before .before .before in
     let l = n .before in
     let m = l .before in
     let j = m .before .before .before .before in
@@ -209,7 +218,9 @@ returns-3 c =
     send-left (a .settings) (a .channel) (a .length) (a .flags) (a .peer) (w .worths .result) (w .worths .ensures) (g .pass .result) (g .pass .ensures)
     (t .enum-told .given .1) (o .«open» .result) (o .«open» .ensures) (f .fragment-length .result) (j .before .room .result)
     (f .fragment-length .ensures) (j .before .room .ensures) (j .judge .result) (j .judge .ensures) whole (k .0 .0) (k .1) (m .count-of .result) (l .loop .p) (l .loop .o) (l .loop .j) (l .loop .offset) (l .loop .inv)
-    (n .loop-test .left) _ (channel-here (l .loop .p .channels) (a .channel) (l .loop .inv .here))
+    (n .loop-test .left) _ (c .before .before .before .before .before .before .before .channel-after .result) (c .before .before .before .before .before .flow-after .result) (c .before .before .before .groups-after .result)
+    (channel-here (l .loop .p .channels) (a .channel) (l .loop .inv .here)) (c .before .before .before .before .before .before .before .channel-after .ensures) (c .before .before .before .before .before .flow-after .ensures)
+    (c .before .before .before .groups-after .ensures)
 
 pub send-spec : {M : Type 1} → statement M
 send-spec =
@@ -240,8 +251,11 @@ send-spec =
     add-j
     loop-less
     loop-again
+    mul-own
+    element-copy-out-own
+    channel-after-requires
+    flow-after-requires
+    groups-after-requires
     mul-c
-    element-copy-out-c
-    mul-c-2
     element-set-from-c
     returns-3)
