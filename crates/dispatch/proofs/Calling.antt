@@ -1,7 +1,6 @@
 -- Dispatch comes out as the rule says, where the gate is open: refused with 2, or done, with nothing ready or some. The argument: each part
 -- is given by its equation; a sound record's count is at most 8; a channel stored as it was leaves the record as it was.
-use Prim.Native.Nat.{ℕ, zero, suc, _≤_, _<_}
-use native.Mathlib.Nat.{le-of-suc-le-suc, not-suc-le-zero}
+use Prim.Native.Nat.{ℕ, _≤_, _<_}
 use mathlib.Core.Path.{_≡_, refl}
 use mathlib.Core.List.{List, [], _∷_}
 use mathlib.Core.Bool.{Bool, true, false}
@@ -11,9 +10,7 @@ use lib.ListN.{length, getD}
 use lib.Seq.{set-getD}
 use borrow.Author.Tests.{eqb-true, leb-true, lt-ltb, le-ltb}
 use Rattle.numbers.specs.Pick.{pick, both}
-use Rattle.numbers.specs.Limits.{leastMtu, mostMtu}
 use Rattle.numbers.specs.declared.refusals.Refusal.the-variants.{InvalidChannel}
-use Rattle.numbers.proofs.BoolLaws.{both-right}
 use Rattle.slots.specs.Lists.{inItems}
 use Rattle.parts.specs.Sizes.{channels}
 use Rattle.parts.specs.Fresh.{noChannel}
@@ -29,24 +26,10 @@ use Rattle.peer.specs.declared.gate.Lent.the-variants.{Nothing}
 use Rattle.peer.specs.declared.gate.Gate.{Gate}
 use Rattle.peer.specs.declared.gate.Gate.the-variants.{Open}
 use Rattle.peer.proofs.Gates.{worthsOf, soundBy, came-open, open-sound}
-use Rattle.peer.proofs.Clauses.{sound-clauses}
+use Rattle.peer.proofs.Ranges.{count-high}
 use Rattle.dispatching.specs.Dispatching.{readyCount, readyLast, movedOn, dispatchedBy}
 use Rattle.dispatching.specs.declared.Dispatched.{Dispatched}
 use Rattle.dispatch.specs.Calls.{withDispatch, dispatchedOn, dispatchesSound, dispatches}
-
--- a place of a list holds the same, whatever would stand past its end
-pub at-any : {A : Type 0} (xs : List A) (i : ℕ) (d e : A) → i < length xs → getD xs i d ≡ getD xs i e
-at-any [] i d e h = absurd (not-suc-le-zero h)
-at-any (x ∷ xs) zero d e h = refl
-at-any (x ∷ xs) (suc i) d e h = at-any xs i d e (le-of-suc-le-suc h)
-
--- a sound record has at most 8 channels
-pub count-low : (p : Peer) → sound p ≡ true → p .standing .count ≤ channels
-count-low p h =
-    let low = leb leastMtu (p .flow .mtu) in
-    let high = leb (p .flow .mtu) mostMtu in
-    let few = leb (p .standing .count) channels in
-    leb-true (p .standing .count) channels (both-right high few (both-right low (both high few) (sound-clauses p h .range)))
 
 -- the channel, how many of its list are ready, and the number that is then the last
 module _ (channel : ℕ) (p : Peer) where
@@ -81,7 +64,7 @@ module _ (s : Settings) (channel : ℕ) (p : Peer) (ws : List ℕ) (v : ws ≡ w
 
   module _ (h : channel < p .standing .count) where
     pub channel-exists : channel < channels
-    channel-exists = omega (arith, h, count-low p (open-sound s Nothing p ws v g e opens))
+    channel-exists = omega (arith, h, count-high p (open-sound s Nothing p ws v g e opens))
 
     -- c is the channel as the code read it, d what it made of it
     pub dispatch-done : (c : Channel) (d : Dispatched) → c ≡ getD (p .channels) channel noChannel

@@ -24,7 +24,8 @@ use Rattle.peer.specs.declared.gate.Lent.the-variants as lent
 use Rattle.peer.specs.declared.gate.Gate.{Gate}
 use Rattle.peer.proofs.Gates.{sound-open, behind-has, behind-open, behind-done}
 use Rattle.dispatch.specs.Calls.{dispatchGate, withDispatch, dispatchedOn, dispatchesSound, dispatches}
-use Rattle.dispatch.proofs.Calling.{count-low, chosen, ready, gone, dispatched-has}
+use Rattle.peer.proofs.Ranges.{count-high}
+use Rattle.dispatch.proofs.Calling.{chosen, ready, gone, dispatched-has}
 use Rattle.dispatch.proofs.Sound.{room-there, below-count}
 
 abbrev gate : Settings → Peer → Gate
@@ -87,7 +88,7 @@ module _ (channel : ℕ) (p : Peer) where
     dispatch-order good h = dispatched-has channel p Orders none some
       where
         here : channel < length (p .channels)
-        here = omega (arith, h, count-low p good, whole .channels)
+        here = omega (arith, h, count-high p good, whole .channels)
 
         enough : leb (length before + length (take (ready channel p) held)) incoming ≡ true
         enough =

@@ -38,8 +38,9 @@ use Rattle.peer.proofs.Clauses.{sound-clauses, clauses-sound, all-at, at-all}
 use Rattle.dispatching.specs.Dispatching.{movedOn}
 use Rattle.dispatching.specs.declared.Dispatched.{Dispatched}
 use Rattle.dispatch.specs.Calls.{dispatchGate, withDispatch, dispatchedOn, dispatchesSound, dispatches}
-use Rattle.peer.proofs.Arrived.{Arrived, in-clauses, clauses-in}
-use Rattle.dispatch.proofs.Calling.{count-low, chosen, ready, last, dispatched-has}
+use Rattle.peer.proofs.Arrived.{Arrived, arrived, clauses-in}
+use Rattle.peer.proofs.Ranges.{count-high}
+use Rattle.dispatch.proofs.Calling.{chosen, ready, last, dispatched-has}
 use Rattle.dispatch.proofs.Sums.{Moves, held-within, left-less, moved-sum, used-same}
 
 -- ---- the channels' lists, one of them changed
@@ -125,19 +126,16 @@ module _ (channel : ℕ) (p : Peer) (whole : Whole p) (good : sound p ≡ true) 
   abbrev old : Channel
   old = chosen channel p
 
-  arrived : Arrived (p .incoming) (p .lists) cs (p .standing .count) (p .waiting .total)
-  arrived = in-clauses (p .incoming) (p .lists) cs (p .standing .count) (p .waiting .total) (sound-clauses p good .arrived)
-
   old-is : getD cs channel noChannel ≡ old
   old-is = getD-take (p .standing .count) (p .channels) channel noChannel h
 
   here : channel < length cs
-  here = omega (arith, h, count-low p good, length-take (p .standing .count) (p .channels), whole .channels)
+  here = omega (arith, h, count-high p good, length-take (p .standing .count) (p .channels), whole .channels)
 
   -- dispatched has room for the whole list
   pub room-there : length (inItems (p .lists .dispatched)) + length (inItems (old .held)) ≤ incoming
   room-there =
-      rw old-is at (room (p .incoming) (p .lists) cs (p .standing .count) (p .waiting .total) arrived channel here)
+      rw old-is at (room (p .incoming) (p .lists) cs (p .standing .count) (p .waiting .total) (arrived p good) channel here)
 
   module _ (k n : ℕ) where
     abbrev moved : Dispatched
@@ -175,7 +173,7 @@ module _ (channel : ℕ) (p : Peer) (whole : Whole p) (good : sound p ≡ true) 
           arrived =
               ap (λ (xs : List Channel). inSound (p .incoming) (moved .lists) xs count (p .waiting .total)) now
               ∙ clauses-in (p .incoming) (moved .lists) (set cs channel (moved .channel)) count (p .waiting .total)
-              (moved-arrived (p .incoming) (p .lists) cs count (p .waiting .total) arrived channel k (moved .lists) (moved .channel) moves);
+              (moved-arrived (p .incoming) (p .lists) cs count (p .waiting .total) (arrived p good) channel k (moved .lists) (moved .channel) moves);
         })
 
   dispatched-sound : sound (dispatchedOn channel p) ≡ true

@@ -1,4 +1,4 @@
--- Dispatch: what of a channel's list is ready joins dispatched, by the source's rule. "2: InvalidChannel: .. dispatch, .. channel not below count"
+-- Dispatch: what of a channel's list is ready joins dispatched, by the source's rule. 2: the channel is not below the count.
 use Prim.Native.Nat.{ℕ}
 use lib.Dec.{ltb}
 use lib.ListN.{getD, set}

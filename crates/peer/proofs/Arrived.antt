@@ -19,12 +19,14 @@ use Rattle.slots.proofs.Views.{in-items-keep}
 use Rattle.runs.proofs.Lowest.{free-and-named}
 use Rattle.parts.specs.Sizes.{cell}
 use Rattle.parts.specs.Fresh.{noIncoming}
-use Rattle.parts.specs.Damage.{all, held, inFit, own, lengths, inSound, usedIn}
+use Rattle.parts.specs.Damage.{below, all, held, inFit, own, lengths, inSound, usedIn}
 use Rattle.parts.specs.Updates.{inShorter}
 use Rattle.parts.specs.declared.groups.Lists.{Lists}
 use Rattle.parts.specs.declared.groups.Channel.{Channel}
 use Rattle.parts.specs.declared.groups.Incoming.{Incoming}
-use Rattle.peer.proofs.Clauses.{all-at, at-all}
+use Rattle.peer.specs.Damage.{sound}
+use Rattle.peer.specs.declared.record.Peer.{Peer}
+use Rattle.peer.proofs.Clauses.{sound-clauses, all-at, at-all}
 
 -- a list without its head
 pub shorter-items : (l : InList) (s : ℕ) (rest : List ℕ) → inItems l ≡ s ∷ rest → inItems (inShorter l) ≡ rest
@@ -80,6 +82,13 @@ module _ (slots : List Incoming) (l : Lists) (cs : List Channel) (count sum : �
       let total = eqb sum (lengths slots used) in
       both-true named (both fit (both theirs total)) (both-true (exist incoming used) (once used) (w .exists) (w .single))
       (both-true fit (both theirs total) (w .fit) (both-true theirs total (w .own) (eq-eqb sum (lengths slots used) (w .total))))
+
+-- of a sound record
+pub arrived : (p : Peer) → sound p ≡ true
+    → Arrived (p .incoming) (p .lists) (below (p .channels) (p .standing .count)) (p .standing .count) (p .waiting .total)
+arrived p h =
+    in-clauses (p .incoming) (p .lists) (below (p .channels) (p .standing .count)) (p .standing .count) (p .waiting .total)
+    (sound-clauses p h .arrived)
 
 module _ (slots : List Incoming) (l : Lists) (cs : List Channel) (count sum : ℕ) (w : Arrived slots l cs count sum) where
   abbrev used : List ℕ

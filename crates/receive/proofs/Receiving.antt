@@ -2,9 +2,7 @@
 -- The argument: each part is given by its equation, so the record made of them is the rule's record; the head exists in a sound record.
 use Prim.Native.Nat.{ℕ, _<_}
 use mathlib.Core.Path.{_≡_, refl, sym, _∙_}
-use mathlib.Core.List.{List, [], _∷_}
-use mathlib.Core.Bool.{true}
-use native.Mathlib.Omega.{arith}
+use mathlib.Core.List.{List}
 use lib.ListN.{drop, getD}
 use Rattle.slots.specs.Lists.{incoming, inItems}
 use Rattle.runs.specs.Runs.{first}
@@ -14,7 +12,6 @@ use Rattle.parts.specs.Fresh.{noIncoming}
 use Rattle.parts.specs.Damage.{below}
 use Rattle.parts.specs.declared.groups.Lists.{Lists}
 use Rattle.parts.specs.declared.groups.Waiting.{Waiting}
-use Rattle.peer.specs.Damage.{sound}
 use Rattle.peer.specs.Outcome.{Came}
 use Rattle.peer.specs.Gate.{fits, gateOf}
 use Rattle.peer.specs.Updates.{renewed}
@@ -24,23 +21,11 @@ use Rattle.peer.specs.declared.gate.Lent.the-variants as lent
 use Rattle.peer.specs.declared.gate.Gate.{Gate}
 use Rattle.peer.specs.declared.gate.Gate.the-variants.{Open}
 use Rattle.peer.proofs.Gates.{worthsOf, soundBy, came-open, open-sound}
-use Rattle.peer.proofs.Clauses.{sound-clauses}
 use Rattle.receive.specs.Calls.{answerOf, withoutFirst, lowered, receivesFrom, receivesSound, receives}
 use Rattle.receive.specs.declared.Reply.{Reply}
 use Rattle.receive.specs.declared.Reply.the-variants as vr
-use Rattle.peer.proofs.Arrived.{Arrived, in-clauses, head-exists}
-
--- a list has its head
-pub first-cons : (xs : List ℕ) (s : ℕ) → first xs ≡ Slot s → xs ≡ s ∷ drop 1 xs
-first-cons [] s e = let z : _≡_ {A = ℕ} 0 1 = cc in absurd (omega arith)
-first-cons (x ∷ xs) s e = let z : x ≡ s = cc in rw z
-
--- the incoming pool of a sound record
-pub arrived : (p : Peer) → sound p ≡ true
-    → Arrived (p .incoming) (p .lists) (below (p .channels) (p .standing .count)) (p .standing .count) (p .waiting .total)
-arrived p h =
-    in-clauses (p .incoming) (p .lists) (below (p .channels) (p .standing .count)) (p .standing .count) (p .waiting .total)
-    (sound-clauses p h .arrived)
+use Rattle.runs.proofs.Views.{first-cons}
+use Rattle.peer.proofs.Arrived.{arrived, head-exists}
 
 -- ws, g and f are what the code answered
 module _ (s : Settings) (p : Peer) (ws : List ℕ) (v : ws ≡ worthsOf p)

@@ -65,7 +65,7 @@ channelsRow (c ∷ cs) = channelRow c ++ channelsRow cs
 abbrev pub incomingRow : Incoming → List ℕ
 incomingRow i = i .byte ∷ i .channel ∷ i .number .0 ∷ i .fragments ∷ i .remaining ∷ i .length ∷ []
 
--- "each used .. slot by rising number", of a pool from slot s on
+-- each used slot by rising number, of a pool from slot s on
 unfoldable pub usedRow : {A : Type 0} → (A → List ℕ) → List ℕ → ℕ → List A → List ℕ
 usedRow row used s [] = []
 usedRow row used s (x ∷ xs) = pick (has used s) (row x) [] ++ usedRow row used (s + 1) xs

@@ -1,12 +1,26 @@
--- What is left of a list from place k on, whatever its elements are: element k and what is left from the next place, or nothing.
--- The argument: `drop-cons`, and the length of what is taken.
-use Prim.Native.Nat.{ℕ, _+_, _≤_, _<_}
-use mathlib.Core.Path.{_≡_}
+-- What is left of a list from place k on, whatever its elements are: element k and what is left from the next place, or nothing;
+-- its first, and a place of it. The argument: `drop-cons`, and the length of what is taken.
+use Prim.Native.Nat.{ℕ, zero, suc, _+_, _≤_, _<_}
+use mathlib.Core.Path.{_≡_, refl}
 use mathlib.Core.List.{List, [], _∷_}
+use native.Mathlib.Nat.{le-of-suc-le-suc, not-suc-le-zero}
 use native.Mathlib.Numerals.{add-one}
 use native.Mathlib.Omega.{arith}
 use lib.ListN.{length, take, drop, getD, length-take, drop-of-length-le}
 use lib.Seq.{drop-cons, getD-take}
+use Rattle.runs.specs.Runs.{first}
+use Rattle.runs.specs.declared.First.the-variants.{Slot}
+
+-- a place of a list holds the same, whatever would stand past its end
+pub at-any : {A : Type 0} (xs : List A) (i : ℕ) (d e : A) → i < length xs → getD xs i d ≡ getD xs i e
+at-any [] i d e h = absurd (not-suc-le-zero h)
+at-any (x ∷ xs) zero d e h = refl
+at-any (x ∷ xs) (suc i) d e h = at-any xs i d e (le-of-suc-le-suc h)
+
+-- a list has its head
+pub first-cons : (xs : List ℕ) (s : ℕ) → first xs ≡ Slot s → xs ≡ s ∷ drop 1 xs
+first-cons [] s e = let z : _≡_ {A = ℕ} 0 1 = cc in absurd (omega arith)
+first-cons (x ∷ xs) s e = let z : x ≡ s = cc in rw z
 
 module _ {A : Type 0} (xs : List A) (k : ℕ) where
   pub rest-step : (d : A) → k < length xs → drop k xs ≡ getD xs k d ∷ drop (k + 1) xs

@@ -57,7 +57,7 @@ use Rattle.plans.specs.declared.Packet.{Packet}
 use Rattle.plans.specs.declared.Packet.the-variants.{One, Pieces}
 use Rattle.plans.specs.declared.Plan.{Plan}
 use Rattle.plans.specs.declared.Plan.the-variants as plan
-use Rattle.sending.proofs.Ranges.{count-high}
+use Rattle.peer.proofs.Ranges.{count-high}
 use Rattle.plans.proofs.Planning.{left-all, left-length, left-turn, left-end}
 use Rattle.sending.proofs.Sound.{queue-room, gate-channel, commands-fit}
 

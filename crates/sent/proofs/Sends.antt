@@ -26,7 +26,8 @@ use Rattle.packets.specs.declared.Start.{Start}
 use Rattle.packets.specs.declared.Start.the-variants as start
 use Rattle.packets.specs.declared.Cut.{Cut}
 use Rattle.packets.proofs.Cuts.{span-pieces, piece-part, full-piece, last-piece}
-use Rattle.sending.proofs.Ranges.{mtu-low, count-high, length-low}
+use Rattle.peer.proofs.Ranges.{mtu-low, count-high}
+use Rattle.sending.proofs.Ranges.{length-low}
 use Rattle.sent.proofs.Numbers.{reliable-numbers, unreliable-numbers}
 use Rattle.sent.proofs.Ends.{AllTo, all-ends}
 use Rattle.peer.specs.Settings.{fitSettings}

@@ -14,7 +14,7 @@ use lib.Seq.{paste, paste-suc, length-paste, drop-paste, length-take-le, length-
 use borrow.Author.Tests.{leb-true, le-leb, lt-leb}
 use Rattle.numbers.specs.Pick.{pick, both}
 use Rattle.parts.specs.Sizes.{cell}
-use Rattle.storing.specs.Storing.{filled, reaches}
+use Rattle.storing.specs.Storing.{filled, withinDatagram}
 
 -- what is left of a list from a place on
 left : (s : List ℕ) (from n : ℕ) → from + n ≤ length s → n ≤ length (drop from s)
@@ -75,11 +75,11 @@ module _ (store : List ℕ) (s : ℕ) (datagram : List ℕ) (place n : ℕ) wher
       → (s * cell + n ≤ length store → n ≤ length (drop place datagram) → P (paste store (s * cell) (drop place datagram) n))
       → P store
       → P (filled store s datagram place n)
-  filled-has P pasted-too same = go (leb (s * cell + n) (length store)) (reaches datagram place n) refl refl
+  filled-has P pasted-too same = go (leb (s * cell + n) (length store)) (withinDatagram datagram place n) refl refl
     where
       go : (a b : Bool)
           → leb (s * cell + n) (length store) ≡ a
-          → reaches datagram place n ≡ b
+          → withinDatagram datagram place n ≡ b
           → P (pick (both a b) (paste store (s * cell) (drop place datagram) n) store)
       go true true t u = pasted-too (leb-true (s * cell + n) (length store) t) (left datagram place n (leb-true (place + n) (length datagram) u))
       go true false t u = same

@@ -25,18 +25,18 @@ abbrev pub freeSlot : Lists → List Channel → ℕ → Free
 freeSlot l cs count = lowest incoming (usedIn l (below cs count))
 
 -- the whole byte and the header's number are kept
-abbrev pub slotOf : ℕ → ℕ → Reliable → ℕ → Incoming
-slotOf byte channel number length =
+abbrev pub incomingOf : ℕ → ℕ → Reliable → ℕ → Incoming
+incomingOf byte channel number length =
     record { byte = byte; channel = channel; number = number; fragments = 0; remaining = 0; length = length }
 
 abbrev pub awaiting : Waiting → ℕ → Waiting
 awaiting w length = withTotal w (sum 32 (w .total) length)
 
 -- the datagram has so many bytes from a place on: else "past the datagram's end"
-abbrev pub reaches : List ℕ → ℕ → ℕ → Bool
-reaches datagram place n = leb (place + n) (length datagram)
+abbrev pub withinDatagram : List ℕ → ℕ → ℕ → Bool
+withinDatagram datagram place n = leb (place + n) (length datagram)
 
 -- cell s holds n bytes of the datagram from a place on; where the store or the datagram is too short, nothing changes
 abbrev pub filled : List ℕ → ℕ → List ℕ → ℕ → ℕ → List ℕ
 filled store s datagram place n =
-    pick (both (leb (s * cell + n) (length store)) (reaches datagram place n)) (paste store (s * cell) (drop place datagram) n) store
+    pick (both (leb (s * cell + n) (length store)) (withinDatagram datagram place n)) (paste store (s * cell) (drop place datagram) n) store

@@ -6,7 +6,7 @@ ghost use lib.Seq.{paste};
 ghost use Rattle.runs.specs.Free.{markedAll};
 ghost use Rattle.slots.specs.Lists.{incoming, inItems};
 ghost use Rattle.parts.specs.Damage.{below, usedIn};
-ghost use Rattle.storing.specs.Storing.{freeSlot, slotOf, awaiting, filled};
+ghost use Rattle.storing.specs.Storing.{freeSlot, incomingOf, awaiting, filled};
 use numbers::counters::Reliable;
 use parts::groups::CELL;
 use parts::groups::CHANNELS;
@@ -54,7 +54,7 @@ pub fn free_slot(lists: Lists, channels: [Channel; CHANNELS], count: u32) -> Fre
 
 // The slot of a packet that came whole.
 pub fn slot(byte: u8, channel: u8, number: Reliable, length: u32) -> Incoming
-    ensures { λ r. ⌜ r ≡ slotOf byte channel number length ⌝ }
+    ensures { λ r. ⌜ r ≡ incomingOf byte channel number length ⌝ }
 {
     Incoming {
         byte,

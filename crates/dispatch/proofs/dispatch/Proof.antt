@@ -9,7 +9,8 @@ use Rattle.peer.specs.Calls.{answerOf}
 use Rattle.peer.specs.declared.gate.Lent.the-variants.{Nothing}
 use Rattle.peer.proofs.Gates.{came-shut}
 use Rattle.dispatch.specs.Calls.{dispatchesSound}
-use Rattle.dispatch.proofs.Calling.{at-any, dispatch-refused, channel-exists, dispatch-done}
+use Rattle.runs.proofs.Views.{at-any}
+use Rattle.dispatch.proofs.Calling.{dispatch-refused, channel-exists, dispatch-done}
 use Rattle.dispatch.proofs.dispatch.Statement.{statement}
 use Rattle.dispatch.proofs.dispatch.Tie as tie
 

@@ -12,7 +12,8 @@ use Rattle.peer.specs.declared.gate.Lent.the-variants.{Nothing}
 use Rattle.peer.proofs.Gates.{came-shut, open-sound}
 use Rattle.stamps.proofs.CountLaws.{channel-here}
 use Rattle.sending.specs.Calls.{sendsSound}
-use Rattle.sending.proofs.Ranges.{mtu-high, length-high}
+use Rattle.peer.proofs.Ranges.{mtu-high}
+use Rattle.sending.proofs.Ranges.{length-high}
 use Rattle.sending.proofs.Going.{Going, going-start, going-exists, going-turn, send-shut, send-left}
 use Rattle.sending.proofs.calls.send.Statement.{statement}
 use Rattle.sending.proofs.calls.send.Tie as tie
