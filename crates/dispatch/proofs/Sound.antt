@@ -4,11 +4,12 @@ use Prim.Native.Nat.{ℕ, zero, suc, _+_, _≤_, _<_}
 use mathlib.Core.Path.{_≡_, refl, ap, sym, _∙_}
 use mathlib.Core.List.{List, [], _∷_}
 use mathlib.Core.Bool.{Bool, true, false}
+use mathlib.Core.Logic.{_⊎_, inl, inr, ⊎-elim}
 use native.Mathlib.Omega.{arith}
 use lib.Dec.{leb, ltb, eqb}
 use lib.ListN.{length, getD, set, length-append, length-set, length-take}
 use lib.Seq.{take-set-lt, getD-take}
-use borrow.Author.Tests.{le-leb, ltb-true}
+use borrow.Author.Tests.{eq-eqb, le-leb, ltb-true}
 use Rattle.numbers.specs.Pick.{pick, both}
 use Rattle.numbers.specs.declared.refusals.Refusal.the-variants.{InvalidChannel}
 use Rattle.numbers.proofs.BoolLaws.{both-left, both-right, both-true}
@@ -38,13 +39,13 @@ use Rattle.peer.proofs.Clauses.{sound-clauses, clauses-sound, all-at, at-all}
 use Rattle.dispatching.specs.Dispatching.{movedOn}
 use Rattle.dispatching.specs.declared.Dispatched.{Dispatched}
 use Rattle.dispatch.specs.Calls.{dispatchGate, withDispatch, dispatchedOn, dispatchesSound, dispatches}
-use Rattle.peer.proofs.Arrived.{Arrived, arrived, clauses-in}
+use Rattle.peer.proofs.InClauses.{InClauses, incoming-clauses, clauses-in}
 use Rattle.peer.proofs.Ranges.{count-high}
 use Rattle.dispatch.proofs.Calling.{chosen, ready, last, dispatched-has}
 use Rattle.dispatch.proofs.Sums.{Moves, held-within, left-less, moved-sum, used-same}
 
 -- ---- the channels' lists, one of them changed
-fit-set : (cs : List Channel) (i : ℕ) (new : Channel) → heldFit cs ≡ true → new .held .len ≤ incoming → heldFit (set cs i new) ≡ true
+pub fit-set : (cs : List Channel) (i : ℕ) (new : Channel) → heldFit cs ≡ true → new .held .len ≤ incoming → heldFit (set cs i new) ≡ true
 unfolding heldFit
 fit-set [] i new e h = refl
 fit-set (c ∷ cs) zero new e h =
@@ -54,25 +55,33 @@ fit-set (c ∷ cs) (suc i) new e h =
     let long = leb (c .held .len) incoming in
     both-true long (heldFit (set cs i new)) (both-left long (heldFit cs) e) (fit-set cs i new (both-right long (heldFit cs) e) h)
 
--- a list that names no slot more often holds only slots of its own
-own-set : (slots : List Incoming) (j : ℕ) (cs : List Channel) (i : ℕ) (new : Channel) → own slots j cs ≡ true
-    → ((s : ℕ) → times (inItems (new .held)) s ≤ times (inItems (getD cs i noChannel .held)) s) → own slots j (set cs i new) ≡ true
+-- a list whose slots stood there before or are of its channel holds only slots of its own
+pub own-set : (slots : List Incoming) (j : ℕ) (cs : List Channel) (i : ℕ) (new : Channel) → own slots j cs ≡ true
+    → ((s : ℕ) → 0 < times (inItems (new .held)) s
+        → (0 < times (inItems (getD cs i noChannel .held)) s) ⊎ (getD slots s noIncoming .channel ≡ j + i))
+    → own slots j (set cs i new) ≡ true
 unfolding own
-own-set slots j [] i new e fewer = refl
-own-set slots j (c ∷ cs) zero new e fewer =
+own-set slots j [] i new e known = refl
+own-set slots j (c ∷ cs) zero new e known =
     let f : ℕ → Bool = λ s. eqb (getD slots s noIncoming .channel) j in
     let old = inItems (c .held) in
     both-true (all f (inItems (new .held))) (own slots (j + 1) cs)
-    (at-all f (inItems (new .held)) (λ s h. all-at f old (both-left (all f old) (own slots (j + 1) cs) e) s (omega (arith, fewer s, h))))
+    (at-all f (inItems (new .held))
+    (λ s h.
+    ⊎-elim
+    (λ there. all-at f old (both-left (all f old) (own slots (j + 1) cs) e) s there)
+    (λ is. eq-eqb (getD slots s noIncoming .channel) j (omega (arith, is)))
+    (known s h)))
     (both-right (all f old) (own slots (j + 1) cs) e)
-own-set slots j (c ∷ cs) (suc i) new e fewer =
+own-set slots j (c ∷ cs) (suc i) new e known =
     let f : ℕ → Bool = λ s. eqb (getD slots s noIncoming .channel) j in
     let old = all f (inItems (c .held)) in
     both-true old (own slots (j + 1) (set cs i new)) (both-left old (own slots (j + 1) cs) e)
-    (own-set slots (j + 1) cs i new (both-right old (own slots (j + 1) cs) e) fewer)
+    (own-set slots (j + 1) cs i new (both-right old (own slots (j + 1) cs) e)
+    (λ s h. ⊎-elim (λ there. inl there) (λ is. inr (omega (arith, is))) (known s h)))
 
 -- ---- the incoming pool after a move
-module _ (slots : List Incoming) (l : Lists) (cs : List Channel) (count total : ℕ) (w : Arrived slots l cs count total) where
+module _ (slots : List Incoming) (l : Lists) (cs : List Channel) (count total : ℕ) (w : InClauses slots l cs count total) where
   -- the slots named are at most 12, so that a channel's list has room at the end of dispatched
   room : (i : ℕ) → i < length cs → length (inItems (l .dispatched)) + length (inItems (getD cs i noChannel .held)) ≤ incoming
   room i h =
@@ -93,8 +102,8 @@ module _ (slots : List Incoming) (l : Lists) (cs : List Channel) (count total : 
     fewer : (s : ℕ) → times used s ≤ times (usedIn l cs) s
     fewer s = omega (arith, same s)
 
-    moved-arrived : Arrived slots m (set cs i new) count total
-    moved-arrived =
+    moved-clauses : InClauses slots m (set cs i new) count total
+    moved-clauses =
         record {
           exists = exist-less (usedIn l cs) used fewer incoming (w .exists);
           single = once-less (usedIn l cs) used fewer (w .single);
@@ -102,12 +111,12 @@ module _ (slots : List Incoming) (l : Lists) (cs : List Channel) (count total : 
               at-all (inFit slots count) used (λ s h. all-at (inFit slots count) (usedIn l cs) (w .fit) s (omega (arith, same s, h)));
           own =
               own-set slots 0 cs i new (w .own)
-              (λ s. left-less (λ (xs : List ℕ). times xs s) (λ xs ys. times-append xs ys s) l cs i k m new v);
+              (λ s h. inl (omega (arith, h, left-less (λ (xs : List ℕ). times xs s) (λ xs ys. times-append xs ys s) l cs i k m new v)));
           total = w .total ∙ sym (used-same (lengths slots) (sum-append slots) l cs i k m new v);
         }
 
 -- ---- the record
-dispatched-fit : (l : Lists) (x : InList) → listsFit l ≡ true → x .len ≤ incoming → listsFit (withDispatched l x) ≡ true
+pub dispatched-fit : (l : Lists) (x : InList) → listsFit l ≡ true → x .len ≤ incoming → listsFit (withDispatched l x) ≡ true
 dispatched-fit l x e h = last (leb (l .sent .len) outgoing) (leb (l .reliable .len) outgoing) (leb (l .outgoing .len) outgoing) e
   where
     last : (a b c : Bool) → both a (both b (both c (leb (l .dispatched .len) incoming))) ≡ true
@@ -135,7 +144,7 @@ module _ (channel : ℕ) (p : Peer) (whole : Whole p) (good : sound p ≡ true) 
   -- dispatched has room for the whole list
   pub room-there : length (inItems (p .lists .dispatched)) + length (inItems (old .held)) ≤ incoming
   room-there =
-      rw old-is at (room (p .incoming) (p .lists) cs (p .standing .count) (p .waiting .total) (arrived p good) channel here)
+      rw old-is at (room (p .incoming) (p .lists) cs (p .standing .count) (p .waiting .total) (incoming-clauses p good) channel here)
 
   module _ (k n : ℕ) where
     abbrev moved : Dispatched
@@ -173,10 +182,10 @@ module _ (channel : ℕ) (p : Peer) (whole : Whole p) (good : sound p ≡ true) 
           arrived =
               ap (λ (xs : List Channel). inSound (p .incoming) (moved .lists) xs count (p .waiting .total)) now
               ∙ clauses-in (p .incoming) (moved .lists) (set cs channel (moved .channel)) count (p .waiting .total)
-              (moved-arrived (p .incoming) (p .lists) cs count (p .waiting .total) (arrived p good) channel k (moved .lists) (moved .channel) moves);
+              (moved-clauses (p .incoming) (p .lists) cs count (p .waiting .total) (incoming-clauses p good) channel k (moved .lists) (moved .channel) moves);
         })
 
-  dispatched-sound : sound (dispatchedOn channel p) ≡ true
+  pub dispatched-sound : sound (dispatchedOn channel p) ≡ true
   dispatched-sound =
       dispatched-has channel p (λ (q : Peer). sound q ≡ true) (λ none. good) (moved-sound (ready channel p) (last channel p))
 

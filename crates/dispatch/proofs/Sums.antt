@@ -24,7 +24,7 @@ pub record Moves (l : Lists) (cs : List Channel) (i k : ℕ) (m : Lists) (new : 
 
 module _ (f : List ℕ → ℕ) (adds : (xs ys : List ℕ) → f (xs ++ ys) ≡ f xs + f ys) where
   -- one channel of all
-  held-set : (cs : List Channel) (i : ℕ) (new d : Channel) → i < length cs
+  pub held-set : (cs : List Channel) (i : ℕ) (new d : Channel) → i < length cs
       → f (held (set cs i new)) + f (inItems (getD cs i d .held)) ≡ f (held cs) + f (inItems (new .held))
   unfolding held
   held-set [] i new d h = absurd (not-suc-le-zero h)

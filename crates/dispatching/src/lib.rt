@@ -37,7 +37,7 @@ const NONE: Incoming = Incoming {
     length: 0,
 };
 
-fn slot_at(slots: [Incoming; INCOMING], s: u16) -> Incoming
+pub fn slot_at(slots: [Incoming; INCOMING], s: u16) -> Incoming
     ensures { λ r. ⌜ r ≡ getD slots s noIncoming ⌝ }
 {
     if INCOMING <= s as usize {

@@ -1,8 +1,15 @@
 -- What a call comes to: its answer, and what it leaves, the record or the record and the store that was lent.
+use Prim.Native.Nat.{ℕ}
 use mathlib.Core.Path.{_≡_}
-use mathlib.Core.List.{[]}
+use mathlib.Core.List.{List, []}
 use Rattle.numbers.specs.Answers.{Answer, done, refused}
 use Rattle.numbers.specs.declared.refusals.Refusal.{Refusal}
+use Rattle.peer.specs.declared.record.Peer.{Peer}
+
+-- the record, and the bytes of the store that was lent
+pub record State : Type 0 where
+  pub peer : Peer
+  pub store : List ℕ
 
 pub record Outcome (A : Type 0) : Type 0 where
   pub answer : Answer
@@ -19,3 +26,7 @@ finished x = record { answer = done []; after = x }
 pub record Came {R A : Type 0} (answerOf : R → Answer) (o : Outcome A) (reply : R) (left : A) : Type 0 where
   pub answer : answerOf reply ≡ o .answer
   pub after : left ≡ o .after
+
+-- what a call that is lent a store comes to, of the record alone
+abbrev pub onPeer : Outcome State → Outcome Peer
+onPeer o = record { answer = o .answer; after = o .after .peer }

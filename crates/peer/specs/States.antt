@@ -7,6 +7,9 @@ use Rattle.parts.specs.declared.groups.Standing.{Standing}
 abbrev pub connected : ℕ
 connected = 5
 
+abbrev pub disconnectLater : ℕ
+disconnectLater = 6
+
 abbrev pub lastState : ℕ
 lastState = 9
 

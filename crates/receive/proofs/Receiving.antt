@@ -25,7 +25,7 @@ use Rattle.receive.specs.Calls.{answerOf, withoutFirst, lowered, receive
 use Rattle.receive.specs.declared.Reply.{Reply}
 use Rattle.receive.specs.declared.Reply.the-variants as vr
 use Rattle.runs.proofs.Views.{first-cons}
-use Rattle.peer.proofs.Arrived.{arrived, head-exists}
+use Rattle.peer.proofs.InClauses.{incoming-clauses, head-exists}
 
 -- ws, g and f are what the code answered
 module _ (s : Settings) (p : Peer) (ws : List ℕ) (v : ws ≡ worthsOf p)
@@ -41,7 +41,7 @@ module _ (s : Settings) (p : Peer) (ws : List ℕ) (v : ws ≡ worthsOf p)
     pub slot-exists : n < incoming
     slot-exists =
         head-exists (p .incoming) (p .lists) (below (p .channels) (p .standing .count)) (p .standing .count) (p .waiting .total)
-        (arrived p (open-sound s lent.Nothing p ws v g e opens)) n (drop 1 (inItems (p .lists .dispatched)))
+        (incoming-clauses p (open-sound s lent.Nothing p ws v g e opens)) n (drop 1 (inItems (p .lists .dispatched)))
         (first-cons (inItems (p .lists .dispatched)) n (sym is ∙ z))
 
     pub receive-slot : (lists : Lists) (waiting : Waiting)

@@ -32,7 +32,7 @@ use Rattle.peer.specs.declared.record.Peer.{Peer}
 use Rattle.peer.proofs.Sound.{gated-sounds}
 use Rattle.peer.proofs.Clauses.{Clauses, sound-clauses, clauses-sound}
 use Rattle.receive.specs.Calls.{withoutFirst, taken, receivesFrom, receivesSound, receives}
-use Rattle.peer.proofs.Arrived.{Arrived, in-clauses, clauses-in, shorter-items, used-from, total-low, arrived-less}
+use Rattle.peer.proofs.InClauses.{InClauses, in-clauses, clauses-in, shorter-items, used-from, total-low, clauses-less}
 
 -- the lists fit their pools
 shorter-fits : (l : InList) → leb (l .len) incoming ≡ true → leb (inShorter l .len) incoming ≡ true
@@ -54,11 +54,11 @@ without-fit l e = last (leb (l .sent .len) outgoing) (leb (l .reliable .len) out
         (both-true c _ (both-left c d g) (shorter-fits (l .dispatched) (both-right c d g))))
 
 -- a difference that does not wrap
-minus-plain : (t n rest : ℕ) → t ≡ n + rest → t < 2 ^ 32 → minus 32 t n ≡ rest
+pub minus-plain : (t n rest : ℕ) → t ≡ n + rest → t < 2 ^ 32 → minus 32 t n ≡ rest
 minus-plain t n rest e h = omega arith
 
 -- the incoming pool without the head
-module _ (slots : List Incoming) (l : Lists) (cs : List Channel) (count total : ℕ) (w : Arrived slots l cs count total)
+module _ (slots : List Incoming) (l : Lists) (cs : List Channel) (count total : ℕ) (w : InClauses slots l cs count total)
     (s : ℕ) (rest : List ℕ) (e : inItems (l .dispatched) ≡ s ∷ rest) where
   abbrev size : ℕ
   size = getD slots s noIncoming .length
@@ -72,13 +72,13 @@ module _ (slots : List Incoming) (l : Lists) (cs : List Channel) (count total : 
   fewer : (k : ℕ) → times (usedIn (withoutFirst l) cs) k ≤ times (usedIn l cs) k
   fewer k = omega (arith, ap (λ (xs : List ℕ). times xs k) before, ap (λ (xs : List ℕ). times xs k) after)
 
-  sum : total ≡ size + lengths slots (usedIn (withoutFirst l) cs)
+  pub sum : total ≡ size + lengths slots (usedIn (withoutFirst l) cs)
   unfolding lengths
   sum = w .total ∙ ap (lengths slots) before ∙ ap (λ (xs : List ℕ). size + lengths slots xs) (sym after)
 
-  without-arrived : Arrived slots (withoutFirst l) cs count (minus 32 total size)
-  without-arrived =
-      arrived-less slots l cs count total w (withoutFirst l) (minus 32 total size) fewer
+  without-clauses : InClauses slots (withoutFirst l) cs count (minus 32 total size)
+  without-clauses =
+      clauses-less slots l cs count total w (withoutFirst l) (minus 32 total size) fewer
       (minus-plain total size (lengths slots (usedIn (withoutFirst l) cs)) sum (omega (arith, total-low slots l cs count total w)))
 
 taken-sound : (s : ℕ) (rest : List ℕ) (p : Peer) → inItems (p .lists .dispatched) ≡ s ∷ rest → Clauses p → sound (taken s p) ≡ true
@@ -97,7 +97,7 @@ taken-sound s rest p e w =
       sent = w .sent;
       arrived =
           clauses-in (p .incoming) (withoutFirst (p .lists)) cs count (minus 32 total (getD (p .incoming) s noIncoming .length))
-          (without-arrived (p .incoming) (p .lists) cs count total (in-clauses (p .incoming) (p .lists) cs count total (w .arrived)) s rest e);
+          (without-clauses (p .incoming) (p .lists) cs count total (in-clauses (p .incoming) (p .lists) cs count total (w .arrived)) s rest e);
     })
 
 receive-stays : (p : Peer) → Whole p → sound p ≡ true → sound (receivesSound p .after) ≡ true

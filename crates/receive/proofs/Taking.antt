@@ -21,7 +21,7 @@ use Rattle.peer.specs.declared.gate.Lent.the-variants as lent
 use Rattle.peer.specs.declared.gate.Gate.{Gate}
 use Rattle.peer.proofs.Gates.{behind-has}
 use Rattle.receive.specs.Calls.{packet, receivesFrom, receivesSound, receives}
-use Rattle.peer.proofs.Arrived.{shorter-items}
+use Rattle.peer.proofs.InClauses.{shorter-items}
 
 abbrev gate : Settings → Peer → Gate
 gate s p = gateOf (fits s lent.Nothing) (sound p)

@@ -1,4 +1,5 @@
 // Reads a script of frames and writes one line for each, as SCRIPT.md says.
+mod arrivals;
 mod calls;
 mod fits;
 mod receives;
@@ -9,16 +10,17 @@ mod steps;
 mod store;
 
 use peer::record::Peer;
-use peer::settings::Settings;
 use script::frames;
 use script::frames::Frame;
 use script::line;
+use settings::Bench;
 
 // What the ops that do not stand on the record write.
 fn told(f: Frame, input: &[u8], store: &[u8]) {
     let op = f.op;
     match op {
         16 => line::value(store::hash(store, f.n0, f.n1)),
+        17 => store::tell(store, f.n0, f.n1),
         30 => commands::read(frames::bytes(input), f.n0),
         31 => commands::write(input, f.n4),
         32 => line::value(numbers::clock::distance(f.n0, f.n1)),
@@ -39,11 +41,13 @@ fn asked(input: &[u8], store: &[u8]) -> Frame {
 }
 
 // The record after an op; a call writes its reply.
-fn changed(f: Frame, input: &[u8], settings: Settings, peer: Peer) -> Peer {
+fn changed(f: Frame, input: &[u8], bench: Bench, peer: Peer, store: &mut [u8]) -> Peer {
     let op = f.op;
+    let settings = bench.settings;
     match op {
         1..=6 | 12 => calls::call(f, input, settings, peer),
         7 => steps::call(f, settings, peer),
+        10 | 11 => arrivals::call(f, input, settings, peer, store::lent(store, bench.store)),
         13 => receives::call(settings, peer),
         20 => setters::number(f.n0, f.n1, peer),
         21..=24 => setters::part(f, input, peer),
@@ -52,7 +56,7 @@ fn changed(f: Frame, input: &[u8], settings: Settings, peer: Peer) -> Peer {
 }
 
 // A proved loop has to end, and nothing says that a script does: so turns are counted down, from more than any run has.
-fn play(input: &mut [u8], store: &[u8]) {
+fn play(input: &mut [u8], store: &mut [u8]) {
     let mut turns = u64::MAX;
     let mut bench = settings::first();
     let mut peer = settings::fresh();
@@ -63,7 +67,7 @@ fn play(input: &mut [u8], store: &[u8]) {
         }
         let f = asked(input, store);
         bench = settings::set(f, bench);
-        peer = changed(f, input, bench.settings, peer);
+        peer = changed(f, input, bench, peer, store);
         line::end(f.op, record::hash(f.op == 15, peer));
     }
 }
@@ -71,6 +75,6 @@ fn play(input: &mut [u8], store: &[u8]) {
 // The input buffer has room for the largest frame, 66,559 bytes.
 fn main() {
     let mut input = [0u8; 66560];
-    let store = [0u8; 49152];
-    play(&mut input, &store);
+    let mut store = [0u8; 49152];
+    play(&mut input, &mut store);
 }

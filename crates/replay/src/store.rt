@@ -1,4 +1,5 @@
-// Op 16: the hash of so many bytes of the store, cut at its end.
+// Ops 16 and 17: the hash of so many bytes of the store, and they themselves, cut at its end.
+use script::line;
 use script::row;
 
 pub(crate) fn hash(store: &[u8], first: u32, count: u32) -> u32 {
@@ -11,6 +12,25 @@ pub(crate) fn hash(store: &[u8], first: u32, count: u32) -> u32 {
         i += 1;
     }
     hash
+}
+
+pub(crate) fn tell(store: &[u8], first: u32, count: u32) {
+    let mut left = count;
+    let mut i = first as usize;
+    while 0 < left && i < store.len() {
+        line::value(wide(store[i]));
+        left -= 1;
+        i += 1;
+    }
+}
+
+// The first so many bytes, or all.
+pub(crate) fn lent(store: &mut [u8], count: u32) -> &mut [u8] {
+    let n = count as usize;
+    if n < store.len() {
+        return &mut store[..n];
+    }
+    store
 }
 
 fn wide(x: u8) -> u32 {

@@ -14,7 +14,7 @@ use Rattle.runs.specs.Free.{lowest}
 use Rattle.runs.specs.declared.Free.{Free}
 use Rattle.parts.specs.Sizes.{cell}
 use Rattle.parts.specs.Damage.{below, usedIn}
-use Rattle.parts.specs.Updates.{withTotal}
+use Rattle.parts.specs.Updates.{withDispatched, withTotal, inLonger}
 use Rattle.parts.specs.declared.groups.Lists.{Lists}
 use Rattle.parts.specs.declared.groups.Channel.{Channel}
 use Rattle.parts.specs.declared.groups.Incoming.{Incoming}
@@ -28,6 +28,10 @@ freeSlot l cs count = lowest incoming (usedIn l (below cs count))
 abbrev pub incomingOf : ℕ → ℕ → Reliable → ℕ → Incoming
 incomingOf byte channel number length =
     record { byte = byte; channel = channel; number = number; fragments = 0; remaining = 0; length = length }
+
+-- "Stored means delivered: to the end of dispatched"
+abbrev pub delivered : Lists → ℕ → Lists
+delivered l s = withDispatched l (inLonger (l .dispatched) s)
 
 abbrev pub awaiting : Waiting → ℕ → Waiting
 awaiting w length = withTotal w (sum 32 (w .total) length)

@@ -6,7 +6,7 @@ ghost use lib.Seq.{paste};
 ghost use Rattle.runs.specs.Free.{markedAll};
 ghost use Rattle.slots.specs.Lists.{incoming, inItems};
 ghost use Rattle.parts.specs.Damage.{below, usedIn};
-ghost use Rattle.storing.specs.Storing.{freeSlot, incomingOf, awaiting, filled};
+ghost use Rattle.storing.specs.Storing.{freeSlot, incomingOf, delivered, awaiting, filled};
 use numbers::counters::Reliable;
 use parts::groups::CELL;
 use parts::groups::CHANNELS;
@@ -64,6 +64,17 @@ pub fn slot(byte: u8, channel: u8, number: Reliable, length: u32) -> Incoming
         remaining: 0,
         length,
     }
+}
+
+// To the end of dispatched.
+pub fn join(lists: Lists, s: u16) -> Lists
+    ensures { λ r. ⌜ r ≡ delivered lists s ⌝ }
+{
+    let dispatched = lists.dispatched;
+    let longer = dispatched.push(s);
+    let mut l = lists;
+    l.dispatched = longer;
+    l
 }
 
 pub fn await_more(waiting: Waiting, length: u32) -> Waiting

@@ -48,14 +48,14 @@ lengths-low slots count (x ∷ xs) e =
     omega (arith, low, lengths-low slots count xs (both-right (inFit slots count x) (all (inFit slots count) xs) e))
 
 module _ (slots : List Incoming) (l : Lists) (cs : List Channel) (count sum : ℕ) where
-  pub record Arrived : Type 0 where
+  pub record InClauses : Type 0 where
     pub exists : exist incoming (usedIn l cs) ≡ true
     pub single : once (usedIn l cs) ≡ true
     pub fit : all (inFit slots count) (usedIn l cs) ≡ true
     pub own : own slots 0 cs ≡ true
     pub total : sum ≡ lengths slots (usedIn l cs)
 
-  pub in-clauses : inSound slots l cs count sum ≡ true → Arrived
+  pub in-clauses : inSound slots l cs count sum ≡ true → InClauses
   in-clauses h =
       let used = usedIn l cs in
       let named = both (exist incoming used) (once used) in
@@ -73,7 +73,7 @@ module _ (slots : List Incoming) (l : Lists) (cs : List Channel) (count sum : �
         total = eqb-true sum (lengths slots used) (both-right theirs total last);
       }
 
-  pub clauses-in : Arrived → inSound slots l cs count sum ≡ true
+  pub clauses-in : InClauses → inSound slots l cs count sum ≡ true
   clauses-in w =
       let used = usedIn l cs in
       let named = both (exist incoming used) (once used) in
@@ -84,13 +84,13 @@ module _ (slots : List Incoming) (l : Lists) (cs : List Channel) (count sum : �
       (both-true fit (both theirs total) (w .fit) (both-true theirs total (w .own) (eq-eqb sum (lengths slots used) (w .total))))
 
 -- of a sound record
-pub arrived : (p : Peer) → sound p ≡ true
-    → Arrived (p .incoming) (p .lists) (below (p .channels) (p .standing .count)) (p .standing .count) (p .waiting .total)
-arrived p h =
+pub incoming-clauses : (p : Peer) → sound p ≡ true
+    → InClauses (p .incoming) (p .lists) (below (p .channels) (p .standing .count)) (p .standing .count) (p .waiting .total)
+incoming-clauses p h =
     in-clauses (p .incoming) (p .lists) (below (p .channels) (p .standing .count)) (p .standing .count) (p .waiting .total)
     (sound-clauses p h .arrived)
 
-module _ (slots : List Incoming) (l : Lists) (cs : List Channel) (count sum : ℕ) (w : Arrived slots l cs count sum) where
+module _ (slots : List Incoming) (l : Lists) (cs : List Channel) (count sum : ℕ) (w : InClauses slots l cs count sum) where
   abbrev used : List ℕ
   used = usedIn l cs
 
@@ -100,9 +100,9 @@ module _ (slots : List Incoming) (l : Lists) (cs : List Channel) (count sum : �
       omega (arith, w .total, lengths-low slots count used (w .fit), free-and-named incoming used (w .exists) (w .single))
 
   -- other lists that name no slot more often
-  pub arrived-less : (m : Lists) (new : ℕ) → ((k : ℕ) → times (usedIn m cs) k ≤ times used k) → new ≡ lengths slots (usedIn m cs)
-      → Arrived slots m cs count new
-  arrived-less m new fewer e =
+  pub clauses-less : (m : Lists) (new : ℕ) → ((k : ℕ) → times (usedIn m cs) k ≤ times used k) → new ≡ lengths slots (usedIn m cs)
+      → InClauses slots m cs count new
+  clauses-less m new fewer e =
       record {
         exists = exist-less used (usedIn m cs) fewer incoming (w .exists);
         single = once-less used (usedIn m cs) fewer (w .single);

@@ -1,0 +1,172 @@
+// What both arrivals share, and the unsequenced window on the record's groups.
+ghost use mathlib.Core.Path.{_≡_};
+ghost use Rattle.parts.specs.Updates.{withWindow};
+ghost use Rattle.arriving.specs.Arrivals.{isReceiving, isWhole, arrivalGate, roomFor, replyOf};
+ghost use Rattle.arriving.specs.Window.{takenAt, judged};
+use numbers::consts::UNSEQUENCED_WORDS;
+use numbers::counters::Group;
+use numbers::counters::Reliable;
+use numbers::refusals::Refusal;
+use parts::groups::CELL;
+use parts::groups::Groups;
+use parts::groups::Standing;
+use peer::gate::Gate;
+use peer::record::Peer;
+use peer::settings::Settings;
+use runs::Free;
+use window::Verdict;
+
+// A command that brings a whole packet, and where its payload begins in the datagram.
+pub struct Arrival {
+    pub byte: u8,
+    pub channel: u8,
+    pub number: Reliable,
+    pub length: u32,
+    pub place: u32,
+}
+
+pub enum Reply {
+    Passed,
+    Stored,
+    Refused(Refusal),
+}
+
+// The record first: so it is made where the caller wants it.
+pub struct Arrived {
+    pub peer: Peer,
+    pub reply: Reply,
+}
+
+// What becomes of an arrival that nothing refuses before 8.
+pub enum Fate {
+    Passed,
+    NoRoom,
+    Stored(u16),
+}
+
+// The groups as an unsequenced arrival leaves them, and its fate.
+pub struct Judged {
+    pub groups: Groups,
+    pub fate: Fate,
+}
+
+fn is_receiving(channel: u8, standing: Standing) -> bool
+    ensures { λ r. ⌜ r ≡ isReceiving channel standing ⌝ }
+{
+    if standing.count <= channel as u32 {
+        return false;
+    }
+    if standing.state == Peer::CONNECTED {
+        return true;
+    }
+    standing.state == Peer::DISCONNECT_LATER
+}
+
+fn is_whole(a: Arrival, settings: Settings, end: usize) -> bool
+    ensures { λ r. ⌜ r ≡ isWhole a settings end ⌝ }
+{
+    if settings.packet < a.length {
+        return false;
+    }
+    if CELL < a.length {
+        return false;
+    }
+    a.place as usize + a.length as usize <= end
+}
+
+// 9, 6, 7: end is the datagram's.
+pub fn may_arrive(command: u8, a: Arrival, settings: Settings, standing: Standing, end: usize) -> Gate
+    ensures { λ r. ⌜ r ≡ arrivalGate command a settings standing end ⌝ }
+{
+    if a.byte % 16 != command {
+        return Gate::Shut(Refusal::BadCommand);
+    }
+    if !is_receiving(a.channel, standing) {
+        return Gate::Shut(Refusal::NotReceiving);
+    }
+    if !is_whole(a, settings, end) {
+        return Gate::Shut(Refusal::LengthTooLarge);
+    }
+    Gate::Open
+}
+
+// State 6 passes over, then 8, then the lowest free slot.
+pub fn room(settings: Settings, state: u32, total: u32, free: Free) -> Fate
+    ensures { λ r. ⌜ r ≡ roomFor settings state total free ⌝ }
+{
+    if state == Peer::DISCONNECT_LATER {
+        return Fate::Passed;
+    }
+    if settings.waiting <= total {
+        return Fate::NoRoom;
+    }
+    match free {
+        Free::Lowest(s) => Fate::Stored(s),
+        Free::Full => Fate::NoRoom,
+    }
+}
+
+// The base and the words of the window.
+fn shift(groups: Groups, base: Group, words: [u32; UNSEQUENCED_WORDS]) -> Groups
+    ensures { λ r. ⌜ r ≡ withWindow groups base words ⌝ }
+{
+    let mut g = groups;
+    g.incoming = base;
+    g.words = words;
+    g
+}
+
+// The move is kept in any case; marked unless there was no room, and flagged once it is stored.
+fn take(
+    room: Fate,
+    groups: Groups,
+    group: Group,
+    base: Group,
+    words: [u32; UNSEQUENCED_WORDS],
+) -> Judged
+    ensures { λ r. ⌜ r ≡ takenAt room groups group base words ⌝ }
+{
+    match room {
+        Fate::Passed => Judged {
+            groups: shift(groups, base, window::mark(words, group)),
+            fate: Fate::Passed,
+        },
+        Fate::NoRoom => Judged {
+            groups: shift(groups, base, words),
+            fate: Fate::NoRoom,
+        },
+        Fate::Stored(s) => Judged {
+            groups: dispatching::flag(shift(groups, base, window::mark(words, group))),
+            fate: Fate::Stored(s),
+        },
+    }
+}
+
+// A group against the window; room says what becomes of one that it takes.
+pub fn judge(groups: Groups, group: Group, room: Fate) -> Judged
+    ensures { λ r. ⌜ r ≡ judged groups group room ⌝ }
+{
+    let words = groups.words;
+    let seen = window::judge(groups.incoming, words, group);
+    let verdict = seen.verdict;
+    if let Verdict::Taken = verdict {
+        let base = seen.base;
+        let after = seen.words;
+        return take(room, groups, group, base, after);
+    }
+    Judged {
+        groups,
+        fate: Fate::Passed,
+    }
+}
+
+// What a fate comes to for the caller.
+pub fn reply_of(fate: Fate) -> Reply
+    ensures { λ r. ⌜ r ≡ replyOf fate ⌝ }
+{
+    match fate {
+        Fate::Passed => Reply::Passed,
+        Fate::NoRoom => Reply::Refused(Refusal::NotStored),
+        Fate::Stored(_) => Reply::Stored,
+    }
+}
