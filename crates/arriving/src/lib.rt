@@ -75,7 +75,13 @@ fn is_whole(a: Arrival, settings: Settings, end: usize) -> bool
 }
 
 // 9, 6, 7: end is the datagram's.
-pub fn may_arrive(command: u8, a: Arrival, settings: Settings, standing: Standing, end: usize) -> Gate
+pub fn may_arrive(
+    command: u8,
+    a: Arrival,
+    settings: Settings,
+    standing: Standing,
+    end: usize,
+) -> Gate
     ensures { λ r. ⌜ r ≡ arrivalGate command a settings standing end ⌝ }
 {
     if a.byte % 16 != command {

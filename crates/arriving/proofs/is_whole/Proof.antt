@@ -1,32 +1,26 @@
+-- `is_whole` asks the rule's tests in turn: the setting, the cell, the datagram's end.
 use borrow.Author.Needs.{needs}
+use borrow.Author.Tests.{le-leb, lt-leb}
 use Rattle.arriving.proofs.is_whole.Statement.{statement}
 use Rattle.arriving.proofs.is_whole.Tie as tie
-use Rattle.arriving.proofs.is_whole.Reads as reads
-use Rattle.arriving.proofs.is_whole.Lts as lts
 
--- src/lib.rt:69:9
 returns : tie.Need-returns
-returns c = ?
+returns c = rw (lt-leb _ _ (c .if1 .taken))
 
--- src/lib.rt:72:9
 returns-2 : tie.Need-returns-2
-returns-2 c = ?
+returns-2 c = rw (le-leb _ _ (c .before .before .if1 .left), lt-leb _ _ (c .if2 .taken))
 
--- src/lib.rt:74:5
 cast-result : tie.Need-cast-result
 cast-result c = search needs
 
--- src/lib.rt:74:24
 cast-result-2 : tie.Need-cast-result-2
 cast-result-2 c = search needs
 
--- src/lib.rt:74:5
 add-result : tie.Need-add-result
 add-result c = search needs
 
--- src/lib.rt:65:1
 returns-3 : tie.Need-returns-3
-returns-3 c = ?
+returns-3 c = rw (le-leb _ _ (c .before .before .before .before .if1 .left), le-leb _ _ (c .before .before .if2 .left))
 
 pub is-whole-spec : {M : Type 1} → statement M
 is-whole-spec =

@@ -1,34 +1,40 @@
+-- `may_arrive` asks the rule's tests in their order: each answer picks the gate's case.
+use mathlib.Core.Path.{sym, _∙_}
 use borrow.Author.Needs.{needs}
+use borrow.Author.Tests.{eq-eqb, ne-eqb, not-true, not-false}
 use Rattle.arriving.proofs.may_arrive.Statement.{statement}
 use Rattle.arriving.proofs.may_arrive.Tie as tie
-use Rattle.arriving.proofs.may_arrive.Reads as reads
-use Rattle.arriving.proofs.may_arrive.Lts as lts
-use Rattle.arriving.proofs.is_receiving.Reads as is-receiving-reads
-use Rattle.arriving.proofs.is_whole.Reads as is-whole-reads
 
--- src/lib.rt:82:9
 returns : tie.Need-returns
-returns c = ?
+returns c = rw (ne-eqb _ _ (c .if1 .taken))
 
--- src/lib.rt:84:9
 is-receiving-requires : tie.Need-is-receiving-requires
 is-receiving-requires c κs = search needs
 
--- src/lib.rt:85:9
 returns-2 : tie.Need-returns-2
-returns-2 c = ?
+returns-2 c =
+    rw (eq-eqb _ _ (c .before .before .if1 .left), sym (c .before .is-receiving .ensures) ∙ not-true _ (c .if2 .taken))
 
--- src/lib.rt:87:9
 is-whole-requires : tie.Need-is-whole-requires
 is-whole-requires c κs = search needs
 
--- src/lib.rt:88:9
 returns-3 : tie.Need-returns-3
-returns-3 c = ?
+returns-3 c =
+    let r = c .before .before in
+    rw (
+      eq-eqb _ _ (r .before .before .if1 .left),
+      sym (r .before .is-receiving .ensures) ∙ not-false _ (r .if2 .left),
+      sym (c .before .is-whole .ensures) ∙ not-true _ (c .if3 .taken),
+    )
 
--- src/lib.rt:78:1
 returns-4 : tie.Need-returns-4
-returns-4 c = ?
+returns-4 c =
+    let r = c .before .before in
+    rw (
+      eq-eqb _ _ (r .before .before .if1 .left),
+      sym (r .before .is-receiving .ensures) ∙ not-false _ (r .if2 .left),
+      sym (c .before .is-whole .ensures) ∙ not-false _ (c .if3 .left),
+    )
 
 pub may-arrive-spec : {M : Type 1} → statement M
 may-arrive-spec =

@@ -1,32 +1,32 @@
+-- `room` asks for the state, then for the waiting total; then the free slot is told by its variant.
+use mathlib.Core.Path.{sym, ap}
 use borrow.Author.Needs.{needs}
+use borrow.Author.Tests.{eq-eqb, ne-eqb, le-leb, lt-leb}
+use Rattle.arriving.specs.Arrivals.{inSlot}
 use Rattle.arriving.proofs.room.Statement.{statement}
 use Rattle.arriving.proofs.room.Tie as tie
-use Rattle.arriving.proofs.room.Reads as reads
-use Rattle.arriving.proofs.room.Lts as lts
 
--- src/lib.rt:98:9
 returns : tie.Need-returns
-returns c = ?
+returns c = rw (eq-eqb _ _ (c .if1 .taken))
 
--- src/lib.rt:101:9
 returns-2 : tie.Need-returns-2
-returns-2 c = ?
+returns-2 c = rw (ne-eqb _ _ (c .before .before .if1 .left), le-leb _ _ (c .if2 .taken))
 
--- src/lib.rt:104:22
 enum-known-free : tie.Need-enum-known-free
 enum-known-free c = search needs
 
--- src/lib.rt:105:23
 enum-told : tie.Need-enum-told
 enum-told c = search needs
 
--- src/lib.rt:94:1
 returns-3 : tie.Need-returns-3
-returns-3 c = ?
+returns-3 c =
+    let i = c .before .before .before in
+    rw (ne-eqb _ _ (i .before .before .if1 .left), lt-leb _ _ (i .if2 .left)) (sym (ap inSlot (c .before .free .given .1)))
 
--- src/lib.rt:94:1
 returns-4 : tie.Need-returns-4
-returns-4 c = ?
+returns-4 c =
+    let i = c .before .before in
+    rw (ne-eqb _ _ (i .before .before .if1 .left), lt-leb _ _ (i .if2 .left)) (sym (ap inSlot (c .enum-told .given .1)))
 
 pub room-spec : {M : Type 1} → statement M
 room-spec = tie.close (tie.spec returns returns-2 enum-known-free enum-told returns-3 returns-4)

@@ -1,0 +1,1 @@
+// What an arrival does: theorems alone.

@@ -1,0 +1,1 @@
+// What calls leave as it was: a definition and theorems alone.
