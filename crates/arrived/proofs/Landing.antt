@@ -22,6 +22,7 @@ use Rattle.peer.specs.Outcome.{State, Outcome, unchanged}
 use Rattle.peer.specs.declared.settings.Settings.{Settings}
 use Rattle.peer.specs.declared.gate.Lent.the-variants.{Store}
 use Rattle.peer.proofs.Gates.{behind-has}
+use Rattle.arriving.proofs.Admitted.{not-passed, not-refused}
 use Rattle.arriving.specs.Arrivals.{passedOver, stored, answerOf, arrivalGate, roomOf, replyOf}
 use Rattle.arriving.specs.Window.{takenAt, passedBy, judged}
 use Rattle.arriving.specs.declared.Arrival.{Arrival}
@@ -29,7 +30,6 @@ use Rattle.arriving.specs.declared.Fate.{Fate}
 use Rattle.arriving.specs.declared.Fate.the-variants as fate
 use Rattle.arriving.specs.declared.Judged.{Judged}
 use Rattle.unsequenced.specs.Calls.{sendUnsequenced, judgedOn, unsequencedAfter, unsequencedSound, arrivesUnsequenced}
-use Rattle.arrived.proofs.Fates.{not-passed, not-refused}
 use Rattle.arrived.specs.Landing.{Took, Lands, stays, takes, delivers}
 
 -- the window's tests in their order

@@ -1,5 +1,4 @@
 pub mod Pools
-pub mod Fates
 pub mod Unsequenced
 pub mod Reliable
 pub mod Landing

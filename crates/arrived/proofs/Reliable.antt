@@ -45,13 +45,14 @@ use Rattle.dispatch.specs.Calls.{dispatchedOn}
 use Rattle.dispatch.proofs.Sums.{held-set, held-within}
 use Rattle.dispatch.proofs.Sound.{fit-set, own-set, dispatched-sound}
 use Rattle.arriving.proofs.Laws.{room-stored}
+use Rattle.arriving.proofs.Admitted.{Admitted, admitted, lent-whole}
 use Rattle.arriving.specs.Arrivals.{passedOver, stored, answerOf, arrivalGate, roomOf, replyOf, arrivedSlot, storedAt}
 use Rattle.arriving.specs.declared.Arrival.{Arrival}
 use Rattle.arriving.specs.declared.Fate.{Fate}
 use Rattle.arriving.specs.declared.Fate.the-variants as fate
 use Rattle.holding.specs.Holding.{ahead, nearer, isPassed, heldWith}
-use Rattle.reliable.specs.Calls.{sendReliable, channelOf, dispatchedWith, reliableAfter, fateOf, fateOn, reliableSound, arrivesReliable}
-use Rattle.arrived.proofs.Fates.{Admitted, admitted, lent-whole, slotIn}
+use Rattle.reliable.proofs.Calling.{room-of}
+use Rattle.reliable.specs.Calls.{sendReliable, channelOf, reliableAfter, fateOn, reliableSound, arrivesReliable}
 use Rattle.arrived.proofs.Pools.{free-exists, free-unnamed, free-room, lengths-own, own-unnamed, joined-clauses}
 
 module _ (s : Settings) (a : Arrival) (datagram : List ℕ) (x : State) where
@@ -79,11 +80,9 @@ module _ (s : Settings) (a : Arrival) (datagram : List ℕ) (x : State) where
       by-fate good long may (fate.Stored n) e = kept n good long may e
 
   pub held-free : (n : ℕ) → fateOn s a p ≡ fate.Stored n → freeSlot (p .lists) (p .channels) (p .standing .count) ≡ Lowest n
-  held-free n e = go (isPassed (p .incoming) (channelOf a p) (a .number .0)) e
-    where
-      go : (b : Bool) → fateOf b (roomOf s p) ≡ fate.Stored n → freeSlot (p .lists) (p .channels) (p .standing .count) ≡ Lowest n
-      go true e = absurd (omega (arith, ap slotIn e))
-      go false e = room-stored s (p .standing .state) (p .waiting .total) _ n e
+  held-free n e =
+      room-stored s (p .standing .state) (p .waiting .total) _ n
+      (room-of (isPassed (p .incoming) (channelOf a p) (a .number .0)) (roomOf s p) n e)
 
 -- slot n, free before, in its channel's list
 module _ (a : Arrival) (datagram : List ℕ) (x : State) (n : ℕ)

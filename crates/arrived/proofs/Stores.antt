@@ -31,13 +31,13 @@ use Rattle.storing.proofs.Cells.{filled-length, filled-payload, filled-others}
 use Rattle.dispatch.specs.Calls.{dispatchedOn}
 use Rattle.dispatch.proofs.Calling.{ready, chosen}
 use Rattle.dispatch.proofs.Moving.{dispatch-order}
+use Rattle.arriving.proofs.Admitted.{Admitted, not-passed, not-refused}
 use Rattle.arriving.specs.Arrivals.{passedOver, stored, arrivedSlot, storedAt}
 use Rattle.arriving.specs.declared.Arrival.{Arrival}
 use Rattle.arriving.specs.declared.Fate.the-variants as fate
 use Rattle.unsequenced.specs.Calls.{regrouped, judgedOn, arrivesUnsequenced}
 use Rattle.reliable.specs.Calls.{reliableAfter, fateOn, dispatchedWith, arrivesReliable}
 use Rattle.arrived.specs.Stores.{Stores, Leaves, Arrives, leaves, stores, Adds}
-use Rattle.arrived.proofs.Fates.{Admitted, not-passed, not-refused}
 use Rattle.arrived.proofs.Pools.{free-exists}
 use Rattle.arrived.proofs.Unsequenced.{unsequenced-has, stored-free, joins}
 use Rattle.arrived.proofs.Reliable.{reliable-has, held-free, between, between-whole, between-sound, left-dispatched}

@@ -40,12 +40,12 @@ use Rattle.peer.proofs.Sound.{lent-sounds}
 use Rattle.storing.specs.Storing.{freeSlot, delivered}
 use Rattle.dispatch.proofs.Sound.{dispatched-fit}
 use Rattle.arriving.proofs.Laws.{judged-stored, room-stored}
+use Rattle.arriving.proofs.Admitted.{Admitted, admitted, lent-whole}
 use Rattle.arriving.specs.Arrivals.{passedOver, stored, answerOf, arrivalGate, roomOf, replyOf, arrivedSlot, storedAt}
 use Rattle.arriving.specs.declared.Arrival.{Arrival}
 use Rattle.arriving.specs.declared.Fate.{Fate}
 use Rattle.arriving.specs.declared.Fate.the-variants as fate
 use Rattle.unsequenced.specs.Calls.{sendUnsequenced, regrouped, judgedOn, unsequencedAfter, unsequencedSound, arrivesUnsequenced}
-use Rattle.arrived.proofs.Fates.{Admitted, admitted, lent-whole}
 use Rattle.arrived.proofs.Pools.{free-exists, free-unnamed, free-room, lengths-own, own-unnamed, joined-clauses}
 
 module _ (s : Settings) (a : Arrival) (group : Group) (datagram : List ℕ) (x : State) where

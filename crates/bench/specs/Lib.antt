@@ -1,3 +1,1 @@
-pub mod Cells
-pub mod Sets
 pub mod Values

@@ -1,11 +1,13 @@
-// Op 20: each group of the record with another number, where the number that is named is its own.
+// Ops 20 and 22: each group of the record with another number, where the number that is named is its own.
 ghost use mathlib.Core.Path.{_≡_};
 ghost use Prim.Native.Nat.{_%_};
 ghost use Rattle.bench.specs.Values.{at, wordsAt};
 use numbers::consts::UNSEQUENCED_WORDS;
 use numbers::counters::Group;
 use numbers::counters::Reliable;
+use numbers::counters::Unreliable;
 use parts::groups::Bandwidth;
+use parts::groups::Channel;
 use parts::groups::Flow;
 use parts::groups::Groups;
 use parts::groups::Ids;
@@ -25,7 +27,7 @@ fn long(which: u32, k: u32, x: u32, old: u32) -> u32
     if which == k { x } else { old }
 }
 
-pub(crate) fn short(which: u32, k: u32, x: u32, old: u16) -> u16
+fn short(which: u32, k: u32, x: u32, old: u16) -> u16
     ensures { λ r. ⌜ r ≡ at which k (x % 65536) old ⌝ }
 {
     if which == k { (x % 65536) as u16 } else { old }
@@ -229,4 +231,30 @@ fn worded(which: u32, x: u32, words: [u32; UNSEQUENCED_WORDS]) -> [u32; UNSEQUEN
         to[i] = x;
     }
     to
+}
+
+// Op 22, "which (0 to 3)": the numbers of a channel in the record's order.
+pub fn channel(which: u32, x: u32, c: Channel) -> Channel
+    ensures { λ r. ⌜ r .«outgoing_reliable» .0 ≡ at which 0 (x % 65536) (c .«outgoing_reliable» .0) ⌝ }
+    ensures { λ r. ⌜ r .«outgoing_unreliable» .0 ≡ at which 1 (x % 65536) (c .«outgoing_unreliable» .0) ⌝ }
+    ensures { λ r. ⌜ r .«incoming_reliable» .0 ≡ at which 2 (x % 65536) (c .«incoming_reliable» .0) ⌝ }
+    ensures { λ r. ⌜ r .«incoming_unreliable» .0 ≡ at which 3 (x % 65536) (c .«incoming_unreliable» .0) ⌝ }
+    ensures { λ r. ⌜ r .held ≡ c .held ⌝ }
+{
+    let a = c.outgoing_reliable;
+    let b = c.outgoing_unreliable;
+    let d = c.incoming_reliable;
+    let e = c.incoming_unreliable;
+    let held = c.held;
+    let outgoing_reliable = Reliable(short(which, 0, x, a.0));
+    let outgoing_unreliable = Unreliable(short(which, 1, x, b.0));
+    let incoming_reliable = Reliable(short(which, 2, x, d.0));
+    let incoming_unreliable = Unreliable(short(which, 3, x, e.0));
+    Channel {
+        outgoing_reliable,
+        outgoing_unreliable,
+        incoming_reliable,
+        incoming_unreliable,
+        held,
+    }
 }

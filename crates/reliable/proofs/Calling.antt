@@ -42,6 +42,7 @@ use Rattle.arriving.specs.declared.Reply.the-variants as reply
 use Rattle.arriving.specs.declared.Fate.{Fate}
 use Rattle.arriving.specs.declared.Fate.the-variants as fate
 use Rattle.arriving.proofs.Fate.{the-type}
+use Rattle.arriving.proofs.Admitted.{admitted}
 use Rattle.arriving.proofs.Laws.{room-stored}
 use Rattle.holding.specs.Holding.{isPassed, heldWith}
 use Rattle.reliable.specs.Calls.{sendReliable, channelOf, dispatchedWith, reliableAfter, fateOf, fateOn, reliableSound, arrivesReliable}
@@ -50,18 +51,10 @@ use Rattle.reliable.specs.Calls.{sendReliable, channelOf, dispatchedWith
 abbrev pub others : List ℕ
 others = 0 ∷ 1 ∷ []
 
--- an arrival that both 9 and 6 let pass is received
-receives : (named received whole : Bool)
-    → then (pick named Open (Shut BadCommand)) (then (pick received Open (Shut NotReceiving)) (pick whole Open (Shut LengthTooLarge))) ≡ Open
-    → received ≡ true
-receives true true whole e = refl
-receives true false whole e = absurd (omega (arith, ap openness e))
-receives false received whole e = absurd (omega (arith, ap openness e))
-
 -- what is stored was not passed over
-not-passed : (passed : Bool) (room : Fate) (n : ℕ) → fateOf passed room ≡ fate.Stored n → room ≡ fate.Stored n
-not-passed true room n e = let z : _≡_ {A = ℕ} 0 1 = cc in absurd (omega arith)
-not-passed false room n e = e
+pub room-of : (passed : Bool) (room : Fate) (n : ℕ) → fateOf passed room ≡ fate.Stored n → room ≡ fate.Stored n
+room-of true room n e = let z : _≡_ {A = ℕ} 0 1 = cc in absurd (omega arith)
+room-of false room n e = e
 
 -- ws and g are what the code answered
 module _ (s : Settings) (a : Arrival) (datagram : List ℕ) (p : Peer) (store : List ℕ) (ws : List ℕ) (v : ws ≡ worthsOf p)
@@ -91,9 +84,7 @@ module _ (s : Settings) (a : Arrival) (datagram : List ℕ) (p : Peer) (store : 
     module _ (may : m ≡ Open) where
       pub channel-exists : a .channel < channels
       channel-exists =
-          let received =
-          receives (names (a .byte) sendReliable) (isReceiving (a .channel) (p .standing)) (isWhole a s (length datagram)) (sym is ∙ may) in
-          let below = ltb-true (a .channel) (p .standing .count) (both-left (ltb (a .channel) (p .standing .count)) _ received) in
+          let below = admitted sendReliable a s (p .standing) (length datagram) (sym is ∙ may) .on in
           omega (arith, below, count-high p (open-sound s (Store (length store)) p ws v g e opens))
 
       -- free, room, own, passed and f are what the helpers answered
@@ -125,7 +116,7 @@ module _ (s : Settings) (a : Arrival) (datagram : List ℕ) (p : Peer) (store : 
           pub slot-exists : n < incoming
           slot-exists =
               lowest-exists incoming (usedIn (p .lists) (below (p .channels) (p .standing .count))) n
-              (sym l ∙ room-stored s (p .standing .state) (p .waiting .total) free n (sym z ∙ not-passed passed room n (sym w ∙ t)))
+              (sym l ∙ room-stored s (p .standing .state) (p .waiting .total) free n (sym z ∙ room-of passed room n (sym w ∙ t)))
 
           -- longer is the channel with the slot, d what is ready of it then
           pub arrive-stored : (longer : Channel) (slot : Incoming) (d : Dispatched) (waiting : Waiting) (cells : List ℕ)

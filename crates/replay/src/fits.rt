@@ -1,6 +1,6 @@
 // Whether the numbers of a frame fit what its op makes of them.
 use crate::settings;
-use bench::sets;
+use placing::sets;
 use script::frames::Frame;
 
 // In place of the op of a frame that makes no call: a number does not fit its parameter's type, or a place is not there.

@@ -1,12 +1,12 @@
 // Ops 20 to 24: the bench's own changes of the record, sound or not. The frame was seen to fit.
-use bench::cells;
-use bench::pools;
-use bench::sets;
 use bench::values;
 use parts::groups::CHANNELS;
 use parts::groups::Channel;
 use parts::groups::Lists;
 use peer::record::Peer;
+use placing::cells;
+use placing::pools;
+use placing::sets;
 use script::frames;
 use script::frames::Frame;
 
@@ -54,7 +54,7 @@ fn lists(f: Frame, l: Lists) -> Lists {
 // The channels' lists are 8 to 15.
 fn channel(f: Frame, c: Channel) -> Channel {
     if f.op == 22 {
-        return cells::channel(f.n1, f.n2, c);
+        return values::channel(f.n1, f.n2, c);
     }
     if f.op == 21 && 8 <= f.n0 {
         return cells::held(f.n1, frames::short(f.n2), c);

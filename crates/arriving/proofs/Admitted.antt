@@ -1,6 +1,6 @@
 -- What an open gate says: the channel is below the count, the payload fits a cell and stands in the datagram, the store has its length.
 -- The argument: by cases on the tests, in their order.
-use Prim.Native.Nat.{ℕ, suc, _+_, _≤_, _<_}
+use Prim.Native.Nat.{ℕ, _+_, _≤_, _<_}
 use mathlib.Core.Path.{_≡_, refl, ap}
 use mathlib.Core.Bool.{Bool, true, false}
 use native.Mathlib.Omega.{arith}
@@ -21,10 +21,8 @@ use Rattle.peer.specs.declared.settings.Settings.{Settings}
 use Rattle.peer.specs.declared.gate.Lent.the-variants.{Store}
 use Rattle.peer.specs.declared.gate.Gate.the-variants.{Open, Shut}
 use Rattle.peer.proofs.Gates.{openness}
 use Rattle.arriving.specs.Arrivals.{passedOver, stored, names, isReceiving, isWhole, arrivalGate}
 use Rattle.arriving.specs.declared.Arrival.{Arrival}
-use Rattle.arriving.specs.declared.Fate.{Fate}
-use Rattle.arriving.specs.declared.Fate.the-variants as fate
 
 pub record Admitted (a : Arrival) (standing : Standing) (end : ℕ) : Type 0 where
   pub on : a .channel < standing .count
@@ -50,12 +48,6 @@ admitted command a s standing end e = go (names (a .byte) command) (isReceiving 
     go true true r false w e = absurd (omega (arith, ap openness e))
     go true false r d w e = absurd (omega (arith, ap openness e))
     go false c r d w e = absurd (omega (arith, ap openness e))
-
--- tells the fates apart, and the slots
-abbrev pub slotIn : Fate → ℕ
-slotIn fate.Passed = 0
-slotIn fate.NoRoom = 0
-slotIn (fate.Stored n) = suc n
 
 -- "stored" is neither passed over nor a refusal
 pub not-passed : passedOver ≡ stored → ⊥

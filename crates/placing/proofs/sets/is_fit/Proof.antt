@@ -1,7 +1,7 @@
 -- `is_fit`: each op has its own test, and any other has none.
 use borrow.Author.Needs.{needs}
-use Rattle.bench.proofs.sets.is_fit.Statement.{statement}
-use Rattle.bench.proofs.sets.is_fit.Tie as tie
+use Rattle.placing.proofs.sets.is_fit.Statement.{statement}
+use Rattle.placing.proofs.sets.is_fit.Tie as tie
 
 fits-number-requires : tie.Need-fits-number-requires
 fits-number-requires c κs = search needs

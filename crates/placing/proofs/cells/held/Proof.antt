@@ -1,8 +1,8 @@
 -- `held`: the list has another cell, the numbers stay.
 use mathlib.Core.Path.{refl}
 use borrow.Author.Needs.{needs}
-use Rattle.bench.proofs.cells.held.Statement.{statement}
-use Rattle.bench.proofs.cells.held.Tie as tie
+use Rattle.placing.proofs.cells.held.Statement.{statement}
+use Rattle.placing.proofs.cells.held.Tie as tie
 
 in-cell-requires : tie.Need-in-cell-requires
 in-cell-requires c κs = search needs

@@ -1,11 +1,6 @@
-// Ops 21 and 22: a list with another cell, a channel with another number.
+// Op 21: a list with another cell.
 ghost use mathlib.Core.Path.{_≡_};
-ghost use Prim.Native.Nat.{_%_};
-ghost use Rattle.bench.specs.Values.{at};
-ghost use Rattle.bench.specs.Cells.{outCell, inCell, outAt, inAt};
-use crate::values;
-use numbers::counters::Reliable;
-use numbers::counters::Unreliable;
+ghost use Rattle.placing.specs.Cells.{outCell, inCell, outAt, inAt};
 use parts::groups::Channel;
 use parts::groups::Lists;
 use slots::INCOMING;
@@ -87,30 +82,4 @@ pub fn held(which: u32, x: u16, c: Channel) -> Channel
     let mut to = c;
     to.held = in_cell(which, x, c.held);
     to
-}
-
-// "which (0 to 3)": the numbers of a channel in the record's order.
-pub fn channel(which: u32, x: u32, c: Channel) -> Channel
-    ensures { λ r. ⌜ r .«outgoing_reliable» .0 ≡ at which 0 (x % 65536) (c .«outgoing_reliable» .0) ⌝ }
-    ensures { λ r. ⌜ r .«outgoing_unreliable» .0 ≡ at which 1 (x % 65536) (c .«outgoing_unreliable» .0) ⌝ }
-    ensures { λ r. ⌜ r .«incoming_reliable» .0 ≡ at which 2 (x % 65536) (c .«incoming_reliable» .0) ⌝ }
-    ensures { λ r. ⌜ r .«incoming_unreliable» .0 ≡ at which 3 (x % 65536) (c .«incoming_unreliable» .0) ⌝ }
-    ensures { λ r. ⌜ r .held ≡ c .held ⌝ }
-{
-    let a = c.outgoing_reliable;
-    let b = c.outgoing_unreliable;
-    let d = c.incoming_reliable;
-    let e = c.incoming_unreliable;
-    let held = c.held;
-    let outgoing_reliable = Reliable(values::short(which, 0, x, a.0));
-    let outgoing_unreliable = Unreliable(values::short(which, 1, x, b.0));
-    let incoming_reliable = Reliable(values::short(which, 2, x, d.0));
-    let incoming_unreliable = Unreliable(values::short(which, 3, x, e.0));
-    Channel {
-        outgoing_reliable,
-        outgoing_unreliable,
-        incoming_reliable,
-        incoming_unreliable,
-        held,
-    }
 }

@@ -2,7 +2,7 @@
 ghost use mathlib.Core.Path.{_≡_};
 ghost use Prim.Native.Nat.{_%_};
 ghost use lib.Dec.{eqb};
-ghost use Rattle.bench.specs.Sets.{numberFits, cellFits, channelFits, outgoingFits, incomingFits, setFits};
+ghost use Rattle.placing.specs.Sets.{numberFits, cellFits, channelFits, outgoingFits, incomingFits, setFits};
 use command::fields::Command;
 use numbers::counters::Reliable;
 use numbers::counters::Unreliable;

@@ -1,7 +1,7 @@
 -- `incoming`: the slot where it is to be set, else the pool as it was: the two arms of the test.
 use borrow.Author.Needs.{needs}
-use Rattle.bench.proofs.pools.incoming.Statement.{statement}
-use Rattle.bench.proofs.pools.incoming.Tie as tie
+use Rattle.placing.proofs.pools.incoming.Statement.{statement}
+use Rattle.placing.proofs.pools.incoming.Tie as tie
 
 mul-to : tie.Need-mul-to
 mul-to c = search needs

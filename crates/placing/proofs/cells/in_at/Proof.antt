@@ -1,8 +1,8 @@
 -- `in_at`: as `out_at`, of the incoming pool.
 use borrow.Author.Tests.{eq-eqb, ne-eqb}
 use borrow.Author.Needs.{needs}
-use Rattle.bench.proofs.cells.in_at.Statement.{statement}
-use Rattle.bench.proofs.cells.in_at.Tie as tie
+use Rattle.placing.proofs.cells.in_at.Statement.{statement}
+use Rattle.placing.proofs.cells.in_at.Tie as tie
 
 in-cell-requires : tie.Need-in-cell-requires
 in-cell-requires c κs = search needs

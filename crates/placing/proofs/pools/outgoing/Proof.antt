@@ -1,7 +1,7 @@
 -- `outgoing`: the slot where it is to be set, else the pool as it was: the two arms of the test.
 use borrow.Author.Needs.{needs}
-use Rattle.bench.proofs.pools.outgoing.Statement.{statement}
-use Rattle.bench.proofs.pools.outgoing.Tie as tie
+use Rattle.placing.proofs.pools.outgoing.Statement.{statement}
+use Rattle.placing.proofs.pools.outgoing.Tie as tie
 
 mul-to : tie.Need-mul-to
 mul-to c = search needs

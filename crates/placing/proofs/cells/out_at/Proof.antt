@@ -1,8 +1,8 @@
 -- `out_at`: the list that is named has another cell, any other stays: the two arms of the test.
 use borrow.Author.Tests.{eq-eqb, ne-eqb}
 use borrow.Author.Needs.{needs}
-use Rattle.bench.proofs.cells.out_at.Statement.{statement}
-use Rattle.bench.proofs.cells.out_at.Tie as tie
+use Rattle.placing.proofs.cells.out_at.Statement.{statement}
+use Rattle.placing.proofs.cells.out_at.Tie as tie
 
 out-cell-requires : tie.Need-out-cell-requires
 out-cell-requires c κs = search needs
