@@ -33,7 +33,7 @@ replies-apart (Refused why) (Refused because) e = ap Refused (refused-apart why 
 
 module _ (o : Outcome State) (a b : Arrived) (s t : List ℕ)
     (c : Came answerOf o (a .reply) (record { peer = a .peer; store = s })) (d : Came answerOf o (b .reply) (record { peer = b .peer; store = t })) where
-  states : record { peer = a .peer; store = s } ≡ record { peer = b .peer; store = t }
+  states : _≡_ {A = State} (record { peer = a .peer; store = s }) (record { peer = b .peer; store = t })
   states = after-settled answerOf replies-apart o (a .reply) (b .reply) _ _ c d
 
   pub arrival-settled : a ≡ b
