@@ -1,8 +1,8 @@
-// What a send is to do: whether it is refused, and which commands it queues.
+// What a send is to do: which commands it queues, and whether it is refused.
 ghost use mathlib.Core.Path.{_≡_};
 ghost use Rattle.parts.specs.Updates.{withNumbers};
 ghost use Rattle.peer.specs.Gate.{then};
-ghost use Rattle.stamps.specs.Outboxes.{freeIn};
+ghost use Rattle.stamps.specs.Outboxes.{queueing, freeIn};
 ghost use Rattle.packets.specs.Packets.{pieceCount};
 ghost use Rattle.plans.specs.Refusals.{sendGate, queueGate};
 ghost use Rattle.plans.specs.Plans.{packetOf, countOf, pieceAt, nextAt};
@@ -17,6 +17,8 @@ use peer::settings::Settings;
 use slots::OUTGOING;
 use stamps::counting::Counters;
 use stamps::outbox;
+use stamps::outbox::Outbox;
+use stamps::outbox::Queued;
 use stamps::pieces::Piece;
 
 // A packet as it goes out: in one command, or cut.
@@ -93,13 +95,20 @@ pub fn count_of(packet: Packet) -> u32
 }
 
 // Command j of a packet, at its offset.
-pub fn piece_at(packet: Packet, j: u32, offset: u32) -> Piece
+fn piece_at(packet: Packet, j: u32, offset: u32) -> Piece
     ensures { λ r. ⌜ r ≡ pieceAt packet j offset ⌝ }
 {
     match packet {
         Packet::One(x) => x,
         Packet::Pieces(x) => packets::piece(x, j, offset),
     }
+}
+
+// That command set up in the lowest free slot.
+pub fn queue(o: Outbox, packet: Packet, j: u32, offset: u32) -> Queued
+    ensures { λ r. ⌜ r ≡ queueing o (pieceAt packet j offset) ⌝ }
+{
+    outbox::queue(o, piece_at(packet, j, offset))
 }
 
 // Where the next one begins.

@@ -67,17 +67,20 @@ module _ (x : Packet) (count channel : ℕ) (p₀ : Peer) where
     pub same : queuedAll (piecesOf x) p₀ ≡ queuedAll (leftOf x (count - j) j offset) (stored p channel o (p .outgoing))
 
   module _ (p : Peer) (o : Outbox) (j offset : ℕ) (g : Going p o j offset) where
-    module _ (h : j < count) (y : Piece) (ye : y ≡ pieceAt x j offset) (q : Queued) (qe : q ≡ queueing o y) where
+    module _ (h : j < count) (q : Queued) (qe : q ≡ queueing o (pieceAt x j offset)) where
+      abbrev y : Piece
+      y = pieceAt x j offset
+
       rest : List Piece
       rest = leftOf x (count - (j + 1)) (j + 1) (nextAt x offset)
 
       split : leftOf x (count - j) j offset ≡ y ∷ rest
       unfolding rest
-      split = left-turn x count j offset h ∙ ap (λ (z : Piece). z ∷ rest) (sym ye)
+      split = left-turn x count j offset h
 
       turned : Turned y rest p channel o q
       turned =
-          turn-on y rest p channel (ap (λ (z : Piece). z .command .channel) ye ∙ g .on j offset) (g .here) o (g .says) (rw split at (g .ready)) q qe
+          turn-on y rest p channel (g .on j offset) (g .here) o (g .says) (rw split at (g .ready)) q qe
 
       pub going-exists : q .at < outgoing
       going-exists = turned .exists

@@ -16,17 +16,20 @@ use stamps::outbox;
 pub fn send(peer: Peer, settings: Settings, channel: u8, length: u32, flags: u32) -> Called
     ensures { λ r. ⌜ Came answerOf (sends settings channel length flags peer) (r .reply) (r .peer) ⌝ }
 {
-    let channels = peer.channels;
-    let incoming = peer.incoming;
-    let outgoing = peer.outgoing;
-    let worths = damage::worths(outgoing, peer.standing.count);
+    // A refusal gives `peer` back and all else is read off `p`: else both stay on the stack.
+    let mut p = peer;
+    let lists = p.lists;
+    let channels = p.channels;
+    let incoming = p.incoming;
+    let outgoing = p.outgoing;
+    let worths = damage::worths(outgoing, p.standing.count);
     let gate = gate::pass(
         settings,
         Lent::Nothing,
-        peer.flow.mtu,
-        peer.standing.count,
-        peer.waiting.total,
-        peer.lists,
+        p.flow.mtu,
+        p.standing.count,
+        p.waiting.total,
+        lists,
         channels,
         worths,
         incoming,
@@ -38,30 +41,29 @@ pub fn send(peer: Peer, settings: Settings, channel: u8, length: u32, flags: u32
         };
     }
     let mut o = outbox::open(
-        peer.totals,
-        peer.waiting,
-        peer.flow,
-        peer.groups,
+        p.totals,
+        p.waiting,
+        p.flow,
+        p.groups,
         channels,
         channel,
-        peer.lists,
+        lists,
     );
-    let fragment = packets::fragment_length(peer.flow.mtu, settings.checksum) as u16;
+    let fragment = packets::fragment_length(p.flow.mtu, settings.checksum) as u16;
     let packet = plans::packet_of(flags, o.counters, channel, length, fragment);
     let count = plans::count_of(packet);
     let marks = o.marks;
-    let room = plans::judge(settings, peer.standing, channel, length, count, marks);
+    let room = plans::judge(settings, p.standing, channel, length, count, marks);
     if let Gate::Shut(why) = room {
         return Called {
             peer,
             reply: Reply::Refused(why),
         };
     }
-    let mut p = peer;
     let mut j: u32 = 0;
     let mut offset: u32 = 0;
     while j < count {
-        let made = outbox::queue(o, plans::piece_at(packet, j, offset));
+        let made = plans::queue(o, packet, j, offset);
         let at = made.at;
         let slot = made.slot;
         p.outgoing[at] = slot;
@@ -72,13 +74,13 @@ pub fn send(peer: Peer, settings: Settings, channel: u8, length: u32, flags: u32
     let i = channel as usize;
     let own = p.channels[i];
     let c = plans::channel_after(own, o.counters);
-    let lists = o.lists;
+    let joined = o.lists;
     p.totals.outgoing = o.total;
     p.waiting.queued = o.queued;
     p.flow.reliable.0 = o.counters.own.0;
     p.groups.outgoing.0 = o.counters.group.0;
     p.channels[i] = c;
-    p.lists = lists;
+    p.lists = joined;
     Called {
         peer: p,
         reply: Reply::Done,

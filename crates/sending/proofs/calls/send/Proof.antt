@@ -19,10 +19,10 @@ use Rattle.sending.proofs.calls.send.Statement.{statement}
 use Rattle.sending.proofs.calls.send.Tie as tie
 
 abbrev Inv-loop : tie.InvT-loop
-Inv-loop channel length flags o₀ fragment packet count p₀ j₀ offset₀ o p j offset = Going packet count channel p₀ p o j offset
+Inv-loop channel length flags p₀ o₀ fragment packet count j₀ offset₀ p o j offset = Going packet count channel p₀ p o j offset
 
 abbrev μ-loop : tie.MeasureT-loop
-μ-loop channel length flags o₀ fragment packet count p₀ j₀ offset₀ o p j offset = count - j
+μ-loop channel length flags p₀ o₀ fragment packet count j₀ offset₀ p o j offset = count - j
 
 worths-requires : tie.Need-worths-requires Inv-loop μ-loop
 worths-requires c κs = search needs
@@ -37,7 +37,7 @@ returns : tie.Need-returns Inv-loop μ-loop
 returns c =
     let g = c .before .before .before in
     let w = g .before in
-    let b = w .before .before .before .before in
+    let b = w .before .before .before .before .before in
     let a = b .args in
     let k = c .before .gate .given in
     came-shut (a .settings) Nothing (a .peer) (w .worths .result) (w .worths .ensures) (g .pass .result) (g .pass .ensures) (a .peer)
@@ -54,10 +54,10 @@ fragment-length-requires c κs = search needs
 
 cast-fragment : tie.Need-cast-fragment Inv-loop μ-loop
 cast-fragment c =
-    let t = c .before .before in
+    let t = c .before .before .before .before .before .before in
     let g = t .before .before in
     let w = g .before in
-    let b = w .before .before .before .before in
+    let b = w .before .before .before .before .before in
     let a = b .args in
     let good = open-sound (a .settings) Nothing (a .peer) (w .worths .result) (w .worths .ensures) (g .pass .result) (g .pass .ensures) (t .enum-told .given .1) in
     let h : c .fragment-length .result ≤ 65535 = rw (c .fragment-length .ensures) (length-high (a .peer .flow .mtu) (a .settings .checksum) (mtu-high (a .peer) good)) in
@@ -78,14 +78,14 @@ enum-known-room c = search needs
 returns-2 : tie.Need-returns-2 Inv-loop μ-loop
 returns-2 c =
     let j = c .before .before .before in
-    let n = j .before .before in
+    let n = j .before .before .before in
     let y = n .before in
     let f = y .before in
     let o = f .before in
-    let t = o .before in
+    let t = o .before .before .before .before .before in
     let g = t .before .before in
     let w = g .before in
-    let b = w .before .before .before .before in
+    let b = w .before .before .before .before .before in
     let a = b .args in
     let k = c .before .room .given in
     send-shut (a .settings) (a .channel) (a .length) (a .flags) (a .peer) (w .worths .result) (w .worths .ensures) (g .pass .result) (g .pass .ensures)
@@ -98,14 +98,14 @@ enum-told-2 c = search needs
 loop-holds : tie.Need-loop-holds Inv-loop μ-loop
 loop-holds c =
     let j = c .before .before in
-    let n = j .before .before in
+    let n = j .before .before .before in
     let y = n .before in
     let f = y .before in
     let o = f .before in
-    let t = o .before in
+    let t = o .before .before .before .before .before in
     let g = t .before .before in
     let w = g .before in
-    let b = w .before .before .before .before in
+    let b = w .before .before .before .before .before in
     let a = b .args in
     let u = b .good .0 .1 .1 .1 .1 .1 .1 .1 .1 .1 .1 .1 .1 .1 .1 .1 in
     let whole : Whole (a .peer) =
@@ -119,32 +119,27 @@ loop-holds c =
     (t .enum-told .given .1) (o .«open» .result) (o .«open» .ensures) (f .fragment-length .result) (f .fragment-length .ensures)
     (y .packet-of .result) (y .packet-of .ensures) (n .count-of .result) (n .count-of .ensures) (j .judge .result) (j .judge .ensures) whole (c .enum-told2 .given .1)
 
-piece-at-requires : tie.Need-piece-at-requires Inv-loop μ-loop
-piece-at-requires c κs = search needs
-
 queue-requires : tie.Need-queue-requires Inv-loop μ-loop
 queue-requires c κs = search needs
 
 mul-slot : tie.Need-mul-slot Inv-loop μ-loop
 mul-slot c =
     let q = c .before in
-    let y = q .before in
-    let l = y .before .before in
-    let n = l .before .before .before .before .before in
+    let l = q .before .before in
+    let n = l .before .before .before .before .before .before in
     let h : q .queue .result .at < outgoing =
-    going-exists (n .before .packet-of .result) (n .count-of .result) _ _ (l .loop .p) (l .loop .o) (l .loop .j) (l .loop .offset) (l .loop .inv) (y .before .loop-test .taken)
-    (y .piece-at .result) (y .piece-at .ensures) (q .queue .result) (q .queue .ensures) in
+    going-exists (n .before .packet-of .result) (n .count-of .result) _ _ (l .loop .p) (l .loop .o) (l .loop .j) (l .loop .offset) (l .loop .inv) (q .before .loop-test .taken)
+    (q .queue .result) (q .queue .ensures) in
     search needs
 
 element-set-from-slot : tie.Need-element-set-from-slot Inv-loop μ-loop
 element-set-from-slot c =
     let q = c .before in
-    let y = q .before in
-    let l = y .before .before in
-    let n = l .before .before .before .before .before in
+    let l = q .before .before in
+    let n = l .before .before .before .before .before .before in
     let h : q .queue .result .at < outgoing =
-    going-exists (n .before .packet-of .result) (n .count-of .result) _ _ (l .loop .p) (l .loop .o) (l .loop .j) (l .loop .offset) (l .loop .inv) (y .before .loop-test .taken)
-    (y .piece-at .result) (y .piece-at .ensures) (q .queue .result) (q .queue .ensures) in
+    going-exists (n .before .packet-of .result) (n .count-of .result) _ _ (l .loop .p) (l .loop .o) (l .loop .j) (l .loop .offset) (l .loop .inv) (q .before .loop-test .taken)
+    (q .queue .result) (q .queue .ensures) in
     search needs
 
 next-at-requires : tie.Need-next-at-requires Inv-loop μ-loop
@@ -152,8 +147,7 @@ next-at-requires c κs = search needs
 
 add-j : tie.Need-add-j Inv-loop μ-loop
 add-j c =
-    let l = c .before .before .before .before .before .before in
-    let h = l .before .before .before .before .before .count-of .ok in
+    let h = c .before .before .before .before .before .before .before .before .before .before .before .count-of .ok in
     search needs
 
 loop-less : tie.Need-loop-less Inv-loop μ-loop
@@ -162,11 +156,10 @@ loop-less c = search needs
 loop-again : tie.Need-loop-again Inv-loop μ-loop
 loop-again c =
     let q = c .before .before .before in
-    let y = q .before in
-    let l = y .before .before in
-    let n = l .before .before .before .before .before in
-    going-turn (n .before .packet-of .result) (n .count-of .result) _ _ (l .loop .p) (l .loop .o) (l .loop .j) (l .loop .offset) (l .loop .inv) (y .before .loop-test .taken)
-    (y .piece-at .result) (y .piece-at .ensures) (q .queue .result) (q .queue .ensures) (c .next-at .result) (c .next-at .ensures)
+    let l = q .before .before in
+    let n = l .before .before .before .before .before .before in
+    going-turn (n .before .packet-of .result) (n .count-of .result) _ _ (l .loop .p) (l .loop .o) (l .loop .j) (l .loop .offset) (l .loop .inv) (q .before .loop-test .taken)
+    (q .queue .result) (q .queue .ensures) (c .next-at .result) (c .next-at .ensures)
 
 mul-own : tie.Need-mul-own Inv-loop μ-loop
 mul-own c =
@@ -198,14 +191,14 @@ returns-3 c =
     let l = x .before in
     let i = l .before in
     let j = i .before .before in
-    let n = j .before .before in
+    let n = j .before .before .before in
     let y = n .before in
     let f = y .before in
     let o = f .before in
-    let t = o .before in
+    let t = o .before .before .before .before .before in
     let g = t .before .before in
     let w = g .before in
-    let b = w .before .before .before .before in
+    let b = w .before .before .before .before .before in
     let a = b .args in
     let u = b .good .0 .1 .1 .1 .1 .1 .1 .1 .1 .1 .1 .1 .1 .1 .1 .1 in
     let whole : Whole (a .peer) =
@@ -241,7 +234,6 @@ send-spec =
     returns-2
     enum-told-2
     loop-holds
-    piece-at-requires
     queue-requires
     mul-slot
     element-set-from-slot
