@@ -1,4 +1,4 @@
--- Only the code's own: a packet as one value, its commands one after another, and what a send is to do. The rule is in sending's Calls.
+-- Only the code's own: a packet as one value, and its commands one after another. The rule is in sending's Calls.
 use Prim.Native.Nat.{ℕ, _+_}
 use mathlib.Core.List.{List, [], _∷_}
 use lib.Dec.{leb}
@@ -6,18 +6,10 @@ use lib.ListN.{replicate}
 use Rattle.numbers.specs.Pick.{pick}
 use Rattle.numbers.specs.declared.counters.Reliable.{Reliable}
 use Rattle.numbers.specs.declared.counters.Unreliable.{Unreliable}
-use Rattle.parts.specs.declared.groups.Standing.{Standing}
-use Rattle.peer.specs.Gate.{then}
-use Rattle.peer.specs.declared.settings.Settings.{Settings}
-use Rattle.peer.specs.declared.gate.Gate.{Gate}
-use Rattle.peer.specs.declared.gate.Gate.the-variants.{Open, Shut}
 use Rattle.stamps.specs.declared.pieces.Piece.{Piece}
 use Rattle.packets.specs.Packets.{whole, startOf, cutBy, lengthAt, cutPiece, cutFrom, pieces}
-use Rattle.plans.specs.Refusals.{sendGate, queueGate}
 use Rattle.plans.specs.declared.Packet.{Packet}
 use Rattle.plans.specs.declared.Packet.the-variants.{One, Pieces}
-use Rattle.plans.specs.declared.Plan.{Plan}
-use Rattle.plans.specs.declared.Plan.the-variants.{Refused, Queue}
 
 -- by a channel's two outgoing numbers
 abbrev pub packetOf : ℕ → Reliable → Unreliable → ℕ → ℕ → ℕ → Packet
@@ -44,12 +36,3 @@ pieceAt (Pieces x) j offset = cutPiece x j offset
 abbrev pub nextAt : Packet → ℕ → ℕ
 nextAt (One x) offset = offset
 nextAt (Pieces x) offset = offset + lengthAt x offset
-
-abbrev pub planBy : Gate → Packet → Plan
-planBy Open packet = Queue packet
-planBy (Shut why) packet = Refused why
-
-abbrev pub planOf : Settings → Standing → ℕ → Reliable → Unreliable → ℕ → ℕ → ℕ → ℕ → Plan
-planOf s standing fragment r u free channel length flags =
-    let packet = packetOf flags r u channel length fragment in
-    planBy (then (sendGate s channel length standing) (queueGate (countOf packet) free)) packet

@@ -1,34 +1,30 @@
-// What a send is to do: whether it is refused, and which commands it queues.
+// What a send is to do: which commands it queues, and whether it is refused.
 ghost use mathlib.Core.Path.{_≡_};
-ghost use Rattle.parts.specs.Updates.{withReliable, withOutgoingGroup, withNumbers};
+ghost use Rattle.parts.specs.Updates.{withNumbers};
+ghost use Rattle.peer.specs.Gate.{then};
+ghost use Rattle.stamps.specs.Outboxes.{queueing, freeIn};
 ghost use Rattle.packets.specs.Packets.{pieceCount};
 ghost use Rattle.plans.specs.Refusals.{sendGate, queueGate};
-ghost use Rattle.plans.specs.Plans.{packetOf, countOf, pieceAt, nextAt, planOf};
+ghost use Rattle.plans.specs.Plans.{packetOf, countOf, pieceAt, nextAt};
 use numbers::consts;
-use numbers::counters::Reliable;
-use numbers::counters::Unreliable;
 use numbers::refusals::Refusal;
 use packets::Cut;
 use parts::groups::Channel;
-use parts::groups::Flow;
-use parts::groups::Groups;
 use parts::groups::Standing;
 use peer::gate::Gate;
 use peer::record::Peer;
 use peer::settings::Settings;
+use slots::OUTGOING;
 use stamps::counting::Counters;
+use stamps::outbox;
+use stamps::outbox::Outbox;
+use stamps::outbox::Queued;
 use stamps::pieces::Piece;
 
 // A packet as it goes out: in one command, or cut.
 pub enum Packet {
     One(Piece),
     Pieces(Cut),
-}
-
-// What a send is to do.
-pub enum Plan {
-    Refused(Refusal),
-    Queue(Packet),
 }
 
 // 1, 2, 3.
@@ -71,22 +67,15 @@ fn piece_count(fragment: u16, length: u32) -> u32
     (wide / (fragment as u64)) as u32
 }
 
-// Exactly the fragment length is one command, one more is pieces.
-fn packet_of(
-    flags: u32,
-    reliable: Reliable,
-    unreliable: Unreliable,
-    channel: u8,
-    length: u32,
-    fragment: u16,
-) -> Packet
-    ensures { λ r. ⌜ r ≡ packetOf flags reliable unreliable channel length fragment ⌝ }
+// Exactly the fragment length is one command, one more is pieces; by the channel's two numbers.
+pub fn packet_of(flags: u32, k: Counters, channel: u8, length: u32, fragment: u16) -> Packet
+    ensures { λ r. ⌜ r ≡ packetOf flags (k .reliable) (k .unreliable) channel length fragment ⌝ }
 {
     if length <= fragment as u32 {
-        return Packet::One(packets::whole(flags, unreliable, channel, length as u16));
+        return Packet::One(packets::whole(flags, k.unreliable, channel, length as u16));
     }
     let count = piece_count(fragment, length);
-    let start = packets::starting(flags, reliable, unreliable);
+    let start = packets::starting(flags, k.reliable, k.unreliable);
     Packet::Pieces(Cut {
         channel,
         length,
@@ -106,13 +95,20 @@ pub fn count_of(packet: Packet) -> u32
 }
 
 // Command j of a packet, at its offset.
-pub fn piece_at(packet: Packet, j: u32, offset: u32) -> Piece
+fn piece_at(packet: Packet, j: u32, offset: u32) -> Piece
     ensures { λ r. ⌜ r ≡ pieceAt packet j offset ⌝ }
 {
     match packet {
         Packet::One(x) => x,
         Packet::Pieces(x) => packets::piece(x, j, offset),
     }
+}
+
+// That command set up in the lowest free slot.
+pub fn queue(o: Outbox, packet: Packet, j: u32, offset: u32) -> Queued
+    ensures { λ r. ⌜ r ≡ queueing o (pieceAt packet j offset) ⌝ }
+{
+    outbox::queue(o, piece_at(packet, j, offset))
 }
 
 // Where the next one begins.
@@ -125,51 +121,25 @@ pub fn next_at(packet: Packet, offset: u32) -> u32
     }
 }
 
-// 1, 2, 3, then the packet by the channel's two numbers, then 4, 5: all of them are judged before anything changes.
+// 1, 2, 3, 4, 5 of so many commands: all of them are judged before anything changes.
 pub fn judge(
     settings: Settings,
     standing: Standing,
-    fragment: u16,
-    reliable: Reliable,
-    unreliable: Unreliable,
-    free: usize,
     channel: u8,
     length: u32,
-    flags: u32,
-) -> Plan
-    ensures { λ r. ⌜ r ≡ planOf settings standing fragment reliable unreliable free channel length flags ⌝ }
+    count: u32,
+    marks: [u8; OUTGOING],
+) -> Gate
+    ensures { λ r. ⌜ r ≡ then (sendGate settings channel length standing) (queueGate count (freeIn marks)) ⌝ }
 {
     let gate = may_send(settings, standing, channel, length);
     if let Gate::Shut(why) = gate {
-        return Plan::Refused(why);
+        return Gate::Shut(why);
     }
-    let packet = packet_of(flags, reliable, unreliable, channel, length, fragment);
-    let room = may_queue(count_of(packet), free);
-    if let Gate::Shut(why) = room {
-        return Plan::Refused(why);
-    }
-    Plan::Queue(packet)
+    may_queue(count, outbox::room(marks))
 }
 
-// What the counters leave in the groups, once all is queued.
-pub fn flow_after(flow: Flow, k: Counters) -> Flow
-    ensures { λ r. ⌜ r ≡ withReliable flow (k .own) ⌝ }
-{
-    let own = k.own;
-    let mut f = flow;
-    f.reliable = own;
-    f
-}
-
-pub fn groups_after(groups: Groups, k: Counters) -> Groups
-    ensures { λ r. ⌜ r ≡ withOutgoingGroup groups (k .group) ⌝ }
-{
-    let group = k.group;
-    let mut g = groups;
-    g.outgoing = group;
-    g
-}
-
+// The channel's numbers back, once all is queued.
 pub fn channel_after(channel: Channel, k: Counters) -> Channel
     ensures { λ r. ⌜ r ≡ withNumbers channel (k .reliable) (k .unreliable) ⌝ }
 {

@@ -13,15 +13,12 @@ use Rattle.numbers.specs.Limits.{mostFragments}
 use Rattle.numbers.specs.declared.counters.Reliable.{Reliable}
 use Rattle.numbers.specs.declared.counters.Unreliable.{Unreliable}
 use Rattle.numbers.specs.declared.refusals.Refusal.{Refusal}
-use Rattle.numbers.specs.declared.refusals.Refusal.the-variants.{FailedToQueue}
 use Rattle.slots.specs.Lists.{outgoing}
 use Rattle.runs.specs.Free.{markedAll}
 use Rattle.parts.specs.Sizes.{channels}
 use Rattle.parts.specs.Damage.{usedOut}
 use Rattle.parts.specs.Updates.{withOutgoingTotal, withReliable, withOutgoingGroup, withQueued, withNumbers}
 use Rattle.parts.specs.declared.groups.Channel.{Channel}
-use Rattle.parts.specs.declared.groups.Flow.{Flow}
-use Rattle.parts.specs.declared.groups.Groups.{Groups}
 use Rattle.peer.specs.Damage.{sound}
 use Rattle.peer.specs.Outcome.{Came, finished}
 use Rattle.peer.specs.Gate.{fits, gateOf, then, behind}
@@ -47,7 +44,7 @@ use Rattle.packets.specs.Packets.{isReliable, isUnsequenced, spent, blank, reli
 use Rattle.packets.specs.Packets.{cutBy}
 use Rattle.plans.specs.Refusals.{sendGate, queueGate}
 use Rattle.sending.specs.Calls.{fragment, commands, sendsSound, sends}
-use Rattle.plans.specs.Plans.{packetOf, piecesOf, countOf, leftOf, pieceAt, nextAt, planBy, planOf}
+use Rattle.plans.specs.Plans.{packetOf, piecesOf, countOf, leftOf, pieceAt, nextAt}
 use Rattle.packets.specs.declared.Cut.{Cut}
 use Rattle.packets.specs.declared.Start.{Start}
 use Rattle.packets.specs.declared.Start.the-variants as start
@@ -55,24 +52,9 @@ use Rattle.command.specs.declared.fields.Fragment.{Fragment}
 use Rattle.command.specs.declared.fields.Fields.the-variants.{SendReliable, SendUnreliable, SendUnsequenced}
 use Rattle.plans.specs.declared.Packet.{Packet}
 use Rattle.plans.specs.declared.Packet.the-variants.{One, Pieces}
-use Rattle.plans.specs.declared.Plan.{Plan}
-use Rattle.plans.specs.declared.Plan.the-variants as plan
 use Rattle.peer.proofs.Ranges.{count-high}
 use Rattle.plans.proofs.Planning.{left-all, left-length, left-turn, left-end}
 use Rattle.sending.proofs.Sound.{queue-room, gate-channel, commands-fit}
-
--- what tells the two plans apart
-abbrev queues : Plan → ℕ
-queues (plan.Refused why) = 0
-queues (plan.Queue x) = 1
-
-abbrev whyIn : Plan → Refusal
-whyIn (plan.Refused why) = why
-whyIn (plan.Queue x) = FailedToQueue
-
-abbrev packetIn : Packet → Plan → Packet
-packetIn k (plan.Refused why) = k
-packetIn k (plan.Queue x) = x
 
 module _ (x : Packet) (count channel : ℕ) (p₀ : Peer) where
   pub record Going (p : Peer) (o : Outbox) (j offset : ℕ) : Type 0 where
@@ -85,17 +67,20 @@ module _ (x : Packet) (count channel : ℕ) (p₀ : Peer) where
     pub same : queuedAll (piecesOf x) p₀ ≡ queuedAll (leftOf x (count - j) j offset) (stored p channel o (p .outgoing))
 
   module _ (p : Peer) (o : Outbox) (j offset : ℕ) (g : Going p o j offset) where
-    module _ (h : j < count) (y : Piece) (ye : y ≡ pieceAt x j offset) (q : Queued) (qe : q ≡ queueing o y) where
+    module _ (h : j < count) (q : Queued) (qe : q ≡ queueing o (pieceAt x j offset)) where
+      abbrev y : Piece
+      y = pieceAt x j offset
+
       rest : List Piece
       rest = leftOf x (count - (j + 1)) (j + 1) (nextAt x offset)
 
       split : leftOf x (count - j) j offset ≡ y ∷ rest
       unfolding rest
-      split = left-turn x count j offset h ∙ ap (λ (z : Piece). z ∷ rest) (sym ye)
+      split = left-turn x count j offset h
 
       turned : Turned y rest p channel o q
       turned =
-          turn-on y rest p channel (ap (λ (z : Piece). z .command .channel) ye ∙ g .on j offset) (g .here) o (g .says) (rw split at (g .ready)) q qe
+          turn-on y rest p channel (g .on j offset) (g .here) o (g .says) (rw split at (g .ready)) q qe
 
       pub going-exists : q .at < outgoing
       going-exists = turned .exists
@@ -167,15 +152,7 @@ packet-on flags cs channel n fragment j offset = go (leb n fragment)
     go true = whole-channel flags u channel n
     go false = cut-channel (startOf flags r u) channel _
 
--- a plan to queue has passed both gates
-plan-open : (g : Gate) (k x : Packet) → planBy g k ≡ plan.Queue x → (g ≡ Open) × (k ≡ x)
-plan-open Open k x e = (refl, ap (packetIn k) e)
-plan-open (Shut why) k x e = absurd (omega (arith, ap queues e))
-
-plan-shut : (g : Gate) (k : Packet) (why : Refusal) → planBy g k ≡ plan.Refused why → g ≡ Shut why
-plan-shut Open k why e = absurd (omega (arith, ap queues e))
-plan-shut (Shut r) k why e = ap Shut (ap whyIn e)
-
+-- a gate after another is open only where both are
 then-first : (g h : Gate) → then g h ≡ Open → g ≡ Open
 then-first Open h e = refl
 then-first (Shut why) h e = e
@@ -184,49 +161,51 @@ then-second : (g h : Gate) → then g h ≡ Open → h ≡ Open
 then-second Open h e = e
 then-second (Shut why) h e = absurd (omega (arith, ap openness e))
 
--- ---- the send: ws, g, o, size, free and k are what the code answered
+-- ---- the send: ws, g, o, size, x, count and k are what the code answered
 module _ (s : Settings) (channel n flags : ℕ) (p : Peer) (ws : List ℕ) (v : ws ≡ worthsOf p) (g : Gate) (e : g ≡ gateOf (fits s Nothing) (soundBy p ws))
-    (passed : g ≡ Open) (o : Outbox) (oe : o ≡ outboxOf (p .totals) (p .waiting) (p .flow) (p .groups) (p .channels) channel (p .lists)) (size free : ℕ)
-    (se : size ≡ fragment s p) (fe : free ≡ freeIn (o .marks)) (k : Plan) (ke : k ≡ planOf s (p .standing) size (o .counters .reliable) (o .counters .unreliable) free channel n flags) where
+    (passed : g ≡ Open) (o : Outbox) (oe : o ≡ outboxOf (p .totals) (p .waiting) (p .flow) (p .groups) (p .channels) channel (p .lists)) (size : ℕ)
+    (se : size ≡ fragment s p) (x : Packet) (xe : x ≡ packetOf flags (o .counters .reliable) (o .counters .unreliable) channel n size) (count : ℕ)
+    (ce : count ≡ countOf x) (k : Gate) (ke : k ≡ then (sendGate s channel n (p .standing)) (queueGate count (freeIn (o .marks)))) where
   good : sound p ≡ true
   good = open-sound s Nothing p ws v g e passed
-
-  abbrev packet : Packet
-  packet = packetOn flags (p .channels) channel n (fragment s p)
 
   abbrev xs : List Piece
   xs = commands (fragment s p) channel n flags p
 
-  count-is : countOf packet ≡ length xs
-  count-is = sym (left-length packet) ∙ ap length (packet-pieces (fragment s p) channel n flags p)
+  is : x ≡ packetOn flags (p .channels) channel n (fragment s p)
+  is =
+      xe
+      ∙ ap (λ (o : Outbox). packetOf flags (o .counters .reliable) (o .counters .unreliable) channel n size) oe
+      ∙ ap (packetOn flags (p .channels) channel n) se
+
+  pieces-are : piecesOf x ≡ xs
+  pieces-are = ap piecesOf is ∙ packet-pieces (fragment s p) channel n flags p
+
+  count-is : count ≡ length xs
+  count-is = ce ∙ sym (left-length x) ∙ ap length pieces-are
 
   gates : Gate
   gates = then (sendGate s channel n (p .standing)) (queueGate (length xs) (room p))
 
-  plan-is : k ≡ planBy gates packet
+  gates-are : k ≡ gates
   unfolding gates
-  plan-is =
+  gates-are =
       ke
-      ∙ ap (λ (o : Outbox). planOf s (p .standing) size (o .counters .reliable) (o .counters .unreliable) free channel n flags) oe
-      ∙ rw se
-      (ap (λ (free : ℕ). planBy (then (sendGate s channel n (p .standing)) (queueGate (countOf packet) free)) packet) (fe ∙ open-room p channel o oe))
-      ∙ ap (λ (m : ℕ). planBy (then (sendGate s channel n (p .standing)) (queueGate m (room p))) packet) count-is
+      ∙ ap (λ (free : ℕ). then (sendGate s channel n (p .standing)) (queueGate count free)) (open-room p channel o oe)
+      ∙ ap (λ (m : ℕ). then (sendGate s channel n (p .standing)) (queueGate m (room p))) count-is
 
   send-is : sendsSound s channel n flags p ≡ behind gates p (finished (queuedAll xs p))
   unfolding gates
   send-is = sym (then-behind (sendGate s channel n (p .standing)) (queueGate (length xs) (room p)) p (finished (queuedAll xs p)))
 
-  pub send-shut : (why : Refusal) → k ≡ plan.Refused why → Came answerOf (sends s channel n flags p) (Refused why) p
+  pub send-shut : (why : Refusal) → k ≡ Shut why → Came answerOf (sends s channel n flags p) (Refused why) p
   send-shut why q =
       came-open s Nothing p ws v g e p (sendsSound s channel n flags p) answerOf (Refused why) p passed
-      (rw (send-is, behind-shut gates p (finished (queuedAll xs p)) why (plan-shut gates packet why (sym plan-is ∙ q))) (record { answer = refl; after = refl }))
+      (rw (send-is, behind-shut gates p (finished (queuedAll xs p)) why (sym gates-are ∙ q)) (record { answer = refl; after = refl }))
 
-  module _ (w : Whole p) (x : Packet) (q : k ≡ plan.Queue x) where
+  module _ (w : Whole p) (q : k ≡ Open) where
     opened : gates ≡ Open
-    opened = plan-open gates packet x (sym plan-is ∙ q) .0
-
-    is : packet ≡ x
-    is = plan-open gates packet x (sym plan-is ∙ q) .1
+    opened = sym gates-are ∙ q
 
     first : sendGate s channel n (p .standing) ≡ Open
     unfolding gates
@@ -248,21 +227,17 @@ module _ (s : Settings) (channel n flags : ℕ) (p : Peer) (ws : List ℕ) (v : 
     here : channel < length (p .channels)
     here = omega (arith, within, w .channels)
 
-    pieces-are : piecesOf x ≡ xs
-    pieces-are = ap piecesOf (sym is) ∙ packet-pieces (fragment s p) channel n flags p
-
     stored-is : stored p channel o (p .outgoing) ≡ p
     stored-is = ap (λ (o : Outbox). stored p channel o (p .outgoing)) oe ∙ stored-first p channel here (markedAll (replicate outgoing 0) (usedOut (p .lists)))
 
-    start-left : leftOf x (countOf x - 0) 0 0 ≡ xs
-    start-left = left-all x ∙ pieces-are
+    start-left : leftOf x (count - 0) 0 0 ≡ xs
+    start-left = ap (λ (m : ℕ). leftOf x (m - 0) 0 0) ce ∙ left-all x ∙ pieces-are
 
-    pub going-start : (count : ℕ) → count ≡ countOf x → Going x count channel p p o 0 0
-    going-start count ce =
-        rw ce
-        (record {
+    pub going-start : Going x count channel p p o 0 0
+    going-start =
+        record {
           low = omega arith;
-          on = λ j offset. rw (← is) (packet-on flags (p .channels) channel n (fragment s p) j offset);
+          on = λ j offset. rw is (packet-on flags (p .channels) channel n (fragment s p) j offset);
           within = within;
           here = here;
           says = rw oe (says-first (usedOut (p .lists)));
@@ -270,21 +245,18 @@ module _ (s : Settings) (channel n flags : ℕ) (p : Peer) (ws : List ℕ) (v : 
               rw (start-left, stored-is)
               (record { whole = w; good = good; fit = commands-fit (fragment s p) channel n flags p (gate-channel s channel n (p .standing) first); few = few });
           same = rw (start-left, stored-is, pieces-are);
-        })
+        }
 
-    -- own is the channel as the code read it; c, flow and groups are what it made
-    pub send-left : (count : ℕ) (r : Peer) (o′ : Outbox) (j offset : ℕ) → Going x count channel p r o′ j offset → count ≤ j
-        → (own c : Channel) (flow : Flow) (groups : Groups) → own ≡ channelAt (r .channels) channel
-        → c ≡ withNumbers own (o′ .counters .reliable) (o′ .counters .unreliable) → flow ≡ withReliable (r .flow) (o′ .counters .own)
-        → groups ≡ withOutgoingGroup (r .groups) (o′ .counters .group)
+    -- own is the channel as the code read it; c is what it made
+    pub send-left : (r : Peer) (o′ : Outbox) (j offset : ℕ) → Going x count channel p r o′ j offset → count ≤ j
+        → (own c : Channel) → own ≡ channelAt (r .channels) channel → c ≡ withNumbers own (o′ .counters .reliable) (o′ .counters .unreliable)
         → Came answerOf (sends s channel n flags p) Done
-        (renewed r (r .standing) (withOutgoingTotal (r .totals) (o′ .total)) (r .times) (r .loss) flow (o′ .lists)
-        groups (withQueued (r .waiting) (o′ .queued)) (set (r .channels) channel c) (r .outgoing))
-    send-left count r o′ j offset t h own c flow groups oe′ ce fe′ ge =
+        (renewed r (r .standing) (withOutgoingTotal (r .totals) (o′ .total)) (r .times) (r .loss) (withReliable (r .flow) (o′ .counters .own)) (o′ .lists)
+        (withOutgoingGroup (r .groups) (o′ .counters .group)) (withQueued (r .waiting) (o′ .queued)) (set (r .channels) channel c) (r .outgoing))
+    send-left r o′ j offset t h own c oe′ ke′ =
         came-open s Nothing p ws v g e p (sendsSound s channel n flags p) answerOf Done _ passed
         (rw (send-is, behind-open gates p (finished (queuedAll xs p)) opened)
         (record {
           answer = refl;
-          after =
-              rw (ce, oe′, fe′, ge) (sym (ap (λ (l : List Piece). queuedAll l p) (sym pieces-are) ∙ going-end x count channel p r o′ j offset t h));
+          after = rw (ke′, oe′) (sym (ap (λ (l : List Piece). queuedAll l p) (sym pieces-are) ∙ going-end x count channel p r o′ j offset t h));
         }))

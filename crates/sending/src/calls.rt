@@ -10,13 +10,13 @@ use peer::gate::Gate;
 use peer::gate::Lent;
 use peer::record::Peer;
 use peer::settings::Settings;
-use plans::Plan;
 use stamps::outbox;
 
 // Refused by 11, 13, 1, 2, 3, 4 and 5, in this order.
 pub fn send(peer: Peer, settings: Settings, channel: u8, length: u32, flags: u32) -> Called
     ensures { λ r. ⌜ Came answerOf (sends settings channel length flags peer) (r .reply) (r .peer) ⌝ }
 {
+    // A refusal gives `peer` back and all else is read off `p`: else both stay on the stack.
     let mut p = peer;
     let lists = p.lists;
     let channels = p.channels;
@@ -36,11 +36,11 @@ pub fn send(peer: Peer, settings: Settings, channel: u8, length: u32, flags: u32
     );
     if let Gate::Shut(why) = gate {
         return Called {
-            peer: p,
+            peer,
             reply: Reply::Refused(why),
         };
     }
-    let fresh = outbox::open(
+    let mut o = outbox::open(
         p.totals,
         p.waiting,
         p.flow,
@@ -49,37 +49,21 @@ pub fn send(peer: Peer, settings: Settings, channel: u8, length: u32, flags: u32
         channel,
         lists,
     );
-    let now = fresh.counters;
-    let reliable = now.reliable;
-    let unreliable = now.unreliable;
     let fragment = packets::fragment_length(p.flow.mtu, settings.checksum) as u16;
-    let marks = fresh.marks;
-    let plan = plans::judge(
-        settings,
-        p.standing,
-        fragment,
-        reliable,
-        unreliable,
-        outbox::room(marks),
-        channel,
-        length,
-        flags,
-    );
-    let packet = match plan {
-        Plan::Refused(why) => {
-            return Called {
-                peer: p,
-                reply: Reply::Refused(why),
-            };
-        }
-        Plan::Queue(packet) => packet,
-    };
+    let packet = plans::packet_of(flags, o.counters, channel, length, fragment);
     let count = plans::count_of(packet);
-    let mut o = fresh;
+    let marks = o.marks;
+    let room = plans::judge(settings, p.standing, channel, length, count, marks);
+    if let Gate::Shut(why) = room {
+        return Called {
+            peer,
+            reply: Reply::Refused(why),
+        };
+    }
     let mut j: u32 = 0;
     let mut offset: u32 = 0;
     while j < count {
-        let made = outbox::queue(o, plans::piece_at(packet, j, offset));
+        let made = plans::queue(o, packet, j, offset);
         let at = made.at;
         let slot = made.slot;
         p.outgoing[at] = slot;
@@ -87,17 +71,14 @@ pub fn send(peer: Peer, settings: Settings, channel: u8, length: u32, flags: u32
         offset = plans::next_at(packet, offset);
         j = j + 1;
     }
-    let k = o.counters;
     let i = channel as usize;
     let own = p.channels[i];
-    let c = plans::channel_after(own, k);
-    let flow = plans::flow_after(p.flow, k);
-    let groups = plans::groups_after(p.groups, k);
+    let c = plans::channel_after(own, o.counters);
     let joined = o.lists;
     p.totals.outgoing = o.total;
     p.waiting.queued = o.queued;
-    p.flow = flow;
-    p.groups = groups;
+    p.flow.reliable.0 = o.counters.own.0;
+    p.groups.outgoing.0 = o.counters.group.0;
     p.channels[i] = c;
     p.lists = joined;
     Called {

@@ -19,10 +19,10 @@ use Rattle.sending.proofs.calls.send.Statement.{statement}
 use Rattle.sending.proofs.calls.send.Tie as tie
 
 abbrev Inv-loop : tie.InvT-loop
-Inv-loop channel length flags p₀ fragment packet count o₀ j₀ offset₀ p o j offset = Going packet count channel p₀ p o j offset
+Inv-loop channel length flags p₀ o₀ fragment packet count j₀ offset₀ p o j offset = Going packet count channel p₀ p o j offset
 
 abbrev μ-loop : tie.MeasureT-loop
-μ-loop channel length flags p₀ fragment packet count o₀ j₀ offset₀ p o j offset = count - j
+μ-loop channel length flags p₀ o₀ fragment packet count j₀ offset₀ p o j offset = count - j
 
 worths-requires : tie.Need-worths-requires Inv-loop μ-loop
 worths-requires c κs = search needs
@@ -54,7 +54,7 @@ fragment-length-requires c κs = search needs
 
 cast-fragment : tie.Need-cast-fragment Inv-loop μ-loop
 cast-fragment c =
-    let t = c .before .before .before .before .before .before .before .before .before in
+    let t = c .before .before .before .before .before .before in
     let g = t .before .before in
     let w = g .before in
     let b = w .before .before .before .before .before in
@@ -63,41 +63,45 @@ cast-fragment c =
     let h : c .fragment-length .result ≤ 65535 = rw (c .fragment-length .ensures) (length-high (a .peer .flow .mtu) (a .settings .checksum) (mtu-high (a .peer) good)) in
     search needs
 
-room-requires : tie.Need-room-requires Inv-loop μ-loop
-room-requires c κs = search needs
+packet-of-requires : tie.Need-packet-of-requires Inv-loop μ-loop
+packet-of-requires c κs = search needs
+
+count-of-requires : tie.Need-count-of-requires Inv-loop μ-loop
+count-of-requires c κs = search needs
 
 judge-requires : tie.Need-judge-requires Inv-loop μ-loop
 judge-requires c κs = search needs
 
-enum-known-plan : tie.Need-enum-known-plan Inv-loop μ-loop
-enum-known-plan c = search needs
+enum-known-room : tie.Need-enum-known-room Inv-loop μ-loop
+enum-known-room c = search needs
 
 returns-2 : tie.Need-returns-2 Inv-loop μ-loop
 returns-2 c =
     let j = c .before .before .before in
-    let f = j .before .before .before .before in
-    let o = f .before .before .before .before in
+    let n = j .before .before .before in
+    let y = n .before in
+    let f = y .before in
+    let o = f .before in
     let t = o .before .before .before .before .before in
     let g = t .before .before in
     let w = g .before in
     let b = w .before .before .before .before .before in
     let a = b .args in
-    let k = c .before .plan .given in
+    let k = c .before .room .given in
     send-shut (a .settings) (a .channel) (a .length) (a .flags) (a .peer) (w .worths .result) (w .worths .ensures) (g .pass .result) (g .pass .ensures)
-    (t .enum-told .given .1) (o .«open» .result) (o .«open» .ensures) (f .fragment-length .result) (j .before .room .result)
-    (f .fragment-length .ensures) (j .before .room .ensures) (j .judge .result) (j .judge .ensures) (k .0 .0) (k .1)
+    (t .enum-told .given .1) (o .«open» .result) (o .«open» .ensures) (f .fragment-length .result) (f .fragment-length .ensures)
+    (y .packet-of .result) (y .packet-of .ensures) (n .count-of .result) (n .count-of .ensures) (j .judge .result) (j .judge .ensures) (k .0 .0) (k .1)
 
-enum-known-plan-2 : tie.Need-enum-known-plan-2 Inv-loop μ-loop
-enum-known-plan-2 c = search needs
-
-count-of-requires : tie.Need-count-of-requires Inv-loop μ-loop
-count-of-requires c κs = search needs
+enum-told-2 : tie.Need-enum-told-2 Inv-loop μ-loop
+enum-told-2 c = search needs
 
 loop-holds : tie.Need-loop-holds Inv-loop μ-loop
 loop-holds c =
-    let j = c .before .before .before .before in
-    let f = j .before .before .before .before in
-    let o = f .before .before .before .before in
+    let j = c .before .before in
+    let n = j .before .before .before in
+    let y = n .before in
+    let f = y .before in
+    let o = f .before in
     let t = o .before .before .before .before .before in
     let g = t .before .before in
     let w = g .before in
@@ -111,13 +115,9 @@ loop-holds c =
       incoming = sym (length-map (a .peer .incoming) _) ∙ u .1 .1 .0 .1 .0 .1;
     }
     in
-    let k = c .before .before .plan2 .given in
     going-start (a .settings) (a .channel) (a .length) (a .flags) (a .peer) (w .worths .result) (w .worths .ensures) (g .pass .result) (g .pass .ensures)
-    (t .enum-told .given .1) (o .«open» .result) (o .«open» .ensures) (f .fragment-length .result) (j .before .room .result)
-    (f .fragment-length .ensures) (j .before .room .ensures) (j .judge .result) (j .judge .ensures) whole (k .0 .0) (k .1) (c .count-of .result) (c .count-of .ensures)
-
-piece-at-requires : tie.Need-piece-at-requires Inv-loop μ-loop
-piece-at-requires c κs = search needs
+    (t .enum-told .given .1) (o .«open» .result) (o .«open» .ensures) (f .fragment-length .result) (f .fragment-length .ensures)
+    (y .packet-of .result) (y .packet-of .ensures) (n .count-of .result) (n .count-of .ensures) (j .judge .result) (j .judge .ensures) whole (c .enum-told2 .given .1)
 
 queue-requires : tie.Need-queue-requires Inv-loop μ-loop
 queue-requires c κs = search needs
@@ -125,24 +125,20 @@ queue-requires c κs = search needs
 mul-slot : tie.Need-mul-slot Inv-loop μ-loop
 mul-slot c =
     let q = c .before in
-    let y = q .before in
-    let l = y .before .before .loop in
-    let n = y .before .before .before in
-    let k = n .before .before .plan2 .given in
+    let l = q .before .before in
+    let n = l .before .before .before .before .before .before in
     let h : q .queue .result .at < outgoing =
-    going-exists (k .0 .0) (n .count-of .result) _ _ (l .p) (l .o) (l .j) (l .offset) (l .inv) (y .before .loop-test .taken) (y .piece-at .result) (y .piece-at .ensures)
+    going-exists (n .before .packet-of .result) (n .count-of .result) _ _ (l .loop .p) (l .loop .o) (l .loop .j) (l .loop .offset) (l .loop .inv) (q .before .loop-test .taken)
     (q .queue .result) (q .queue .ensures) in
     search needs
 
 element-set-from-slot : tie.Need-element-set-from-slot Inv-loop μ-loop
 element-set-from-slot c =
     let q = c .before in
-    let y = q .before in
-    let l = y .before .before .loop in
-    let n = y .before .before .before in
-    let k = n .before .before .plan2 .given in
+    let l = q .before .before in
+    let n = l .before .before .before .before .before .before in
     let h : q .queue .result .at < outgoing =
-    going-exists (k .0 .0) (n .count-of .result) _ _ (l .p) (l .o) (l .j) (l .offset) (l .inv) (y .before .loop-test .taken) (y .piece-at .result) (y .piece-at .ensures)
+    going-exists (n .before .packet-of .result) (n .count-of .result) _ _ (l .loop .p) (l .loop .o) (l .loop .j) (l .loop .offset) (l .loop .inv) (q .before .loop-test .taken)
     (q .queue .result) (q .queue .ensures) in
     search needs
 
@@ -150,7 +146,9 @@ next-at-requires : tie.Need-next-at-requires Inv-loop μ-loop
 next-at-requires c κs = search needs
 
 add-j : tie.Need-add-j Inv-loop μ-loop
-add-j c = search needs
+add-j c =
+    let h = c .before .before .before .before .before .before .before .before .before .before .before .count-of .ok in
+    search needs
 
 loop-less : tie.Need-loop-less Inv-loop μ-loop
 loop-less c = search needs
@@ -158,50 +156,45 @@ loop-less c = search needs
 loop-again : tie.Need-loop-again Inv-loop μ-loop
 loop-again c =
     let q = c .before .before .before in
-    let y = q .before in
-    let l = y .before .before .loop in
-    let n = y .before .before .before in
-    let k = n .before .before .plan2 .given in
-    going-turn (k .0 .0) (n .count-of .result) _ _ (l .p) (l .o) (l .j) (l .offset) (l .inv) (y .before .loop-test .taken) (y .piece-at .result) (y .piece-at .ensures)
+    let l = q .before .before in
+    let n = l .before .before .before .before .before .before in
+    going-turn (n .before .packet-of .result) (n .count-of .result) _ _ (l .loop .p) (l .loop .o) (l .loop .j) (l .loop .offset) (l .loop .inv) (q .before .loop-test .taken)
     (q .queue .result) (q .queue .ensures) (c .next-at .result) (c .next-at .ensures)
 
 mul-own : tie.Need-mul-own Inv-loop μ-loop
 mul-own c =
-    let h = c .before .before .loop .inv .within in
+    let h = c .before .loop .inv .within in
     search needs
 
 element-copy-out-own : tie.Need-element-copy-out-own Inv-loop μ-loop
 element-copy-out-own c =
-    let h = c .before .before .loop .inv .within in
+    let h = c .before .loop .inv .within in
     search needs
 
 channel-after-requires : tie.Need-channel-after-requires Inv-loop μ-loop
 channel-after-requires c κs = search needs
 
-flow-after-requires : tie.Need-flow-after-requires Inv-loop μ-loop
-flow-after-requires c κs = search needs
-
-groups-after-requires : tie.Need-groups-after-requires Inv-loop μ-loop
-groups-after-requires c κs = search needs
-
 mul-c : tie.Need-mul-c Inv-loop μ-loop
 mul-c c =
-    let h = c .before .before .before .before .before .before .before .before .before .before .before .loop .inv .within in
+    let h = c .before .before .before .before .before .before .before .before .loop .inv .within in
     search needs
 
 element-set-from-c : tie.Need-element-set-from-c Inv-loop μ-loop
 element-set-from-c c =
-    let h = c .before .before .before .before .before .before .before .before .before .before .before .loop .inv .within in
+    let h = c .before .before .before .before .before .before .before .before .loop .inv .within in
     search needs
 
 returns-3 : tie.Need-returns-3 Inv-loop μ-loop
 returns-3 c =
-    let n = c .before .before .before .before .before .before .before .before .before .before in
-    let l = n .before in
-    let m = l .before in
-    let j = m .before .before .before .before in
-    let f = j .before .before .before .before in
-    let o = f .before .before .before .before in
+    let m = c .before .before .before .before .before in
+    let x = m .before .before in
+    let l = x .before in
+    let i = l .before in
+    let j = i .before .before in
+    let n = j .before .before .before in
+    let y = n .before in
+    let f = y .before in
+    let o = f .before in
     let t = o .before .before .before .before .before in
     let g = t .before .before in
     let w = g .before in
@@ -215,13 +208,10 @@ returns-3 c =
       incoming = sym (length-map (a .peer .incoming) _) ∙ u .1 .1 .0 .1 .0 .1;
     }
     in
-    let k = m .before .before .plan2 .given in
     send-left (a .settings) (a .channel) (a .length) (a .flags) (a .peer) (w .worths .result) (w .worths .ensures) (g .pass .result) (g .pass .ensures)
-    (t .enum-told .given .1) (o .«open» .result) (o .«open» .ensures) (f .fragment-length .result) (j .before .room .result)
-    (f .fragment-length .ensures) (j .before .room .ensures) (j .judge .result) (j .judge .ensures) whole (k .0 .0) (k .1) (m .count-of .result) (l .loop .p) (l .loop .o) (l .loop .j) (l .loop .offset) (l .loop .inv)
-    (n .loop-test .left) _ (c .before .before .before .before .before .before .before .channel-after .result) (c .before .before .before .before .before .flow-after .result) (c .before .before .before .groups-after .result)
-    (channel-here (l .loop .p .channels) (a .channel) (l .loop .inv .here)) (c .before .before .before .before .before .before .before .channel-after .ensures) (c .before .before .before .before .before .flow-after .ensures)
-    (c .before .before .before .groups-after .ensures)
+    (t .enum-told .given .1) (o .«open» .result) (o .«open» .ensures) (f .fragment-length .result) (f .fragment-length .ensures)
+    (y .packet-of .result) (y .packet-of .ensures) (n .count-of .result) (n .count-of .ensures) (j .judge .result) (j .judge .ensures) whole (i .enum-told2 .given .1) (l .loop .p) (l .loop .o) (l .loop .j) (l .loop .offset) (l .loop .inv)
+    (x .loop-test .left) _ (m .channel-after .result) (channel-here (l .loop .p .channels) (a .channel) (l .loop .inv .here)) (m .channel-after .ensures)
 
 pub send-spec : {M : Type 1} → statement M
 send-spec =
@@ -237,14 +227,13 @@ send-spec =
     open-requires
     fragment-length-requires
     cast-fragment
-    room-requires
-    judge-requires
-    enum-known-plan
-    returns-2
-    enum-known-plan-2
+    packet-of-requires
     count-of-requires
+    judge-requires
+    enum-known-room
+    returns-2
+    enum-told-2
     loop-holds
-    piece-at-requires
     queue-requires
     mul-slot
     element-set-from-slot
@@ -255,8 +244,6 @@ send-spec =
     mul-own
     element-copy-out-own
     channel-after-requires
-    flow-after-requires
-    groups-after-requires
     mul-c
     element-set-from-c
     returns-3)
