@@ -1,7 +1,7 @@
 //! Scripts about what comes in: random sequences, and every input of a set.
 
-pub mod order;
-pub mod payload;
+mod order;
+mod payload;
 mod reliable;
 mod sequences;
 mod sets;
@@ -13,7 +13,8 @@ use std::io::{self, Write};
 use enet::record::{place, Record};
 
 use crate::{
-    model::CONNECTED,
+    frame::Frame,
+    model::{Settings, CONNECTED, STORE},
     output::Output,
     records::{frame, set},
     sending::sets::Set,
@@ -47,8 +48,14 @@ pub fn write_arrivals<S: Write, L: Write>(
 }
 
 /// The whole store's hash.
-fn whole_store() -> crate::frame::Frame {
-    frame(16, vec![0, crate::model::STORE as u32])
+fn whole_store() -> Frame {
+    frame(16, vec![0, STORE as u32])
+}
+
+/// Asks, and answers whether a packet was stored.
+fn stores<S: Write, L: Write>(output: &mut Output<S, L>, asked: &Frame) -> io::Result<bool> {
+    let line = output.ask(asked)?;
+    Ok([10, 11].contains(&asked.op) && line.starts_with(&format!("{} 0 1 ", asked.op)))
 }
 
 /// A connected record of so many channels, as made new.
@@ -61,7 +68,7 @@ fn connected(channels: u32) -> Record {
 
 /// The settings of the start.
 fn start<S: Write, L: Write>(output: &mut Output<S, L>) -> io::Result<()> {
-    output.put(&set(&crate::model::Settings::START))
+    output.put(&set(&Settings::START))
 }
 
 /// How often each op answered what: the op, then all before the hash, cut to three words.

@@ -12,7 +12,7 @@ use crate::{
     records::{self, set},
 };
 
-/// A cause by the number that it is answered with, and what makes it.
+/// What gives a case one cause to be refused or passed over.
 type Cause = fn(&mut Case);
 
 /// In the order in which they are asked.

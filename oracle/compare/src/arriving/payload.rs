@@ -24,8 +24,7 @@ pub fn write<S: Write, L: Write>(
     asked: &Frame,
 ) -> io::Result<()> {
     for length in LENGTHS {
-        // At the limit, above it, below it.
-        for packet in [length.max(1), length + 1, length.saturating_sub(1).max(1)] {
+        for packet in limits(length) {
             output.put(&set(&Settings { packet, ..Settings::START }))?;
             // Just as long, one byte short, with bytes to spare, and empty.
             for size in [length, length.saturating_sub(1), length + 9, 0] {
@@ -41,6 +40,11 @@ pub fn write<S: Write, L: Write>(
         }
     }
     output.put(&set(&Settings::START))
+}
+
+/// Settings of the maximum packet around the length.
+fn limits(length: u32) -> Vec<u32> {
+    (length.saturating_sub(1)..=length + 1).filter(|packet| *packet > 0).collect()
 }
 
 /// The start, the middle, where the payload just ends with the datagram, one after that, the end, one past it.

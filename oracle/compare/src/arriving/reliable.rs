@@ -4,7 +4,7 @@ use std::io::{self, Write};
 
 use enet::record::{place, Incoming, Record, INCOMING};
 
-use super::{connected, order, payload, start, whole_store};
+use super::{connected, order, payload, start, stores, whole_store};
 use crate::{
     frame::Frame,
     model::{Settings, CONNECTED, DISCONNECT_LATER},
@@ -94,13 +94,15 @@ fn write_held<S: Write, L: Write>(
                     let waiting = if *room == Room::Waiting { total } else { total + 1 };
                     output.put(&set(&Settings { waiting, ..Settings::START }))?;
                     records::make(output, &record)?;
+                    if stores(output, &arrival(random, number))? {
+                        output.put(&whole_store())?;
+                    }
                     output.put(&arrival(random, number))?;
-                    output.put(&arrival(random, number))?;
-                    output.put(&whole_store())?;
                 }
             }
         }
     }
+    output.put(&whole_store())?;
     output.put(&frame(15, vec![]))
 }
 

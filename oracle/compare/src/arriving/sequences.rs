@@ -4,7 +4,7 @@ use std::io::{self, Write};
 
 use enet::record::place;
 
-use super::{start, taken, whole_store};
+use super::{start, stores, taken, whole_store};
 use crate::{
     frame::Frame,
     model::{Model, Settings, CELL, CONNECTED, DISCONNECT_LATER, STORE},
@@ -105,8 +105,7 @@ impl Sequence {
         }
         self.remember(&asked, random);
         let free = output.model.record.free_incoming();
-        let line = output.ask(&asked)?;
-        if line.starts_with("10 0 1 ") || line.starts_with("11 0 1 ") {
+        if stores(output, &asked)? {
             look(output, random, free.expect("it was stored"))?;
         }
         if random.once_in(16) {
@@ -116,7 +115,7 @@ impl Sequence {
             output.put(&records::set(&kept))?;
         }
         // Nothing more would come in before another begin.
-        if line.starts_with("1 0 ") {
+        if asked.op == 1 {
             begin(output, random)?;
         }
         Ok(())
@@ -196,6 +195,8 @@ fn look<S: Write, L: Write>(
 mod tests {
     use super::*;
     use crate::arriving::met;
+    use enet::record::Record;
+    use std::collections::BTreeMap;
 
     #[test]
     fn so_many_calls_are_made_and_every_reply_is_met() {
@@ -203,11 +204,10 @@ mod tests {
         write(&mut Output::new(io::sink(), &mut lines), 1, 20_000).unwrap();
         let met = met(&lines);
         for reply in [
-            "1 0", "2 0", "2 11", "2 13", "3 0", "3 11", "4 0", "4 1", "5 0", "5 1", "5 2", "6 0",
-            "6 2", "7 0 0", "7 0 1", "12 0", "12 2", "12 13", "12 bad", "13 0 0", "13 0 1",
-            "13 11", "13 13", "10 0 0", "10 0 1", "10 6", "10 7", "10 8", "10 9", "10 11", "10 13",
-            "10 bad", "11 0 0", "11 0 1", "11 6", "11 7", "11 8", "11 9", "11 11", "11 13",
-            "11 bad",
+            "1 0", "2 0", "2 11", "3 0", "3 11", "4 0", "5 0", "6 0", "7 0 0", "7 0 1", "12 0",
+            "12 2", "12 11", "12 13", "12 bad", "13 0 0", "13 0 1", "13 11", "13 13", "10 0 0",
+            "10 0 1", "10 6", "10 7", "10 8", "10 9", "10 11", "10 13", "10 bad", "11 0 0",
+            "11 0 1", "11 6", "11 7", "11 8", "11 9", "11 11", "11 13", "11 bad",
         ] {
             assert!(met.get(reply).is_some_and(|count| *count >= 10), "{reply}: {met:?}");
         }
@@ -215,5 +215,59 @@ mod tests {
             met.iter().filter(|(reply, _)| reply.starts_with(op)).map(|(_, count)| count).sum()
         };
         assert!(arrivals("10 ") + arrivals("11 ") > 10_000, "most are arrivals: {met:?}");
+    }
+
+    /// What one call did, by the records before and after it.
+    fn seen(before: &Record, after: &Record, line: &str) -> Vec<&'static str> {
+        let base = |record: &Record| record.numbers[place::INCOMING_GROUP];
+        let moved = base(before) != base(after);
+        let later = before.numbers[place::STATE] == DISCONNECT_LATER;
+        let full = before.free_incoming().is_none();
+        let dispatched = after.dispatched.length.saturating_sub(before.dispatched.length);
+        let lists = || before.channels.iter().zip(&after.channels);
+        let held = |more| lists().any(|(b, a)| b.list.length + more == a.list.length);
+        let inside = lists().any(|(b, a)| {
+            a.list.length > b.list.length && a.list.items().last() == b.list.items().last()
+        });
+        let (ten, eleven) = (line.starts_with("10 "), line.starts_with("11 "));
+        let (eight, over) = (line.contains(" 8 #"), line.contains(" 0 0 #"));
+        [
+            ("delivered and moved", ten && moved && dispatched == 1),
+            ("delivered in place", ten && !moved && dispatched == 1),
+            ("8 and moved", ten && moved && eight),
+            ("8 for want of slots", ten && eight && full),
+            ("marked in state 6", ten && over && later && before.words != after.words),
+            ("passed over, unchanged", ten && over && before == after),
+            ("held", eleven && held(1)),
+            ("held before another", eleven && inside),
+            ("one dispatched", eleven && dispatched == 1),
+            ("several dispatched", eleven && dispatched > 1),
+            ("reliable 8 for want of slots", eleven && eight && full),
+            ("reliable passed over in state 6", eleven && over && later),
+        ]
+        .into_iter()
+        .filter(|(_, met)| *met)
+        .map(|(name, _)| name)
+        .collect()
+    }
+
+    #[test]
+    fn whatever_an_arrival_can_do_is_done() {
+        let (mut random, mut met) = (Random::new(1), BTreeMap::new());
+        let mut output = Output::new(io::sink(), io::sink());
+        for _ in 0..400 {
+            open(&mut output, &mut random).unwrap();
+            let mut sequence = Sequence::default();
+            for _ in 0..40 {
+                let asked = sequence.drawn(&output.model, &mut random);
+                sequence.remember(&asked, &mut random);
+                let before = output.model.record.clone();
+                let line = output.ask(&asked).unwrap();
+                for name in seen(&before, &output.model.record, &line) {
+                    *met.entry(name).or_insert(0) += 1;
+                }
+            }
+        }
+        assert!(met.len() == 12 && met.values().all(|count| *count >= 20), "{met:?}");
     }
 }

@@ -51,7 +51,7 @@ impl Grid {
     fn slice() -> Self {
         Grid {
             bases: vec![0, 32_768, 33_792, 65_535],
-            groups: vec![0, 5, 1_023, 1_024, 32_767, 32_768],
+            groups: vec![5, 1_023, 1_024, 32_767, 32_768],
             left: vec![(1, vec![1, 0]), (0, vec![1])],
         }
     }

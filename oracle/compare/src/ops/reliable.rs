@@ -106,8 +106,8 @@ pub fn store(record: &mut Record, waiting: u32, came: &Came) -> Fate {
     Fate::Stored(slot)
 }
 
-/// The place in its channel's list, if it is not passed over.
-fn place_for(record: &Record, came: &Came) -> Option<usize> {
+/// Document 01's place in the channel's list, if the arrival is not passed over.
+pub fn place_for(record: &Record, came: &Came) -> Option<usize> {
     let distances = Distances::of(record, came);
     let over = distances.own == 0
         || distances.own > FARTHEST
