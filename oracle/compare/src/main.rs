@@ -131,7 +131,7 @@ fn write_vectors(script: &str, lines: &str) -> Result<ExitCode, String> {
         rules::write(output)?;
         sending::write(output, 5, 250)?;
         taken::write(output, 7, 250)?;
-        plan.write_with(output, |output| arriving::write_arrivals(output, 9, 250))
+        plan.write_with(output, |output| arriving::write_arrivals(output, 9, 400))
     })
 }
 

@@ -41,8 +41,27 @@ pub fn write<S: Write, L: Write>(
     record: &Record,
     asked: &Frame,
 ) -> io::Result<()> {
+    write_causes(output, record, asked, 0..1 << CAUSES.len())
+}
+
+/// Every cause alone.
+pub fn write_alone<S: Write, L: Write>(
+    output: &mut Output<S, L>,
+    record: &Record,
+    asked: &Frame,
+) -> io::Result<()> {
+    write_causes(output, record, asked, (0..CAUSES.len()).map(|at| 1 << at))
+}
+
+/// The causes of each of these sets, in which a bit stands for one, and last none.
+fn write_causes<S: Write, L: Write>(
+    output: &mut Output<S, L>,
+    record: &Record,
+    asked: &Frame,
+    sets: impl Iterator<Item = u32>,
+) -> io::Result<()> {
     let sound = Case { settings: Settings::START, record: record.clone(), asked: asked.clone() };
-    for causes in 0..1 << CAUSES.len() {
+    for causes in sets {
         let mut case = sound.clone();
         // The later ones first, since two of them set the state.
         for (_, cause) in CAUSES.iter().enumerate().rev().filter(|(at, _)| causes >> at & 1 == 1) {

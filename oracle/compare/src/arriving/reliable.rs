@@ -44,56 +44,64 @@ enum Room {
     Slots,
 }
 
+/// What the lists are tried with: fragments of those held, states, rooms.
+struct Tried<'a> {
+    fragments: &'a [u32],
+    states: &'a [u32],
+    rooms: &'a [Room],
+}
+
+const ALL: Tried = Tried {
+    fragments: &[0, 3],
+    states: &[CONNECTED, DISCONNECT_LATER],
+    rooms: &[Room::Some, Room::Waiting, Room::Slots],
+};
+const FEW: Tried = Tried { fragments: &[0], states: &[CONNECTED], rooms: &[Room::Some] };
+
 /// All of the set.
 pub fn write<S: Write, L: Write>(output: &mut Output<S, L>) -> io::Result<()> {
     let mut random = Random::new(SEED);
     for last in LASTS {
         for distance in DISTANCES {
-            let states = [CONNECTED, DISCONNECT_LATER];
-            let rooms = [Room::Some, Room::Waiting, Room::Slots];
-            write_held(output, &mut random, (last, distance), &states, &rooms)?;
+            write_held(output, &mut random, (last, distance), &ALL)?;
         }
     }
     start(output)?;
     let record = connected(2);
     payload::write(output, &mut random, &record, &frame(11, vec![134, 1, 1]))?;
-    let mut asked = frame(11, vec![134, 1, 1, 3, 0]);
-    asked.bytes = vec![1, 2, 3];
-    order::write(output, &record, &asked)?;
-    order::write_each(output, &mut random, &record, &asked)
+    order::write(output, &record, &three())?;
+    order::write_each(output, &mut random, &record, &three())
+}
+
+/// Three bytes, next in turn.
+fn three() -> Frame {
+    Frame { op: 11, numbers: vec![134, 1, 1, 3, 0], bytes: vec![1, 2, 3] }
 }
 
 /// A thin slice of it.
 pub fn write_slice<S: Write, L: Write>(output: &mut Output<S, L>) -> io::Result<()> {
     let mut random = Random::new(SEED);
     for (last, distance) in [(65_535, 1), (65_535, 2), (0, 32_767), (0, 32_768)] {
-        write_held(output, &mut random, (last, distance), &[CONNECTED], &[Room::Some])?;
+        write_held(output, &mut random, (last, distance), &FEW)?;
     }
-    start(output)
+    order::write_alone(output, &connected(2), &three())
 }
 
-/// Every list, with its records whole or some in fragments, in these states and rooms.
+/// Every list with all that is tried, and the same arrival once more.
 fn write_held<S: Write, L: Write>(
     output: &mut Output<S, L>,
     random: &mut Random,
     (last, distance): (u16, u16),
-    states: &[u32],
-    rooms: &[Room],
+    tried: &Tried,
 ) -> io::Result<()> {
     let number = last.wrapping_add(distance);
     for held in HELD {
-        for fragments in [0, 3] {
-            for state in states {
-                for room in rooms {
-                    let mut record = holding(random, last, number, held, fragments);
+        for fragments in tried.fragments {
+            for state in tried.states {
+                for room in tried.rooms {
+                    let mut record = holding(random, last, number, held, *fragments);
                     record.numbers[place::STATE] = *state;
-                    if *room == Room::Slots {
-                        fill(&mut record);
-                    }
-                    let total = record.numbers[place::WAITING];
-                    let waiting = if *room == Room::Waiting { total } else { total + 1 };
-                    output.put(&set(&Settings { waiting, ..Settings::START }))?;
-                    records::make(output, &record)?;
+                    open(output, &mut record, *room)?;
                     if stores(output, &arrival(random, number))? {
                         output.put(&whole_store())?;
                     }
@@ -104,6 +112,21 @@ fn write_held<S: Write, L: Write>(
     }
     output.put(&whole_store())?;
     output.put(&frame(15, vec![]))
+}
+
+/// Makes the record with this room, and the settings that leave it.
+fn open<S: Write, L: Write>(
+    output: &mut Output<S, L>,
+    record: &mut Record,
+    room: Room,
+) -> io::Result<()> {
+    if room == Room::Slots {
+        fill(record);
+    }
+    let total = record.numbers[place::WAITING];
+    let waiting = if room == Room::Waiting { total } else { total + 1 };
+    output.put(&set(&Settings { waiting, ..Settings::START }))?;
+    records::make(output, record)
 }
 
 /// A connected record whose channel 1 has this last number and holds these; those of 3 fragments make the

@@ -63,15 +63,19 @@ pub fn write<S: Write, L: Write>(output: &mut Output<S, L>) -> io::Result<()> {
     write_grid(output, &mut random, &Grid::full())?;
     let record = connected(2);
     payload::write(output, &mut random, &record, &frame(10, vec![73, 1, 7, 1_025]))?;
-    let mut asked = frame(10, vec![73, 1, 7, 1_025, 3, 0]);
-    asked.bytes = vec![1, 2, 3];
-    order::write(output, &record, &asked)?;
-    order::write_each(output, &mut random, &record, &asked)
+    order::write(output, &record, &three())?;
+    order::write_each(output, &mut random, &record, &three())
 }
 
-/// A thin slice of the grid.
+/// A thin slice of it.
 pub fn write_slice<S: Write, L: Write>(output: &mut Output<S, L>) -> io::Result<()> {
-    write_grid(output, &mut Random::new(SEED), &Grid::slice())
+    write_grid(output, &mut Random::new(SEED), &Grid::slice())?;
+    order::write_alone(output, &connected(2), &three())
+}
+
+/// Three bytes in the window after the first.
+fn three() -> Frame {
+    Frame { op: 10, numbers: vec![73, 1, 7, 1_025, 3, 0], bytes: vec![1, 2, 3] }
 }
 
 fn write_grid<S: Write, L: Write>(

@@ -51,7 +51,7 @@ impl fmt::Display for Kind {
     }
 }
 
-/// What an arrival comes to, and the record after it, where a record can show it.
+/// What an arrival comes to, and the record after it; a thirteenth packet is one that no record can show.
 #[derive(PartialEq, Eq)]
 struct End {
     verdict: Verdict,
@@ -326,6 +326,14 @@ mod tests {
         assert!(ours.row != theirs.row);
         let (kind, ours, theirs) = both(&with(&[1, 3]), 2, 1);
         assert!(kind.is_none() && ours == theirs);
+    }
+
+    #[test]
+    fn out_of_order_the_next_one_is_dispatched_here_and_stuck_there() {
+        let (kind, ours, theirs) = both(&with(&[2, 0]), 1, 1);
+        // The dispatched list's length, after the numbers and the three outgoing lists.
+        let dispatched = |end: &End| end.row.as_ref().unwrap()[place::FLAGS + 3];
+        assert_eq!((kind, dispatched(&ours), dispatched(&theirs)), (Some(Kind::Order), 2, 0));
     }
 
     #[test]
