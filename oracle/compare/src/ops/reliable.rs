@@ -17,7 +17,7 @@ use crate::{
 pub const KIND: u8 = 6;
 
 /// The farthest that is not passed over.
-const FARTHEST: u16 = 32_767;
+pub const FARTHEST: u16 = 32_767;
 
 /// The place of the last number among a channel's numbers.
 pub const LAST: usize = 2;
@@ -107,7 +107,7 @@ pub fn store(record: &mut Record, waiting: u32, came: &Came) -> Fate {
 }
 
 /// Document 01's place in the channel's list, if the arrival is not passed over.
-pub fn place_for(record: &Record, came: &Came) -> Option<usize> {
+fn place_for(record: &Record, came: &Came) -> Option<usize> {
     let distances = Distances::of(record, came);
     let over = distances.own == 0
         || distances.own > FARTHEST
@@ -140,7 +140,7 @@ impl Distances {
     }
 
     /// Document 01's place.
-    pub fn before_the_first_farther(&self) -> usize {
+    fn before_the_first_farther(&self) -> usize {
         self.held.iter().position(|held| *held > self.own).unwrap_or(self.held.len())
     }
 }

@@ -16,7 +16,7 @@ use crate::{
     model::{Settings, CELL, DISCONNECT_LATER},
     ops::{
         arrival::Came,
-        reliable::{place_for, put, store, Distances, Fate, LAST},
+        reliable::{put, store, Distances, Fate, FARTHEST, LAST},
     },
     random::Random,
 };
@@ -170,9 +170,10 @@ impl Case<'_> {
         if self.refused() {
             return Told { kind: None, end: End::new(Verdict::Refused, self.record) };
         }
-        match self.place() {
-            None => self.pass_over(),
-            Some(place) => self.take(bench, place),
+        let distances = Distances::of(self.record, &self.came);
+        match self.place(&distances) {
+            None => self.pass_over(&distances),
+            Some(place) => self.take(bench, &distances, place),
         }
     }
 
@@ -190,39 +191,51 @@ impl Case<'_> {
     }
 
     /// The source's place, if it does not pass over.
-    fn place(&self) -> Option<usize> {
-        let distances = Distances::of(self.record, &self.came);
-        let over = self.record.numbers[place::STATE] == DISCONNECT_LATER
-            || distances.own == 0
-            || past_windows(self.record, &self.came);
-        if over {
+    fn place(&self, distances: &Distances) -> Option<usize> {
+        if self.later() || distances.own == 0 || self.past_windows(distances) {
             return None;
         }
-        from_the_end(&distances)
+        from_the_end(distances)
     }
 
-    fn pass_over(&self) -> Told {
-        let kind = match place_for(self.record, &self.came) {
-            _ if self.long() => Some(Kind::Long),
-            Some(_) => Some(Kind::Window),
-            None => None,
+    fn later(&self) -> bool {
+        self.record.numbers[place::STATE] == DISCONNECT_LATER
+    }
+
+    /// Whether the source's windows leave the number out.
+    fn past_windows(&self, distances: &Distances) -> bool {
+        let last = self.record.channels[usize::from(self.came.channel)].numbers[LAST];
+        distances.own >= TAKEN * WINDOW - last % WINDOW
+    }
+
+    /// What the source should do where it passes over. No kind asks what document 01's rule made of it here.
+    fn pass_over(&self, distances: &Distances) -> Told {
+        let window = self.past_windows(distances)
+            && distances.own <= FARTHEST
+            && !distances.held.contains(&distances.own)
+            && !self.later();
+        let kind = match self.long() {
+            true => Some(Kind::Long),
+            false => window.then_some(Kind::Window),
         };
         Told { kind, end: End::new(Verdict::PassedOver, self.record) }
     }
 
-    /// What the source should do where it does not pass over.
-    fn take(&self, bench: &mut Bench, place: usize) -> Told {
-        let own = place_for(self.record, &self.came);
-        let full = self.record.free_incoming().is_none();
+    /// What it should do where it does not; a number that is held then stands before a nearer one.
+    fn take(&self, bench: &mut Bench, distances: &Distances, place: usize) -> Told {
+        let again = distances.held.contains(&distances.own);
         if self.record.numbers[place::WAITING] >= self.settings.waiting {
-            let kind = (own.is_none() && !self.long()).then_some(Kind::Again);
+            let kind = (again && !self.long()).then_some(Kind::Again);
             return Told { kind, end: End::new(Verdict::Refused, self.record) };
         }
-        let kind = match own {
-            _ if self.long() => Some(Kind::Long),
-            None => Some(Kind::Again),
-            Some(_) if full => Some(Kind::Full),
-            Some(own) => (own != place).then_some(Kind::Order),
+        let kind = if self.long() {
+            Some(Kind::Long)
+        } else if again {
+            Some(Kind::Again)
+        } else if self.record.free_incoming().is_none() {
+            Some(Kind::Full)
+        } else {
+            crossed(distances).then_some(Kind::Order)
         };
         Told { kind, end: self.stored(bench, place) }
     }
@@ -238,10 +251,10 @@ impl Case<'_> {
     }
 }
 
-/// Whether the source's windows leave the number out.
-fn past_windows(record: &Record, came: &Came) -> bool {
-    let last = record.channels[usize::from(came.channel)].numbers[LAST];
-    came.number.wrapping_sub(last) >= TAKEN * WINDOW - last % WINDOW
+/// Whether one that is farther stands before one that is nearer.
+fn crossed(distances: &Distances) -> bool {
+    let farther = |held: &u16| *held > distances.own;
+    distances.held.iter().skip_while(|held| !farther(held)).any(|held| !farther(held))
 }
 
 /// The source's place: after the last held one that is no farther, unless that is the number itself.
