@@ -35,7 +35,8 @@ fn frame<const N: usize>(op: u8, numbers: [u32; N]) -> Frame {
     Frame { op, numbers: numbers.to_vec(), ..Frame::default() }
 }
 
-fn numbers(from: &Record, to: &Record) -> Vec<Frame> {
+/// The frames that make the single numbers and the words of the one record those of the other.
+pub fn numbers(from: &Record, to: &Record) -> Vec<Frame> {
     let old = from.numbers.iter().chain(&from.words);
     let new = to.numbers.iter().chain(&to.words);
     let places = (0..from.numbers.len()).chain(WORDS_FROM..);

@@ -4,12 +4,10 @@ use std::collections::BTreeSet;
 
 use enet::record::{place, List, Record, CHANNELS};
 
-use crate::model::mtu_fits;
+use crate::model::{mtu_fits, CELL};
 
 /// The channel that is the peer itself.
 pub const PEER: u8 = 255;
-/// The most bytes of a cell.
-const CELL: u32 = 4_096;
 
 pub fn damaged(record: &Record) -> bool {
     let numbers_fit = mtu_fits(record.numbers[place::MTU])
@@ -53,7 +51,7 @@ fn incoming_sound(record: &Record) -> bool {
     let count = record.numbers[place::CHANNEL_COUNT];
     let packets_fit = record.used_incoming().iter().all(|&slot| {
         let packet = &record.incoming_slots[slot];
-        packet.length <= CELL && u32::from(packet.channel) < count
+        packet.length as usize <= CELL && u32::from(packet.channel) < count
     });
     packets_fit
         && record.open_channels().iter().enumerate().all(|(number, channel)| {

@@ -1,6 +1,6 @@
 //! A frame of a script, and the line that answers it.
 
-#[derive(Default)]
+#[derive(Clone, Default)]
 pub struct Frame {
     pub op: u8,
     pub numbers: Vec<u32>,

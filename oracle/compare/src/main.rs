@@ -9,6 +9,7 @@ mod model;
 mod ops;
 mod output;
 mod packing;
+mod queueing;
 mod random;
 mod records;
 mod script;
@@ -16,6 +17,7 @@ mod sending;
 
 use std::{env, fs, io, process::ExitCode};
 
+use arriving::taken;
 use output::Output;
 use sending::{rules, sets};
 
@@ -31,6 +33,7 @@ fn main() -> ExitCode {
         ["arriving", seed, count, script, lines] => write_arriving(seed, count, script, lines),
         ["every", set, script, lines] => write_every(set, script, lines),
         ["packing", seed, count] => pack(seed, count),
+        ["reliable", seed, count] => queue(seed, count),
         ["vectors", script, lines] => write_vectors(script, lines),
         ["lines", expected, got] => compare(expected, got),
         _ => Err(usage()),
@@ -56,6 +59,7 @@ fn usage() -> String {
   compare every SET SCRIPT_FILE LINES_FILE
       SET: {}, {}
   compare packing SEED COUNT
+  compare reliable SEED COUNT
   compare vectors SCRIPT_FILE LINES_FILE
   compare lines EXPECTED GOT",
         names.join(","),
@@ -111,8 +115,14 @@ fn pack(seed: &str, count: &str) -> Result<ExitCode, String> {
     Ok(if same { ExitCode::SUCCESS } else { ExitCode::FAILURE })
 }
 
+/// The source's reliable arrival beside document 01's.
+fn queue(seed: &str, count: &str) -> Result<ExitCode, String> {
+    let same = queueing::compare(number(seed)?, number(count)?);
+    Ok(if same { ExitCode::SUCCESS } else { ExitCode::FAILURE })
+}
+
 /// What the repository stores for replay: each kind of damage, random records, the rules of sending, some
-/// sequences of sending and of dispatch and receive, then every other op.
+/// sequences of sending and of dispatch and receive, then every other op, then arrivals, and last a cut frame.
 fn write_vectors(script: &str, lines: &str) -> Result<ExitCode, String> {
     let plan = script::Plan { seed: 1, count: 3_000, choice: script::Choice::named(None)? };
     written(script, lines, |output| {
@@ -120,8 +130,8 @@ fn write_vectors(script: &str, lines: &str) -> Result<ExitCode, String> {
         records::write(output, 3, 150)?;
         rules::write(output)?;
         sending::write(output, 5, 250)?;
-        arriving::write(output, 7, 250)?;
-        plan.write(output)
+        taken::write(output, 7, 250)?;
+        plan.write_with(output, |output| arriving::write_arrivals(output, 9, 400))
     })
 }
 

@@ -1,7 +1,7 @@
 //! What a script's program keeps from call to call, as the oracle keeps it.
 
 use enet::{
-    record::{hash, Record},
+    record::{hash, Record, INCOMING},
     Bench,
 };
 
@@ -10,18 +10,35 @@ use crate::{damage::damaged, frame::Frame};
 /// How many bytes the store has.
 pub const STORE: usize = 49_152;
 
+/// How many bytes a cell of it has, one for each incoming slot.
+pub const CELL: usize = STORE / INCOMING;
+
 /// The state in which a peer is connected.
 pub const CONNECTED: u32 = 5;
 
-/// The settings that a call may refuse, and the checksum.
+/// The state that still takes arrivals and stores none.
+pub const DISCONNECT_LATER: u32 = 6;
+
+/// The settings, and how much of the store an arrival is lent.
 #[derive(Clone, Copy)]
 pub struct Settings {
     pub mtu: u32,
     pub packet: u32,
+    pub waiting: u32,
     pub checksum: bool,
+    pub store: u32,
 }
 
 impl Settings {
+    /// As SCRIPT.md has them at the start.
+    pub const START: Settings = Settings {
+        mtu: 1_392,
+        packet: 33_554_432,
+        waiting: 33_554_432,
+        checksum: false,
+        store: STORE as u32,
+    };
+
     /// Whether each lies in document 01's range.
     pub fn fit(&self) -> bool {
         mtu_fits(self.mtu) && (1..=1_073_741_824).contains(&self.packet)
@@ -43,13 +60,27 @@ pub struct Model {
 impl Model {
     /// As SCRIPT.md has it at the start.
     pub fn new() -> Self {
-        let settings = Settings { mtu: 1_392, packet: 33_554_432, checksum: false };
+        let settings = Settings::START;
         Model {
             bench: Bench::new(),
             settings,
             record: Record::fresh(settings.mtu),
             store: vec![0; STORE],
         }
+    }
+
+    /// What a call that is lent the store refuses first: a store of another length, then what every call refuses.
+    pub fn lent_refusal(&self) -> Option<u32> {
+        if self.settings.store as usize != STORE {
+            return Some(11);
+        }
+        self.refusal()
+    }
+
+    /// Lays a packet's bytes into the slot's cell; the cell's bytes past them stay.
+    pub fn keep(&mut self, slot: usize, bytes: &[u8]) {
+        let cell = &mut self.store[slot * CELL..][..CELL];
+        cell[..bytes.len()].copy_from_slice(bytes);
     }
 
     /// What every call but reset refuses first: settings out of range, then a damaged record.

@@ -17,8 +17,14 @@ impl<S: Write, L: Write> Output<S, L> {
 
     /// Writes the frame and the line that answers it.
     pub fn put(&mut self, frame: &Frame) -> io::Result<()> {
+        self.ask(frame).map(drop)
+    }
+
+    /// The same, and the line.
+    pub fn ask(&mut self, frame: &Frame) -> io::Result<String> {
         let line = ops::answer(&mut self.model, frame);
-        self.raw(&frame.encode(), &line)
+        self.raw(&frame.encode(), &line)?;
+        Ok(line)
     }
 
     /// Writes these bytes and this line.

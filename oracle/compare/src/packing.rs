@@ -11,13 +11,12 @@ use enet::{
 };
 
 use crate::{
+    model::DISCONNECT_LATER,
     ops::step::{add, step, Queue, ACKNOWLEDGE},
     random::Random,
     records::sound::{shaped, Shape},
 };
 
-/// The state that waits for all commands to be gone.
-const DISCONNECT_LATER: u32 = 6;
 /// The peer's flag that says that a datagram was full.
 const CONTINUE_SENDING: u32 = 2;
 /// The datagram's header.

@@ -58,12 +58,22 @@ pub struct Plan {
 
 impl Plan {
     pub fn write(&self, output: &mut Output<impl Write, impl Write>) -> io::Result<()> {
+        self.write_with(output, |_| Ok(()))
+    }
+
+    /// The same with more before the cut frame, which must come last.
+    pub fn write_with<S: Write, L: Write>(
+        &self,
+        output: &mut Output<S, L>,
+        more: impl FnOnce(&mut Output<S, L>) -> io::Result<()>,
+    ) -> io::Result<()> {
         let mut random = Random::new(self.seed);
         let mut turns = vec![0; self.choice.groups.len()];
         for _ in 0..self.count {
             let frame = self.next(&mut random, &output.model, &mut turns);
             output.put(&frame)?;
         }
+        more(output)?;
         if self.choice.short {
             let whole = self.next(&mut random, &output.model, &mut turns).encode();
             // At least one byte, or it would be no frame at all; at least one too few.

@@ -12,6 +12,7 @@ mod silent;
 
 pub use bench::Bench;
 pub use door::{
+    arrival::{Arrival, Arrived, Room},
     command::{limits, size, write, Read},
     pack::Packed,
     receive::Received,

@@ -2,11 +2,14 @@
 
 use enet::{
     record::{place, Outgoing, Record},
-    Bench, Limits, Packet,
+    Arrival, Bench, Limits, Packet, Room,
 };
 
 const LIMITS: Limits = Limits { packet: 1_000, checksum: true };
 const PACKET: Packet = Packet { channel: 0, length: 1, flags: 1 };
+const ROOM: Room = Room { packet: 1_000, waiting: 1_000 };
+const ARRIVAL: Arrival =
+    Arrival { byte: 73, channel: 0, number: 1, group: 2, length: 1, rest: &[7] };
 
 /// A connected record of one channel with something also where it does not count.
 fn connected() -> Record {
@@ -34,6 +37,7 @@ fn each(bench: &mut Bench, record: &Record) -> Vec<Record> {
         bench.setup(record, &ping()),
         bench.pack(record, 5).1,
         bench.disconnect(record, 3),
+        bench.arrive(record, ROOM, &ARRIVAL).1,
     ]
 }
 

@@ -1,6 +1,8 @@
 //! The ops of SCRIPT.md in groups: each makes frames and says what the oracle answers.
 
+pub mod arrival;
 mod begin;
+mod bytes;
 pub mod cell;
 mod channel;
 mod dispatch;
@@ -11,6 +13,7 @@ pub mod outgoing;
 mod ping;
 mod read;
 mod receive;
+pub mod reliable;
 pub mod reset;
 mod row;
 pub mod send;
@@ -20,6 +23,7 @@ mod state;
 pub mod step;
 mod store;
 mod unknown;
+pub mod unsequenced;
 mod write;
 
 use crate::{frame::Frame, model::Model, random::Random};
@@ -48,10 +52,13 @@ pub const MORE: &[Group] = &[
     send::GROUP,
     setup::GROUP,
     step::GROUP,
+    unsequenced::GROUP,
+    reliable::GROUP,
     dispatch::GROUP,
     receive::GROUP,
     row::GROUP,
     store::GROUP,
+    bytes::GROUP,
     number::GROUP,
     cell::GROUP,
     channel::GROUP,

@@ -17,8 +17,6 @@ fn line(model: &mut Model, frame: &Frame) -> String {
     model.record = after;
     match received {
         None => model.replies(frame, &[0, 0]),
-        Some(out) => {
-            model.replies(frame, &[0, 1, out.channel.into(), out.slot as u32, out.length])
-        }
+        Some(out) => model.replies(frame, &[0, 1, out.channel.into(), out.slot as u32, out.length]),
     }
 }

@@ -139,8 +139,8 @@ mod tests {
                 record.numbers[place::MTU] = 576;
             }
             let checksum = random.once_in(2);
-            let settings =
-                Settings { mtu: 1_392, packet: random.pick(&[33_554_432, 1 << 30]), checksum };
+            let packet = random.pick(&[33_554_432, 1 << 30]);
+            let settings = Settings { packet, checksum, ..Settings::START };
             let fragment = fragment(record.numbers[place::MTU], checksum);
             let frame = drawn(&mut random, fragment, record.numbers[place::CHANNEL_COUNT]);
             let Ok(channel) = u8::try_from(frame.number(0)) else {

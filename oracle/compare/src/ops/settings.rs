@@ -33,7 +33,12 @@ fn line(model: &mut Model, frame: &Frame) -> String {
     if frame.number(3) > 1 || frame.number(4) > STORE {
         return frame.bad();
     }
-    model.settings =
-        Settings { mtu: frame.number(0), packet: frame.number(1), checksum: frame.number(3) == 1 };
+    model.settings = Settings {
+        mtu: frame.number(0),
+        packet: frame.number(1),
+        waiting: frame.number(2),
+        checksum: frame.number(3) == 1,
+        store: frame.number(4),
+    };
     frame.line(&[])
 }

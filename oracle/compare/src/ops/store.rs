@@ -17,8 +17,11 @@ fn frame(random: &mut Random, _: u64) -> Frame {
 }
 
 fn line(model: &mut Model, frame: &Frame) -> String {
+    frame.line(&[hash(&part(model, frame))])
+}
+
+/// The bytes that the frame names, cut at the store's end.
+pub fn part(model: &Model, frame: &Frame) -> Vec<u32> {
     let (first, count) = (frame.number(0) as usize, frame.number(1) as usize);
-    let part: Vec<u32> =
-        model.store.iter().skip(first).take(count).map(|&byte| byte.into()).collect();
-    frame.line(&[hash(&part)])
+    model.store.iter().skip(first).take(count).map(|&byte| byte.into()).collect()
 }

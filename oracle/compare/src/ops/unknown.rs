@@ -3,6 +3,7 @@
 use super::Group;
 use crate::{frame::Frame, model::Model, random::Random};
 
+/// Op 17 has been listed since; the stored scripts were drawn with it, and it is answered as what it is.
 const OPS: &[u8] = &[17, 19, 25, 29, 33, 200, 255];
 
 pub const GROUP: Group = Group { name: "unknown", weight: 1, frame, line };

@@ -8,14 +8,13 @@ use std::io::{self, Write};
 
 use enet::record::Record;
 
-use crate::{build, frame::Frame, ops, output::Output, random::Random};
+use crate::{build, frame::Frame, model::Settings, ops, output::Output, random::Random};
 
 /// The seed of the records of damage, which take no seed from outside.
 const SEED: u64 = 1;
 
-/// The settings of the start, after the MTU: the maximum packet; then waiting, checksum, store length.
-pub const PACKET: u32 = 33_554_432;
-const OTHERS: [u32; 3] = [33_554_432, 0, 49_152];
+/// The maximum packet of the start.
+pub const PACKET: u32 = Settings::START.packet;
 
 /// A script in which so many records are built and reset, with other calls around.
 pub fn write<S: Write, L: Write>(
@@ -70,8 +69,15 @@ pub fn frame(op: u8, numbers: Vec<u32>) -> Frame {
     Frame { op, numbers, ..Frame::default() }
 }
 
+/// The settings of the start with another MTU and maximum packet.
 pub fn settings(mtu: u32, packet: u32) -> Frame {
-    frame(0, [&[mtu, packet][..], &OTHERS].concat())
+    set(&Settings { mtu, packet, ..Settings::START })
+}
+
+/// The frame that makes these the settings.
+pub fn set(settings: &Settings) -> Frame {
+    let Settings { mtu, packet, waiting, checksum, store } = *settings;
+    frame(0, vec![mtu, packet, waiting, checksum.into(), store])
 }
 
 /// Turns the model's record into this one.

@@ -122,13 +122,11 @@ fn call<S: Write, L: Write>(output: &mut Output<S, L>, random: &mut Random) -> i
         random.pick(&[(575, PACKET), (4_097, PACKET), (576, 0), (576, LARGEST + 1)]);
     output.put(&records::settings(mtu, packet))?;
     output.put(&frame)?;
-    let mut back = records::settings(kept.mtu, kept.packet);
-    back.numbers[3] = kept.checksum.into();
-    output.put(&back)
+    output.put(&records::set(&kept))
 }
 
 /// A frame of ops 4 to 7 that suits the record.
-fn drawn(model: &Model, random: &mut Random) -> Frame {
+pub fn drawn(model: &Model, random: &mut Random) -> Frame {
     let numbers = &model.record.numbers;
     let count = numbers[place::CHANNEL_COUNT].min(255);
     match random.below(16) {

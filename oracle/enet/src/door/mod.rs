@@ -1,5 +1,6 @@
 //! The doors, one file for each function or piece of the source that they lead to.
 
+pub(crate) mod arrival;
 mod call;
 pub(crate) mod command;
 mod disconnect;

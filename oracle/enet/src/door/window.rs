@@ -2,7 +2,10 @@
 
 use std::ptr::{addr_of_mut, null_mut};
 
-use super::command::{size, write};
+use super::{
+    arrival::verdict,
+    command::{size, write},
+};
 use crate::{
     bench::is_empty, enet_packet_destroy, enet_peer_receive, opened, Bench,
     ENET_PEER_STATE_CONNECTED, ENET_PROTOCOL_COMMAND_FLAG_UNSEQUENCED,
@@ -63,12 +66,7 @@ impl Bench {
             Window {
                 base: (*peer).incoming_unsequenced_group,
                 words: (*peer).unsequenced_window,
-                verdict: match (returned, queued) {
-                    (0, true) => Verdict::Delivered,
-                    (0, false) => Verdict::PassedOver,
-                    (-1, false) => Verdict::Refused,
-                    other => unreachable!("the source answered {other:?}"),
-                },
+                verdict: verdict(returned, queued),
             }
         }
     }

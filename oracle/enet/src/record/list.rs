@@ -19,6 +19,13 @@ impl List {
         self.length += 1;
     }
 
+    /// Takes a slot in before what stands at this place, where there is room.
+    pub fn insert(&mut self, place: usize, slot: usize) {
+        self.cells.copy_within(place..usize::from(self.length), place + 1);
+        self.cells[place] = slot as u16;
+        self.length += 1;
+    }
+
     /// Takes the head out of a list no longer than its pool; the cells past the new length stay.
     pub fn take(&mut self) -> Option<usize> {
         let slot = *self.items().first()?;

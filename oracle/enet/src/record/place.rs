@@ -29,6 +29,7 @@ pub const IN_TRANSIT: usize = 41;
 pub const RELIABLE_NUMBER: usize = 42;
 pub const FLAGS: usize = 43;
 pub const RESERVED: usize = 44;
+pub const INCOMING_GROUP: usize = 45;
 pub const OUTGOING_GROUP: usize = 46;
 pub const EVENT_DATA: usize = 47;
 pub const WAITING: usize = 48;

@@ -2,7 +2,7 @@
 
 use std::collections::BTreeSet;
 
-use super::{place, List, Record, OUTGOING};
+use super::{place, List, Record, INCOMING, OUTGOING};
 
 const FACTOR: u64 = 65_599;
 const MODULUS: u64 = 4_294_967_291;
@@ -44,6 +44,12 @@ impl Record {
     /// The incoming slots that a list names, by rising number.
     pub fn used_incoming(&self) -> BTreeSet<usize> {
         self.incoming_lists().iter().flat_map(|list| list.slots()).collect()
+    }
+
+    /// The lowest incoming slot that no list names.
+    pub fn free_incoming(&self) -> Option<usize> {
+        let used = self.used_incoming();
+        (0..INCOMING).find(|slot| !used.contains(slot))
     }
 }
 

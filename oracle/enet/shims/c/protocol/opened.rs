@@ -19,6 +19,15 @@ pub(crate) unsafe fn handle_send_unsequenced<S: Socket>(
     enet_protocol_handle_send_unsequenced(host, peer, command, current_data)
 }
 
+pub(crate) unsafe fn handle_send_reliable<S: Socket>(
+    host: *mut ENetHost<S>,
+    peer: *mut ENetPeer<S>,
+    command: *const ENetProtocol,
+    current_data: *mut *mut u8,
+) -> i32 {
+    enet_protocol_handle_send_reliable(host, peer, command, current_data)
+}
+
 pub(crate) unsafe fn handle_incoming_commands<S: Socket>(
     host: *mut ENetHost<S>,
     event: *mut ENetEvent<S>,

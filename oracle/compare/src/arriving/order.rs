@@ -1,0 +1,104 @@
+//! The order of an arrival's tests: every set of causes together, and every byte, channel and state.
+
+use std::io::{self, Write};
+
+use enet::record::{place, Record};
+
+use crate::{
+    frame::Frame,
+    model::Settings,
+    output::Output,
+    random::Random,
+    records::{self, set},
+};
+
+/// What gives a case one cause to be refused or passed over.
+type Cause = fn(&mut Case);
+
+/// In the order in which they are asked.
+const CAUSES: [Cause; 8] = [
+    |case| case.settings.store -= 1,
+    |case| case.settings.mtu = 575,
+    |case| case.record.numbers[place::WAITING] += 1,
+    |case| case.asked.numbers[0] ^= 15,
+    |case| case.record.numbers[place::STATE] = 7,
+    |case| case.asked.bytes.truncate(2),
+    |case| case.record.numbers[place::STATE] = 6,
+    |case| case.settings.waiting = 0,
+];
+
+/// A call, the record that it is made on, and its settings.
+#[derive(Clone)]
+struct Case {
+    settings: Settings,
+    record: Record,
+    asked: Frame,
+}
+
+/// Every set of causes, for an arrival of three bytes that this record stores.
+pub fn write<S: Write, L: Write>(
+    output: &mut Output<S, L>,
+    record: &Record,
+    asked: &Frame,
+) -> io::Result<()> {
+    write_causes(output, record, asked, 0..1 << CAUSES.len())
+}
+
+/// Every cause alone.
+pub fn write_alone<S: Write, L: Write>(
+    output: &mut Output<S, L>,
+    record: &Record,
+    asked: &Frame,
+) -> io::Result<()> {
+    write_causes(output, record, asked, (0..CAUSES.len()).map(|at| 1 << at))
+}
+
+/// The causes of each of these sets, in which a bit stands for one, and last none.
+fn write_causes<S: Write, L: Write>(
+    output: &mut Output<S, L>,
+    record: &Record,
+    asked: &Frame,
+    sets: impl Iterator<Item = u32>,
+) -> io::Result<()> {
+    let sound = Case { settings: Settings::START, record: record.clone(), asked: asked.clone() };
+    for causes in sets {
+        let mut case = sound.clone();
+        // The later ones first, since two of them set the state.
+        for (_, cause) in CAUSES.iter().enumerate().rev().filter(|(at, _)| causes >> at & 1 == 1) {
+            cause(&mut case);
+        }
+        put(output, &case)?;
+    }
+    put(output, &sound)
+}
+
+/// Every byte, and every channel with every state.
+pub fn write_each<S: Write, L: Write>(
+    output: &mut Output<S, L>,
+    random: &mut Random,
+    record: &Record,
+    asked: &Frame,
+) -> io::Result<()> {
+    let sound = Case { settings: Settings::START, record: record.clone(), asked: asked.clone() };
+    for byte in 0..=256 {
+        let mut case = sound.clone();
+        case.asked.numbers[0] = byte;
+        put(output, &case)?;
+    }
+    let count = record.numbers[place::CHANNEL_COUNT];
+    for state in (0..=10).chain([random.number()]) {
+        for channel in [0, count - 1, count, 8, 255, 256] {
+            let mut case = sound.clone();
+            case.record.numbers[place::STATE] = state;
+            case.asked.numbers[1] = channel;
+            put(output, &case)?;
+        }
+    }
+    Ok(())
+}
+
+fn put<S: Write, L: Write>(output: &mut Output<S, L>, case: &Case) -> io::Result<()> {
+    output.put(&set(&case.settings))?;
+    records::make(output, &case.record)?;
+    output.put(&case.asked)
+}

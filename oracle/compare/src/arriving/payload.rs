@@ -1,0 +1,64 @@
+//! Every length of a payload where a rule turns, at every place of datagrams that hold it or do not.
+
+use std::io::{self, Write};
+
+use enet::record::Record;
+
+use super::whole_store;
+use crate::{
+    frame::Frame,
+    model::Settings,
+    output::Output,
+    random::Random,
+    records::{self, frame, set},
+};
+
+/// The lengths: none, one byte, and around the end of a cell.
+const LENGTHS: [u32; 5] = [0, 1, 4_095, 4_096, 4_097];
+
+/// Makes each of these arrivals on the record: `asked` is the frame before its length and its place.
+pub fn write<S: Write, L: Write>(
+    output: &mut Output<S, L>,
+    random: &mut Random,
+    record: &Record,
+    asked: &Frame,
+) -> io::Result<()> {
+    for length in LENGTHS {
+        for packet in limits(length) {
+            output.put(&set(&Settings { packet, ..Settings::START }))?;
+            // Just as long, one byte short, with bytes to spare, and empty.
+            for size in [length, length.saturating_sub(1), length + 9, 0] {
+                for place in places(length, size) {
+                    records::make(output, record)?;
+                    let mut asked = asked.clone();
+                    asked.numbers.extend([length, place]);
+                    asked.bytes = random.bytes(size as usize);
+                    output.put(&asked)?;
+                }
+                look(output, length)?;
+            }
+        }
+    }
+    output.put(&set(&Settings::START))
+}
+
+/// Settings of the maximum packet around the length.
+fn limits(length: u32) -> Vec<u32> {
+    (length.saturating_sub(1)..=length + 1).filter(|packet| *packet > 0).collect()
+}
+
+/// The start, the middle, where the payload just ends with the datagram, one after that, the end, one past it.
+fn places(length: u32, size: u32) -> Vec<u32> {
+    let last = size.saturating_sub(length);
+    let mut places = vec![0, size / 2, last, last + 1, size, size + 1, u32::MAX];
+    places.sort();
+    places.dedup();
+    places
+}
+
+/// The first cell where the payload starts and ends, and the whole store.
+fn look<S: Write, L: Write>(output: &mut Output<S, L>, length: u32) -> io::Result<()> {
+    output.put(&frame(17, vec![0, 3]))?;
+    output.put(&frame(17, vec![length.saturating_sub(2), 4]))?;
+    output.put(&whole_store())
+}

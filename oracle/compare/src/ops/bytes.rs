@@ -1,0 +1,14 @@
+//! Op 17: the bytes of a part of the store.
+
+use super::{store, Group};
+use crate::{frame::Frame, model::Model, random::Random};
+
+pub const GROUP: Group = Group { name: "17", weight: 1, frame, line };
+
+fn frame(random: &mut Random, turn: u64) -> Frame {
+    Frame { op: 17, ..(store::GROUP.frame)(random, turn) }
+}
+
+fn line(model: &mut Model, frame: &Frame) -> String {
+    frame.line(&store::part(model, frame))
+}
