@@ -64,7 +64,7 @@ module _ (s : Settings) (a : Arrival) (datagram : List ℕ) (x : State) where
       → ((why : Refusal) → P (unchanged why x))
       → (sound p ≡ true → fateOn s a p ≡ fate.Passed → P (record { answer = passedOver; after = x }))
       → ((n : ℕ) → sound p ≡ true → length (x .store) ≡ storeLength → Admitted a (p .standing) (length datagram) → fateOn s a p ≡ fate.Stored n
-          → P (record { answer = stored; after = reliableAfter (fate.Stored n) a datagram x }))
+      → P (record { answer = stored; after = reliableAfter (fate.Stored n) a datagram x }))
       → P (arrivesReliable s a datagram x)
   reliable-has P shut passed kept =
       behind-has (gateOf (fits s (Store (length (x .store)))) (sound p)) x (reliableSound s a datagram x) P shut

@@ -61,7 +61,7 @@ module _ (s : Settings) (a : Arrival) (group : Group) (datagram : List ℕ) (x :
       → (sound p ≡ true → judgedOn s group p .fate ≡ fate.Passed → P (record { answer = passedOver; after = regrouped x groups }))
       → (sound p ≡ true → judgedOn s group p .fate ≡ fate.NoRoom → P (record { answer = refused NotStored; after = regrouped x groups }))
       → ((n : ℕ) → sound p ≡ true → length (x .store) ≡ storeLength → Admitted a (p .standing) (length datagram) → judgedOn s group p .fate ≡ fate.Stored n
-          → P (record { answer = stored; after = storedAt n a datagram x (delivered (p .lists) n) groups (p .channels) }))
+      → P (record { answer = stored; after = storedAt n a datagram x (delivered (p .lists) n) groups (p .channels) }))
       → P (arrivesUnsequenced s a group datagram x)
   unsequenced-has P shut passed full kept =
       behind-has (gateOf (fits s (Store (length (x .store)))) (sound p)) x (unsequencedSound s a group datagram x) P shut

@@ -1,42 +1,35 @@
 -- The cases that document 01 marks P, in one list: what the definitions give, beside what the document states.
--- The window's cases hold whatever its words are, so the list takes them as given.
+-- The window's cases hold whatever its words and the store's bytes are, so the list takes them as given.
 use Prim.Native.Nat.{ℕ}
 use mathlib.Core.Path.{_≡_}
 use mathlib.Core.Bool.{false}
 use mathlib.Core.List.{List, [], _∷_, _++_, map}
 use lib.IntN.{ℤ, pos, negsuc}
-use lib.ListN.{getD, take, set, replicate}
+use lib.ListN.{getD, set, replicate}
 use Rattle.numbers.specs.Clock.{sampled}
 use Rattle.throttle.specs.Throttling.{valueAfter}
 use Rattle.throttle.specs.Throttling.{answerAfter as turnAfter}
 use Rattle.throttle.specs.declared.Throttle.{Throttle}
-use Rattle.window.specs.Window.{answerAfter, baseAfter}
 use Rattle.slots.specs.Lists.{outItems, inItems}
 use Rattle.slots.specs.declared.incoming.InList.{InList}
 use Rattle.parts.specs.Fresh.{noOutgoing, noChannel}
-use Rattle.parts.specs.Updates.{withHeld, withLast}
+use Rattle.parts.specs.Updates.{withWindow, withHeld, withLast}
 use Rattle.parts.specs.declared.groups.Incoming.{Incoming}
 use Rattle.peer.specs.Fresh.{freshPeer}
 use Rattle.peer.specs.States.{connected}
-use Rattle.peer.specs.Outcome.{Outcome}
-use Rattle.peer.specs.Updates.{withArrival}
+use Rattle.peer.specs.Outcome.{State, Outcome}
+use Rattle.peer.specs.Updates.{withGroups, withArrival}
 use Rattle.opening.specs.Calls.{begins, setsState}
 use Rattle.peer.specs.declared.settings.Settings.{Settings}
 use Rattle.peer.specs.declared.defaults.Kept.{Kept}
 use Rattle.peer.specs.declared.record.Peer.{Peer}
 use Rattle.sending.specs.Calls.{sends}
 use Rattle.dispatch.specs.Calls.{dispatches}
+use Rattle.unsequenced.specs.Calls.{arrivesUnsequenced}
 
 pub record Case : Type 0 where
   pub given : List ℤ
   pub stated : List ℤ
-
--- a group at a base: passed over 0, taken 1. The paper's "delivered" is taken and then stored; storing comes with the arrivals
-abbrev verdict : ℕ → List ℕ → ℕ → List ℤ
-verdict base words g = map pos (take 1 (answerAfter base words g .values))
-
-abbrev verdictAndBase : ℕ → List ℕ → ℕ → List ℤ
-verdictAndBase base words g = map pos (take 1 (answerAfter base words g .values) ++ (baseAfter base words g ∷ []))
 
 -- an acknowledgement's sent time at a clock: passed over 0, or 1 and the sample
 abbrev sample : ℕ → ℕ → List ℤ
@@ -57,6 +50,22 @@ nobody = record { «incoming_peer» = 0; «outgoing_session» = 0; «incoming_se
 -- a peer as after a reset, begun with one channel and connected
 abbrev opened : ℕ → Peer
 opened mtu = setsState (settings mtu) connected (begins (settings mtu) mtu 1 (freshPeer mtu nobody) .after) .after
+
+-- such a peer with a base and words; its store has any bytes, the datagram none
+abbrev at : ℕ → List ℕ → List ℕ → State
+at base words store =
+    let p = opened 576 in record { peer = withGroups p (withWindow (p .groups) (record { 0 = base }) words); store = store }
+
+-- an unsequenced packet of channel 0, without a payload
+abbrev arrives : State → ℕ → Outcome State
+arrives x g =
+    arrivesUnsequenced (settings 576) (record { byte = 73; channel = 0; number = record { 0 = 0 }; length = 0; place = 0 }) (record { 0 = g }) [] x
+
+-- 0 and which: passed over 0, stored 1; then the base, and the slots in dispatched
+abbrev landed : Outcome State → List ℤ
+landed o =
+    pos (o .answer .number)
+    ∷ map pos (o .answer .values ++ (o .after .peer .groups .incoming .0 ∷ inItems (o .after .peer .lists .dispatched)))
 
 -- the reply's number, then the lengths of what waits in send-reliable
 abbrev waiting : Outcome Peer → List ℤ
@@ -88,12 +97,12 @@ moved o =
     ∷ pos (getD (o .after .channels) 0 noChannel .«incoming_reliable» .0)
     ∷ map pos (inItems (o .after .lists .dispatched))
 
-abbrev pub cases : List ℕ → List Case
-cases words =
-    record { given = verdictAndBase 0 words 32767; stated = pos 1 ∷ pos 31744 ∷ [] }  -- P1
-    ∷ record { given = verdict 0 words 32768; stated = pos 0 ∷ [] }  -- P2
-    ∷ record { given = verdictAndBase 33792 words 5; stated = pos 1 ∷ pos 0 ∷ [] }  -- P3
-    ∷ record { given = verdict 32768 words 5; stated = pos 0 ∷ [] }  -- P4
+abbrev pub cases : List ℕ → List ℕ → List Case
+cases words store =
+    record { given = landed (arrives (at 0 words store) 32767); stated = pos 0 ∷ pos 1 ∷ pos 31744 ∷ pos 0 ∷ [] }  -- P1
+    ∷ record { given = landed (arrives (at 0 words store) 32768); stated = pos 0 ∷ pos 0 ∷ pos 0 ∷ [] }  -- P2
+    ∷ record { given = landed (arrives (at 33792 words store) 5); stated = pos 0 ∷ pos 1 ∷ pos 0 ∷ pos 0 ∷ [] }  -- P3
+    ∷ record { given = landed (arrives (at 32768 words store) 5); stated = pos 0 ∷ pos 0 ∷ pos 32768 ∷ [] }  -- P4
     ∷ record { given = sample 65541 6; stated = pos 0 ∷ [] }  -- P5
     ∷ record { given = sample 65541 5; stated = pos 1 ∷ pos 1 ∷ [] }  -- P6
     ∷ record { given = rolled 100 10 32 121; stated = pos 30 ∷ negsuc 0 ∷ [] }  -- P7

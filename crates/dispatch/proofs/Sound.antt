@@ -58,7 +58,7 @@ fit-set (c ∷ cs) (suc i) new e h =
 -- a list whose slots stood there before or are of its channel holds only slots of its own
 pub own-set : (slots : List Incoming) (j : ℕ) (cs : List Channel) (i : ℕ) (new : Channel) → own slots j cs ≡ true
     → ((s : ℕ) → 0 < times (inItems (new .held)) s
-        → (0 < times (inItems (getD cs i noChannel .held)) s) ⊎ (getD slots s noIncoming .channel ≡ j + i))
+    → (0 < times (inItems (getD cs i noChannel .held)) s) ⊎ (getD slots s noIncoming .channel ≡ j + i))
     → own slots j (set cs i new) ≡ true
 unfolding own
 own-set slots j [] i new e known = refl

@@ -1,4 +1,5 @@
 // Ops 10 and 11: the arrivals. The frame's bytes are the datagram, and the first so many bytes of the store are lent.
+use crate::settings::Bench;
 use arriving::Arrival;
 use arriving::Arrived;
 use arriving::Reply;
@@ -10,30 +11,35 @@ use script::frames;
 use script::frames::Frame;
 use script::line;
 
-// The reply goes into the line, the record on.
-pub(crate) fn call(
-    f: Frame,
-    input: &[u8],
-    settings: Settings,
-    peer: Peer,
-    store: &mut [u8],
-) -> Peer {
-    let arrived = made(f, frames::bytes(input), settings, peer, store);
+// The reply goes into the line, the record on. Op 0 lets no length above the store's pass.
+pub(crate) fn call(f: Frame, input: &[u8], bench: Bench, peer: Peer, store: &mut [u8]) -> Peer {
+    let n = bench.store as usize;
+    if store.len() < n {
+        return peer;
+    }
+    let arrived = made(
+        f,
+        frames::bytes(input),
+        bench.settings,
+        peer,
+        &mut store[..n],
+    );
     let reply = arrived.reply;
     tell(reply);
     arrived.peer
 }
 
-fn made(
-    f: Frame,
-    datagram: &[u8],
-    settings: Settings,
-    peer: Peer,
-    store: &mut [u8],
-) -> Arrived {
+fn made(f: Frame, datagram: &[u8], settings: Settings, peer: Peer, store: &mut [u8]) -> Arrived {
     if f.op == 10 {
         let group = Group(frames::short(f.n3));
-        return unsequenced::arrive(peer, settings, store, datagram, arrival(f, f.n4, f.n5), group);
+        return unsequenced::arrive(
+            peer,
+            settings,
+            store,
+            datagram,
+            arrival(f, f.n4, f.n5),
+            group,
+        );
     }
     reliable::arrive(peer, settings, store, datagram, arrival(f, f.n3, f.n4))
 }

@@ -47,7 +47,7 @@ fn changed(f: Frame, input: &[u8], bench: Bench, peer: Peer, store: &mut [u8]) -
     match op {
         1..=6 | 12 => calls::call(f, input, settings, peer),
         7 => steps::call(f, settings, peer),
-        10 | 11 => arrivals::call(f, input, settings, peer, store::lent(store, bench.store)),
+        10 | 11 => arrivals::call(f, input, bench, peer, store),
         13 => receives::call(settings, peer),
         20 => setters::number(f.n0, f.n1, peer),
         21..=24 => setters::part(f, input, peer),

@@ -24,15 +24,6 @@ pub(crate) fn tell(store: &[u8], first: u32, count: u32) {
     }
 }
 
-// The first so many bytes, or all.
-pub(crate) fn lent(store: &mut [u8], count: u32) -> &mut [u8] {
-    let n = count as usize;
-    if n < store.len() {
-        return &mut store[..n];
-    }
-    store
-}
-
 fn wide(x: u8) -> u32 {
     x as u32
 }
