@@ -35,13 +35,13 @@ pub fn dispatch(peer: Peer, settings: Settings, channel: u8) -> Called
     );
     if let Gate::Shut(why) = gate {
         return Called {
-            peer: p,
+            peer,
             reply: Reply::Refused(why),
         };
     }
     if p.standing.count <= channel as u32 {
         return Called {
-            peer: p,
+            peer,
             reply: Reply::Refused(Refusal::InvalidChannel),
         };
     }

@@ -68,13 +68,13 @@ pub fn begin(peer: Peer, settings: Settings, mtu: u32, count: u32) -> Called
     );
     if let Gate::Shut(why) = gate {
         return Called {
-            peer: p,
+            peer,
             reply: Reply::Refused(why),
         };
     }
     if !can_begin(mtu, count, p.standing.count) {
         return Called {
-            peer: p,
+            peer,
             reply: Reply::Refused(Refusal::OutOfRange),
         };
     }
@@ -111,13 +111,13 @@ pub fn set_state(peer: Peer, settings: Settings, state: u32) -> Called
     );
     if let Gate::Shut(why) = gate {
         return Called {
-            peer: p,
+            peer,
             reply: Reply::Refused(why),
         };
     }
     if Peer::ZOMBIE < state {
         return Called {
-            peer: p,
+            peer,
             reply: Reply::Refused(Refusal::OutOfRange),
         };
     }

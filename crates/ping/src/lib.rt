@@ -69,7 +69,7 @@ pub fn ping(peer: Peer, settings: Settings) -> Called
     );
     if let Gate::Shut(why) = gate {
         return Called {
-            peer: p,
+            peer,
             reply: Reply::Refused(why),
         };
     }
@@ -86,7 +86,7 @@ pub fn ping(peer: Peer, settings: Settings) -> Called
     let may = may_ping(p.standing, outbox::room(marks));
     if let Gate::Shut(why) = may {
         return Called {
-            peer: p,
+            peer,
             reply: Reply::Refused(why),
         };
     }

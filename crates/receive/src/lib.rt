@@ -66,7 +66,7 @@ pub fn receive(peer: Peer, settings: Settings) -> Received
     );
     if let Gate::Shut(why) = gate {
         return Received {
-            peer: p,
+            peer,
             reply: Reply::Refused(why),
         };
     }
@@ -75,7 +75,7 @@ pub fn receive(peer: Peer, settings: Settings) -> Received
     let first = took.first;
     let First::Slot(s) = first else {
         return Received {
-            peer: p,
+            peer,
             reply: Reply::Nothing,
         };
     };

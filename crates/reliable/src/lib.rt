@@ -55,14 +55,14 @@ pub fn arrive(
     );
     if let Gate::Shut(why) = gate {
         return Arrived {
-            peer: p,
+            peer,
             reply: Reply::Refused(why),
         };
     }
     let may = arriving::may_arrive(SEND_RELIABLE, a, settings, p.standing, datagram.len());
     if let Gate::Shut(why) = may {
         return Arrived {
-            peer: p,
+            peer,
             reply: Reply::Refused(why),
         };
     }
@@ -74,7 +74,7 @@ pub fn arrive(
     let fate = judge(passed, room);
     let Fate::Stored(s) = fate else {
         return Arrived {
-            peer: p,
+            peer,
             reply: arriving::reply_of(fate),
         };
     };

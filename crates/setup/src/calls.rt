@@ -67,7 +67,7 @@ pub fn setup(peer: Peer, settings: Settings, x: Piece) -> Called
     );
     if let Gate::Shut(why) = gate {
         return Called {
-            peer: p,
+            peer,
             reply: Reply::Refused(why),
         };
     }
@@ -85,7 +85,7 @@ pub fn setup(peer: Peer, settings: Settings, x: Piece) -> Called
     let may = judge(x, p.standing.count, outbox::room(marks));
     if let Gate::Shut(why) = may {
         return Called {
-            peer: p,
+            peer,
             reply: Reply::Refused(why),
         };
     }

@@ -47,14 +47,14 @@ pub fn arrive(
     );
     if let Gate::Shut(why) = gate {
         return Arrived {
-            peer: p,
+            peer,
             reply: Reply::Refused(why),
         };
     }
     let may = arriving::may_arrive(SEND_UNSEQUENCED, a, settings, p.standing, datagram.len());
     if let Gate::Shut(why) = may {
         return Arrived {
-            peer: p,
+            peer,
             reply: Reply::Refused(why),
         };
     }
