@@ -1,12 +1,7 @@
 // Ops 10 and 11: the arrivals. The frame's bytes are the datagram, and the first so many bytes of the store are lent.
 use crate::settings::Bench;
-use arriving::Arrival;
-use arriving::Arrived;
 use arriving::Reply;
-use numbers::counters::Group;
-use numbers::counters::Reliable;
 use peer::record::Peer;
-use peer::settings::Settings;
 use script::frames;
 use script::frames::Frame;
 use script::line;
@@ -17,7 +12,7 @@ pub(crate) fn call(f: Frame, input: &[u8], bench: Bench, peer: Peer, store: &mut
     if store.len() < n {
         return peer;
     }
-    let arrived = made(
+    let arrived = asking::arrive(
         f,
         frames::bytes(input),
         bench.settings,
@@ -27,31 +22,6 @@ pub(crate) fn call(f: Frame, input: &[u8], bench: Bench, peer: Peer, store: &mut
     let reply = arrived.reply;
     tell(reply);
     arrived.peer
-}
-
-fn made(f: Frame, datagram: &[u8], settings: Settings, peer: Peer, store: &mut [u8]) -> Arrived {
-    if f.op == 10 {
-        let group = Group(frames::short(f.n3));
-        return unsequenced::arrive(
-            peer,
-            settings,
-            store,
-            datagram,
-            arrival(f, f.n4, f.n5),
-            group,
-        );
-    }
-    reliable::arrive(peer, settings, store, datagram, arrival(f, f.n3, f.n4))
-}
-
-fn arrival(f: Frame, length: u32, place: u32) -> Arrival {
-    Arrival {
-        byte: frames::byte(f.n0),
-        channel: frames::byte(f.n1),
-        number: Reliable(frames::short(f.n2)),
-        length,
-        place,
-    }
 }
 
 // The reply's number, then 0 for passed over, or 1 for stored.

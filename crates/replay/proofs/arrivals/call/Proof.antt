@@ -14,16 +14,16 @@ returns c = search needs
 bytes-requires : tie.Need-bytes-requires
 bytes-requires c κs = search needs
 
-slice-relend-prefix-made : tie.Need-slice-relend-prefix-made
-slice-relend-prefix-made c = search needs
+slice-relend-prefix-arrive : tie.Need-slice-relend-prefix-arrive
+slice-relend-prefix-arrive c = search needs
 
-slice-aggregate-made : tie.Need-slice-aggregate-made
-slice-aggregate-made c =
+slice-aggregate-arrive : tie.Need-slice-aggregate-arrive
+slice-aggregate-arrive c =
     let a = c .before .before .before .before .before .before .args in
     sym (length-take-le (a .bench .store) (a .store .now) (c .before .before .if1 .left))
 
-made-requires : tie.Need-made-requires
-made-requires c κs = search needs
+arrive-requires : tie.Need-arrive-requires
+arrive-requires c κs = search needs
 
 tell-requires : tie.Need-tell-requires
 tell-requires c κs = search needs
@@ -41,9 +41,9 @@ call-spec =
     cast-n
     returns
     bytes-requires
-    slice-relend-prefix-made
-    slice-aggregate-made
-    made-requires
+    slice-relend-prefix-arrive
+    slice-aggregate-arrive
+    arrive-requires
     tell-requires
     same-length
     returns-2)
