@@ -25,6 +25,7 @@ use Rattle.peer.specs.declared.defaults.Kept.{Kept}
 use Rattle.peer.specs.declared.record.Peer.{Peer}
 use Rattle.sending.specs.Calls.{sends}
 use Rattle.dispatch.specs.Calls.{dispatches}
+use Rattle.arriving.specs.declared.Arrival.{Arrival}
 use Rattle.unsequenced.specs.Calls.{arrivesUnsequenced}
 
 pub record Case : Type 0 where
@@ -41,7 +42,7 @@ rolled last variance value trip =
     let t : Throttle = record { value = value; limit = 32; acceleration = 2; deceleration = 2; last = last; variance = variance } in
     pos (valueAfter t trip) ∷ turnAfter t trip ∷ []
 
-abbrev settings : ℕ → Settings
+abbrev pub settings : ℕ → Settings
 settings mtu = record { mtu = mtu; packet = 33554432; waiting = 33554432; checksum = false }
 
 abbrev nobody : Kept
@@ -52,17 +53,19 @@ abbrev opened : ℕ → Peer
 opened mtu = setsState (settings mtu) connected (begins (settings mtu) mtu 1 (freshPeer mtu nobody) .after) .after
 
 -- such a peer with a base and words; its store has any bytes, the datagram none
-abbrev at : ℕ → List ℕ → List ℕ → State
+abbrev pub at : ℕ → List ℕ → List ℕ → State
 at base words store =
     let p = opened 576 in record { peer = withGroups p (withWindow (p .groups) (record { 0 = base }) words); store = store }
 
 -- an unsequenced packet of channel 0, without a payload
-abbrev arrives : State → ℕ → Outcome State
-arrives x g =
-    arrivesUnsequenced (settings 576) (record { byte = 73; channel = 0; number = record { 0 = 0 }; length = 0; place = 0 }) (record { 0 = g }) [] x
+abbrev pub arrival : Arrival
+arrival = record { byte = 73; channel = 0; number = record { 0 = 0 }; length = 0; place = 0 }
+
+abbrev pub arrives : State → ℕ → Outcome State
+arrives x g = arrivesUnsequenced (settings 576) arrival (record { 0 = g }) [] x
 
 -- 0 and which: passed over 0, stored 1; then the base, and the slots in dispatched
-abbrev landed : Outcome State → List ℤ
+abbrev pub landed : Outcome State → List ℤ
 landed o =
     pos (o .answer .number)
     ∷ map pos (o .answer .values ++ (o .after .peer .groups .incoming .0 ∷ inItems (o .after .peer .lists .dispatched)))
