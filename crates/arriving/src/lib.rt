@@ -1,7 +1,8 @@
 // What both arrivals share, and the unsequenced window on the record's groups.
 ghost use mathlib.Core.Path.{_≡_};
 ghost use Rattle.parts.specs.Updates.{withWindow};
-ghost use Rattle.arriving.specs.Arrivals.{isReceiving, isWhole, arrivalGate, roomFor, replyOf};
+ghost use Rattle.storing.specs.Storing.{awaiting, filled};
+ghost use Rattle.arriving.specs.Arrivals.{isReceiving, isWhole, arrivalGate, roomFor, replyOf, arrivedSlot};
 ghost use Rattle.arriving.specs.Window.{takenAt, judged};
 use numbers::consts::UNSEQUENCED_WORDS;
 use numbers::counters::Group;
@@ -9,7 +10,9 @@ use numbers::counters::Reliable;
 use numbers::refusals::Refusal;
 use parts::groups::CELL;
 use parts::groups::Groups;
+use parts::groups::Incoming;
 use parts::groups::Standing;
+use parts::groups::Waiting;
 use peer::gate::Gate;
 use peer::record::Peer;
 use peer::settings::Settings;
@@ -48,6 +51,12 @@ pub enum Fate {
 pub struct Judged {
     pub groups: Groups,
     pub fate: Fate,
+}
+
+// What a stored packet leaves beside the lists: its slot, and the waiting total with its length.
+pub struct Stored {
+    pub slot: Incoming,
+    pub waiting: Waiting,
 }
 
 fn is_receiving(channel: u8, standing: Standing) -> bool
@@ -109,6 +118,25 @@ pub fn room(settings: Settings, state: u32, total: u32, free: Free) -> Fate
     match free {
         Free::Lowest(s) => Fate::Stored(s),
         Free::Full => Fate::NoRoom,
+    }
+}
+
+// "Stored": the payload into the cell of slot s, the slot, its length awaited.
+pub fn keep(
+    store: &mut [u8],
+    s: u16,
+    datagram: &[u8],
+    a: Arrival,
+    waiting: Waiting,
+) -> Stored
+    ensures { λ r. ⌜ r .slot ≡ arrivedSlot a ⌝ }
+    ensures { λ r. ⌜ r .waiting ≡ awaiting waiting (a .length) ⌝ }
+    ensures { λ r. ⌜ now (store .exit) ≡ filled (now (store .entry)) s (now (datagram .entry)) (a .place) (a .length) ⌝ }
+{
+    storing::fill(store, s, datagram, a.place, a.length);
+    Stored {
+        slot: storing::slot(a.byte, a.channel, a.number, a.length),
+        waiting: storing::await_more(waiting, a.length),
     }
 }
 

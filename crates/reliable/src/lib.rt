@@ -78,16 +78,16 @@ pub fn arrive(
             reply: arriving::reply_of(fate),
         };
     };
-    storing::fill(store, s, datagram, a.place, a.length);
+    let kept = arriving::keep(store, s, datagram, a, p.waiting);
+    let slot = kept.slot;
+    let waiting = kept.waiting;
     let longer = holding::hold(incoming, own, a.number, s);
-    let slot = storing::slot(a.byte, a.channel, a.number, a.length);
     p.incoming[s as usize] = slot;
     let slots = p.incoming;
     let went = dispatching::dispatch(slots, longer, lists, p.groups);
     let c = went.channel;
     let l = went.lists;
     let g = went.groups;
-    let waiting = storing::await_more(p.waiting, a.length);
     p.channels[i] = c;
     p.lists = l;
     p.groups = g;

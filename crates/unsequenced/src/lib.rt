@@ -70,10 +70,10 @@ pub fn arrive(
             reply: arriving::reply_of(fate),
         };
     };
-    storing::fill(store, s, datagram, a.place, a.length);
-    let slot = storing::slot(a.byte, a.channel, a.number, a.length);
+    let kept = arriving::keep(store, s, datagram, a, p.waiting);
+    let slot = kept.slot;
+    let waiting = kept.waiting;
     let joined = storing::join(lists, s);
-    let waiting = storing::await_more(p.waiting, a.length);
     p.incoming[s as usize] = slot;
     p.lists = joined;
     p.waiting = waiting;

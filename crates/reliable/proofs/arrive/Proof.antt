@@ -117,14 +117,11 @@ returns-3 c =
     _ same (j .before .is-passed .result) (j .before .is-passed .ensures) (j .judge .result) (j .judge .ensures)
     (c .before .match3 .keys2) (c .reply-of .result) (c .reply-of .ensures)
 
-fill-requires : tie.Need-fill-requires
-fill-requires c κs = search needs
+keep-requires : tie.Need-keep-requires
+keep-requires c κs = search needs
 
 hold-requires : tie.Need-hold-requires
 hold-requires c κs = search needs
-
-slot-requires : tie.Need-slot-requires
-slot-requires c κs = search needs
 
 cast-slot : tie.Need-cast-slot
 cast-slot c = search needs
@@ -134,7 +131,7 @@ mul-slot c = search needs
 
 element-set-from-slot : tie.Need-element-set-from-slot
 element-set-from-slot c =
-    let n = c .before .before .before .before .before .before .before in
+    let n = c .before .before .before .before .before .before .before .before .before in
     let j = n .before .before in
     let own = j .before .before in
     let r = own .before .before in
@@ -160,9 +157,6 @@ element-set-from-slot c =
 
 dispatch-requires : tie.Need-dispatch-requires
 dispatch-requires c κs = search needs
-
-await-more-requires : tie.Need-await-more-requires
-await-more-requires c κs = search needs
 
 mul-c : tie.Need-mul-c
 mul-c c =
@@ -205,10 +199,10 @@ same-length c = search needs
 
 returns-4 : tie.Need-returns-4
 returns-4 c =
-    let d = c .before .before .before .before .before in
+    let d = c .before .before .before in
     let i = d .before .before .before in
-    let f = i .before .before .before .before in
-    let n = f .before .before .before in
+    let k = i .before .before .before .before .before in
+    let n = k .before .before .before .before in
     let j = n .before .before in
     let own = j .before .before in
     let r = own .before .before in
@@ -230,8 +224,8 @@ returns-4 c =
     (g .pass .result) (g .pass .ensures) (o .enum-told .given .1) (m .may-arrive .result) (m .may-arrive .ensures)
     (x .enum-told2 .given .1) (r .before .free-slot .result) (r .before .free-slot .ensures) (r .room .result) (r .room .ensures)
     _ same (j .before .is-passed .result) (j .before .is-passed .ensures) (j .judge .result) (j .judge .ensures)
-    (n .fate .given .0 .0) (n .fate .given .1) (i .before .hold .result) (i .slot .result) (d .dispatch .result) (c .await-more .result) _
-    (i .before .hold .ensures) (i .slot .ensures) (d .dispatch .ensures) (c .await-more .ensures) (f .fill .ensures)
+    (n .fate .given .0 .0) (n .fate .given .1) (i .hold .result) (k .keep .result .slot) (d .dispatch .result) (k .keep .result .waiting) _
+    (i .hold .ensures) (k .keep .ensures .0) (d .dispatch .ensures) (k .keep .ensures .1 .0) (k .keep .ensures .1 .1)
 
 pub arrive-spec : {M : Type 1} → statement M
 arrive-spec =
@@ -256,14 +250,12 @@ arrive-spec =
     enum-known-fate
     reply-of-requires
     returns-3
-    fill-requires
+    keep-requires
     hold-requires
-    slot-requires
     cast-slot
     mul-slot
     element-set-from-slot
     dispatch-requires
-    await-more-requires
     mul-c
     element-set-from-c
     same-length

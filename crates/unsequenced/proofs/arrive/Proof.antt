@@ -76,17 +76,11 @@ returns-3 c =
     (j .judge .result) (j .judge .ensures)
     (c .before .match3 .keys2) (c .reply-of .result) (c .reply-of .ensures)
 
-fill-requires : tie.Need-fill-requires
-fill-requires c κs = search needs
-
-slot-requires : tie.Need-slot-requires
-slot-requires c κs = search needs
+keep-requires : tie.Need-keep-requires
+keep-requires c κs = search needs
 
 join-requires : tie.Need-join-requires
 join-requires c κs = search needs
-
-await-more-requires : tie.Need-await-more-requires
-await-more-requires c κs = search needs
 
 cast-slot : tie.Need-cast-slot
 cast-slot c = search needs
@@ -116,9 +110,8 @@ same-length c = search needs
 
 returns-4 : tie.Need-returns-4
 returns-4 c =
-    let l = c .before .before in
-    let f = l .before .before .before .before in
-    let n = f .before .before .before in
+    let k = c .before .before .before .before .before in
+    let n = k .before .before .before .before in
     let j = n .before .before .before in
     let r = j .before .before in
     let x = r .before .before in
@@ -131,8 +124,8 @@ returns-4 c =
     (g .pass .result) (g .pass .ensures) (o .enum-told .given .1) (m .may-arrive .result) (m .may-arrive .ensures)
     (x .enum-told2 .given .1) (r .before .free-slot .result) (r .before .free-slot .ensures) (r .room .result) (r .room .ensures)
     (j .judge .result) (j .judge .ensures)
-    (n .fate .given .0 .0) (n .fate .given .1) (l .before .slot .result) (l .join .result) (c .await-more .result) _
-    (l .before .slot .ensures) (l .join .ensures) (c .await-more .ensures) (f .fill .ensures)
+    (n .fate .given .0 .0) (n .fate .given .1) (k .keep .result .slot) (c .join .result) (k .keep .result .waiting) _
+    (k .keep .ensures .0) (c .join .ensures) (k .keep .ensures .1 .0) (k .keep .ensures .1 .1)
 
 pub arrive-spec : {M : Type 1} → statement M
 arrive-spec =
@@ -153,10 +146,8 @@ arrive-spec =
     enum-known-fate
     reply-of-requires
     returns-3
-    fill-requires
-    slot-requires
+    keep-requires
     join-requires
-    await-more-requires
     cast-slot
     mul-slot
     element-set-from-slot
