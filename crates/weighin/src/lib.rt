@@ -150,22 +150,3 @@ fn received_number(reply: receive::Reply) -> u32
         receive::Reply::Refused(why) => why.number(),
     }
 }
-
-// Three in a row: so each has two callers and a frame of its own.
-#[no_mangle]
-pub extern "C" fn weigh_row(store: &mut [u8], datagram: &[u8], length: u32) -> u32 {
-    let peer = made(5, 1);
-    let a = Arrival {
-        byte: RELIABLE,
-        channel: 0,
-        number: Reliable(1),
-        length,
-        place: 0,
-    };
-    let arrived = reliable::arrive(peer, SETTINGS, store, datagram, a);
-    let one = arrived.peer;
-    let called = dispatch::dispatch(one, SETTINGS, 0);
-    let two = called.peer;
-    let received = receive::receive(two, SETTINGS);
-    weighed_received(received)
-}
