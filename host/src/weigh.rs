@@ -1,8 +1,10 @@
-//! The calls on a peer's record: the deepest stack of each by a painted stack, and the time, beside the source's send.
+//! The calls on a peer's record: the deepest stack of each by a painted stack, and the time, beside the source's own.
 
 #![no_main] // the ordinary runtime may crash at exit under the emulator
 
+mod arrivals;
 mod clock;
+mod lent;
 mod paint;
 mod record;
 mod sends;
@@ -14,6 +16,7 @@ extern "C" {
     fn weigh_ping(mtu: u32) -> u32;
     fn weigh_send(mtu: u32, length: u32, flags: u32) -> u32;
     fn weigh_step(length: u32, time: u32) -> u32;
+    fn weigh_dispatch(number: u16, length: u32) -> u32;
 }
 
 const MTU: u32 = 1_392;
@@ -25,40 +28,64 @@ const TIME: u32 = 1_000;
 const WHOLE: u32 = 100;
 const PIECES: u32 = 32 * 1_364;
 
+/// A group and a number that are taken, those that are passed over, and a number that has to wait.
+const GROUP: u16 = 0;
+const DISTANT: u16 = 32_768;
+const NEXT: u16 = 1;
+const LAST: u16 = 0;
+const LATER: u16 = 2;
+
 struct Weighed {
     name: &'static str,
     call: fn() -> u32,
     answer: u32,
     /// The export whose time is taken off: what stands in this one beside the call.
     less: usize,
-    /// The length of the source's send beside it.
-    beside: u32,
+    /// The source's call beside it.
+    beside: usize,
+}
+
+/// A call of the source: its time, and how many of its answers are wrong.
+struct Source {
+    name: &'static str,
+    timed: fn() -> (f64, u32),
 }
 
 const SOUND: usize = 0;
 const SEND: usize = 1;
 const SEND_PIECES: usize = 2;
+const UNSEQUENCED: usize = 10;
 
-const CALLS: [Weighed; 10] = [
+const CALLS: [Weighed; 17] = [
     weighed("sound", || unsafe { weigh_sound(CONNECTED) }, 1),
     weighed("send, 100 bytes", || unsafe { send(WHOLE) }, 0),
-    Weighed {
-        beside: PIECES,
-        ..weighed("send, 32 pieces", || unsafe { send(PIECES) }, 0)
-    },
-    Weighed {
-        less: SEND,
-        ..weighed("step, 1 waits", || unsafe { step(WHOLE) }, 1)
-    },
-    Weighed {
-        less: SEND_PIECES,
-        ..weighed("step, 32 wait", || unsafe { step(PIECES) }, 1)
-    },
+    weighed("send, 32 pieces", || unsafe { send(PIECES) }, 0).beside(1),
+    weighed("step, 1 waits", || unsafe { step(WHOLE) }, 1).less(SEND),
+    weighed("step, 32 wait", || unsafe { step(PIECES) }, 1).less(SEND_PIECES),
     weighed("ping", || unsafe { weigh_ping(MTU) }, 0),
     weighed("set state", || unsafe { weigh_state(MTU, CONNECTED) }, 0),
     weighed("reset", || unsafe { weigh_reset(MTU) }, 0),
     weighed("set state, 11", || unsafe { weigh_state(0, CONNECTED) }, 11),
     weighed("send, 11", || unsafe { weigh_send(0, WHOLE, RELIABLE) }, 11),
+    weighed("unsequenced arrival", || lent::unsequenced(GROUP), 1).beside(2),
+    weighed("unsequenced arrival, passed over", || lent::unsequenced(DISTANT), 0).beside(3),
+    weighed("reliable arrival", || lent::reliable(NEXT), 1).beside(4),
+    weighed("reliable arrival, passed over", || lent::reliable(LAST), 0).beside(5),
+    weighed("dispatch, 1 ready", || unsafe { weigh_dispatch(NEXT, WHOLE) }, 0).beside(6),
+    weighed("dispatch, 1 waits", || unsafe { weigh_dispatch(LATER, WHOLE) }, 0).beside(7),
+    weighed("receive", lent::receive, 1).less(UNSEQUENCED).beside(8),
+];
+
+const SOURCES: [Source; 9] = [
+    source("send, 100 bytes", || sends::source(WHOLE)),
+    source("send, 32 pieces", || sends::source(PIECES)),
+    source("unsequenced arrival", || arrivals::unsequenced(|turn| turn)),
+    source("unsequenced arrival, passed over", || arrivals::unsequenced(|_| DISTANT)),
+    source("reliable arrival", || arrivals::reliable(|turn| turn + NEXT)),
+    source("reliable arrival, passed over", || arrivals::reliable(|_| LAST)),
+    source("dispatch, 1 ready", || arrivals::dispatch(true)),
+    source("dispatch, 1 waits", || arrivals::dispatch(false)),
+    source("receive", arrivals::receive),
 ];
 
 const fn weighed(name: &'static str, call: fn() -> u32, answer: u32) -> Weighed {
@@ -67,8 +94,22 @@ const fn weighed(name: &'static str, call: fn() -> u32, answer: u32) -> Weighed 
         call,
         answer,
         less: SOUND,
-        beside: WHOLE,
+        beside: 0,
     }
+}
+
+impl Weighed {
+    const fn less(self, less: usize) -> Self {
+        Weighed { less, ..self }
+    }
+
+    const fn beside(self, beside: usize) -> Self {
+        Weighed { beside, ..self }
+    }
+}
+
+const fn source(name: &'static str, timed: fn() -> (f64, u32)) -> Source {
+    Source { name, timed }
 }
 
 unsafe fn send(length: u32) -> u32 {
@@ -92,18 +133,18 @@ pub extern "C" fn main(_count: i32, _words: *const *const std::ffi::c_char) -> i
         wrong += u32::from(answer != weighed.answer);
         println!("{}: deepest stack {stack} bytes", weighed.name);
     }
-    let sources = [WHOLE, PIECES].map(|length| (length, sends::source(length)));
-    for (length, (time, refused)) in sources {
-        wrong += refused;
-        println!("source's send, {length} bytes: {time:.0} ns a call");
-    }
+    let sources = SOURCES.each_ref().map(|source| {
+        let (time, bad) = (source.timed)();
+        wrong += bad;
+        println!("source's {}: {time:.0} ns a call", source.name);
+        time
+    });
     let times = CALLS.each_ref().map(|weighed| repeated(weighed.call));
     for (weighed, time) in CALLS.iter().zip(times) {
         let own = time - times[weighed.less];
-        let beside = sources.iter().find(|(length, _)| *length == weighed.beside);
-        let ratio = beside.map_or(0.0, |(_, (source, _))| own / source);
+        let (beside, ratio) = (SOURCES[weighed.beside].name, own / sources[weighed.beside]);
         println!(
-            "{}: {time:.0} ns the export, {own:.0} the call, {ratio:.1} times the source's send",
+            "{}: {time:.0} ns the export, {own:.0} the call, {ratio:.1} times the source's {beside}",
             weighed.name
         );
     }

@@ -23,7 +23,7 @@ use sendstep::heads::Queue;
 
 const MTU: u32 = 1392;
 
-const SETTINGS: Settings = Settings {
+pub const SETTINGS: Settings = Settings {
     mtu: MTU,
     packet: 33554432,
     waiting: 33554432,
@@ -107,7 +107,7 @@ pub extern "C" fn weigh_step(length: u32, time: u32) -> u32
 }
 
 // The reply's number; the record is asked too, or the compiler would leave it unmade.
-fn weighed(called: Called) -> u32
+pub fn weighed(called: Called) -> u32
     ensures { λ r. ⌜ r ≡ pick (sound (called .peer)) (answerOf (called .reply) .number) 99 ⌝ }
 {
     let peer = called.peer;
@@ -150,7 +150,7 @@ fn step_number(reply: calls::Reply) -> u32
 }
 
 // The reset record in that state and with so many channels.
-fn made(state: u32, count: u32) -> Peer
+pub fn made(state: u32, count: u32) -> Peer
     ensures { λ r. ⌜ r ≡ madePeer state count ⌝ }
 {
     let mut p = Peer::fresh(MTU, NOTHING);

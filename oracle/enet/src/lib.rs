@@ -16,6 +16,7 @@ pub use door::{
     command::{limits, size, write, Read},
     pack::Packed,
     receive::Received,
+    receiver::{Datagram, Receiver, Taken},
     send::{Limits, Packet},
     throttle::Throttle,
     timed::{Made, Sender},

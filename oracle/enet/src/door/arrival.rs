@@ -40,7 +40,7 @@ pub struct Arrived {
     pub bytes: Vec<u8>,
 }
 
-type Handler = unsafe fn(
+pub(crate) type Handler = unsafe fn(
     *mut ENetHost<Silent>,
     *mut ENetPeer<Silent>,
     *const ENetProtocol,
@@ -100,14 +100,14 @@ impl Bench {
 }
 
 /// The bytes of the command as a handler gets it: the source's loop has swapped the number before.
-fn command(arrival: &Arrival) -> Vec<u8> {
+pub(crate) fn command(arrival: &Arrival) -> Vec<u8> {
     let kind = arrival.byte & ENET_PROTOCOL_COMMAND_MASK as u8;
     let (group, length) = (arrival.group.into(), arrival.length.into());
     let fields = if kind == UNSEQUENCED { vec![group, length] } else { vec![length] };
     write(arrival.byte, arrival.channel, arrival.number.to_be(), kind, &fields)
 }
 
-fn handler(arrival: &Arrival) -> Handler {
+pub(crate) fn handler(arrival: &Arrival) -> Handler {
     match arrival.byte & ENET_PROTOCOL_COMMAND_MASK as u8 {
         UNSEQUENCED => opened::handle_send_unsequenced,
         _ => opened::handle_send_reliable,

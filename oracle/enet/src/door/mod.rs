@@ -13,6 +13,7 @@ mod numbers;
 pub(crate) mod pack;
 mod ping;
 pub(crate) mod receive;
+pub(crate) mod receiver;
 mod reset;
 pub(crate) mod send;
 mod setup;
