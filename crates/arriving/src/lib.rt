@@ -122,13 +122,7 @@ pub fn room(settings: Settings, state: u32, total: u32, free: Free) -> Fate
 }
 
 // "Stored": the payload into the cell of slot s, the slot, its length awaited.
-pub fn keep(
-    store: &mut [u8],
-    s: u16,
-    datagram: &[u8],
-    a: Arrival,
-    waiting: Waiting,
-) -> Stored
+pub fn keep(store: &mut [u8], s: u16, datagram: &[u8], a: Arrival, waiting: Waiting) -> Stored
     ensures { λ r. ⌜ r .slot ≡ arrivedSlot a ⌝ }
     ensures { λ r. ⌜ r .waiting ≡ awaiting waiting (a .length) ⌝ }
     ensures { λ r. ⌜ now (store .exit) ≡ filled (now (store .entry)) s (now (datagram .entry)) (a .place) (a .length) ⌝ }

@@ -8,7 +8,7 @@ use Rattle.numbers.specs.Answers.{Answer, done}
 use Rattle.numbers.specs.declared.clock.Trip.{Trip}
 use Rattle.numbers.specs.declared.clock.Trip.the-variants.{PassedOver, Taken}
 
--- "The distance of two times is a − b modulo 2^32; if that is 86,400,000 or more, b − a modulo 2^32."
+-- "The distance of two times is a - b modulo 2^32; if that is 86,400,000 or more, b - a modulo 2^32."
 abbrev pub apart : ℕ → ℕ → ℕ
 apart a b = pick (leb 86400000 (minus 32 a b)) (minus 32 b a) (minus 32 a b)
 

@@ -8,6 +8,6 @@ use Rattle.numbers.specs.Modulo.{sum}
 abbrev pub roundTripTimeout : ℕ → ℕ → ℕ
 roundTripTimeout trip variance = sum 32 trip (4 * variance)
 
--- "2^(attempts − 1) is exact": limit ≤ 2^(attempts − 1), both sides doubled, so that 0 attempts stand for one half
+-- "2^(attempts - 1) is exact": limit ≤ 2^(attempts − 1), both sides doubled, so that 0 attempts stand for one half
 abbrev pub reaches : ℕ → ℕ → Bool
 reaches attempts limit = leb (2 * limit) (2 ^ attempts)
