@@ -41,8 +41,6 @@ struct Weighed {
     answer: u32,
     /// The export whose time is taken off: what stands in this one beside the call.
     less: usize,
-    /// The source's call beside it.
-    beside: usize,
 }
 
 /// A call of the source: its time, and how many of its answers are wrong.
@@ -59,7 +57,7 @@ const UNSEQUENCED: usize = 10;
 const CALLS: [Weighed; 17] = [
     weighed("sound", || unsafe { weigh_sound(CONNECTED) }, 1),
     weighed("send, 100 bytes", || unsafe { send(WHOLE) }, 0),
-    weighed("send, 32 pieces", || unsafe { send(PIECES) }, 0).beside(1),
+    weighed("send, 32 pieces", || unsafe { send(PIECES) }, 0),
     weighed("step, 1 waits", || unsafe { step(WHOLE) }, 1).less(SEND),
     weighed("step, 32 wait", || unsafe { step(PIECES) }, 1).less(SEND_PIECES),
     weighed("ping", || unsafe { weigh_ping(MTU) }, 0),
@@ -67,22 +65,40 @@ const CALLS: [Weighed; 17] = [
     weighed("reset", || unsafe { weigh_reset(MTU) }, 0),
     weighed("set state, 11", || unsafe { weigh_state(0, CONNECTED) }, 11),
     weighed("send, 11", || unsafe { weigh_send(0, WHOLE, RELIABLE) }, 11),
-    weighed("unsequenced arrival", || lent::unsequenced(GROUP), 1).beside(2),
-    weighed("unsequenced arrival, passed over", || lent::unsequenced(DISTANT), 0).beside(3),
-    weighed("reliable arrival", || lent::reliable(NEXT), 1).beside(4),
-    weighed("reliable arrival, passed over", || lent::reliable(LAST), 0).beside(5),
-    weighed("dispatch, 1 ready", || unsafe { weigh_dispatch(NEXT, WHOLE) }, 0).beside(6),
-    weighed("dispatch, 1 waits", || unsafe { weigh_dispatch(LATER, WHOLE) }, 0).beside(7),
-    weighed("receive", lent::receive, 1).less(UNSEQUENCED).beside(8),
+    weighed("unsequenced arrival", || lent::unsequenced(GROUP), 1),
+    weighed(
+        "unsequenced arrival, passed over",
+        || lent::unsequenced(DISTANT),
+        0,
+    ),
+    weighed("reliable arrival", || lent::reliable(NEXT), 1),
+    weighed("reliable arrival, passed over", || lent::reliable(LAST), 0),
+    weighed(
+        "dispatch, 1 ready",
+        || unsafe { weigh_dispatch(NEXT, WHOLE) },
+        0,
+    ),
+    weighed(
+        "dispatch, 1 waits",
+        || unsafe { weigh_dispatch(LATER, WHOLE) },
+        0,
+    ),
+    weighed("receive", lent::receive, 1).less(UNSEQUENCED),
 ];
 
 const SOURCES: [Source; 9] = [
     source("send, 100 bytes", || sends::source(WHOLE)),
     source("send, 32 pieces", || sends::source(PIECES)),
     source("unsequenced arrival", || arrivals::unsequenced(|turn| turn)),
-    source("unsequenced arrival, passed over", || arrivals::unsequenced(|_| DISTANT)),
-    source("reliable arrival", || arrivals::reliable(|turn| turn + NEXT)),
-    source("reliable arrival, passed over", || arrivals::reliable(|_| LAST)),
+    source("unsequenced arrival, passed over", || {
+        arrivals::unsequenced(|_| DISTANT)
+    }),
+    source("reliable arrival", || {
+        arrivals::reliable(|turn| turn + NEXT)
+    }),
+    source("reliable arrival, passed over", || {
+        arrivals::reliable(|_| LAST)
+    }),
     source("dispatch, 1 ready", || arrivals::dispatch(true)),
     source("dispatch, 1 waits", || arrivals::dispatch(false)),
     source("receive", arrivals::receive),
@@ -94,7 +110,6 @@ const fn weighed(name: &'static str, call: fn() -> u32, answer: u32) -> Weighed 
         call,
         answer,
         less: SOUND,
-        beside: 0,
     }
 }
 
@@ -103,8 +118,10 @@ impl Weighed {
         Weighed { less, ..self }
     }
 
-    const fn beside(self, beside: usize) -> Self {
-        Weighed { beside, ..self }
+    /// The place of the source's call of the same name; of its send, where it has none.
+    fn beside(&self) -> usize {
+        let named = |source: &Source| source.name == self.name;
+        SOURCES.iter().position(named).unwrap_or(0)
     }
 }
 
@@ -142,7 +159,8 @@ pub extern "C" fn main(_count: i32, _words: *const *const std::ffi::c_char) -> i
     let times = CALLS.each_ref().map(|weighed| repeated(weighed.call));
     for (weighed, time) in CALLS.iter().zip(times) {
         let own = time - times[weighed.less];
-        let (beside, ratio) = (SOURCES[weighed.beside].name, own / sources[weighed.beside]);
+        let beside = weighed.beside();
+        let (beside, ratio) = (SOURCES[beside].name, own / sources[beside]);
         println!(
             "{}: {time:.0} ns the export, {own:.0} the call, {ratio:.1} times the source's {beside}",
             weighed.name
