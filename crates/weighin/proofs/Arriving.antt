@@ -2,20 +2,15 @@
 use Prim.Native.Nat.{ℕ}
 use mathlib.Core.Path.{_≡_, ap, _∙_}
 use mathlib.Core.List.{List}
-use lib.ListN.{set}
 use Rattle.numbers.specs.Pick.{pick}
 use Rattle.peer.specs.Damage.{sound}
 use Rattle.peer.specs.Outcome.{State, Outcome, Came, onPeer}
-use Rattle.peer.specs.Updates.{withArrival}
 use Rattle.peer.specs.declared.record.Peer.{Peer}
-use Rattle.parts.specs.declared.groups.Waiting.{Waiting}
-use Rattle.parts.specs.declared.groups.Incoming.{Incoming}
-use Rattle.storing.specs.Storing.{incomingOf, awaiting}
 use Rattle.arriving.specs.Arrivals.{answerOf}
 use Rattle.arriving.specs.declared.Reply.{Reply}
 use Rattle.weigh.specs.Weighed.{told}
 use Rattle.weigh.proofs.Weighing.{weighs}
-use Rattle.weighin.specs.Weighed.{Weighs, holder, holding}
+use Rattle.weighin.specs.Weighed.{Weighs}
 
 abbrev pub beside : List ℕ → Peer → State
 beside store p = record { peer = p; store = store }
@@ -37,12 +32,3 @@ weighs-arrival call store p q reply left lent n came made weighed =
           (alone (call (beside store p)) reply left lent came) made weighed;
       lent = ap (λ (x : State). x .store) (came .after) ∙ ap (λ (x : Peer). call (beside store x) .after .store) made;
     }
-
--- a packet is held once its slot and the waiting total are those of an arrival
-pub holds :
-    (number length : ℕ) (p : Peer) (slot : Incoming) (waiting : Waiting)
-    → slot ≡ incomingOf 134 0 (record { 0 = number }) length → waiting ≡ awaiting (p .waiting) length
-    → withArrival p (p .lists) (p .groups) waiting (set (p .channels) 0 holder) (set (p .incoming) 0 slot) ≡ holding number length p
-holds number length p slot waiting is-slot is-waiting =
-    ap (λ (x : Incoming). withArrival p (p .lists) (p .groups) waiting (set (p .channels) 0 holder) (set (p .incoming) 0 x)) is-slot
-    ∙ ap (λ (w : Waiting). withArrival p (p .lists) (p .groups) w (set (p .channels) 0 holder) (set (p .incoming) 0 (incomingOf 134 0 (record { 0 = number }) length))) is-waiting

@@ -2,8 +2,8 @@
 use borrow.Author.Needs.{needs}
 use mathlib.Core.Path.{sym, _∙_}
 use borrow.Author.Tests.{not-true, not-false}
-use Rattle.weighin.proofs.weighed_received.Statement.{statement}
-use Rattle.weighin.proofs.weighed_received.Tie as tie
+use Rattle.weighout.proofs.weighed_received.Statement.{statement}
+use Rattle.weighout.proofs.weighed_received.Tie as tie
 
 is-sound-requires : tie.Need-is-sound-requires
 is-sound-requires c κs = search needs

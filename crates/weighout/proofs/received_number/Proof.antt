@@ -5,8 +5,8 @@ use mathlib.Core.Path.{ap, sym, _∙_}
 use Rattle.weigh.specs.Weighed.{told}
 use Rattle.receive.specs.Calls.{answerOf}
 use Rattle.receive.specs.declared.Reply.{Reply}
-use Rattle.weighin.proofs.received_number.Statement.{statement}
-use Rattle.weighin.proofs.received_number.Tie as tie
+use Rattle.weighout.proofs.received_number.Statement.{statement}
+use Rattle.weighout.proofs.received_number.Tie as tie
 
 enum-told : tie.Need-enum-told
 enum-told c = search needs

@@ -7,10 +7,10 @@ use Rattle.peer.specs.declared.record.Peer.{Peer}
 use Rattle.dispatch.specs.Calls.{dispatches}
 use Rattle.weigh.specs.Weighed.{settingsOf}
 use Rattle.weigh.proofs.Weighing.{weighs}
-use Rattle.weighin.specs.Weighed.{holding}
-use Rattle.weighin.proofs.Arriving.{holds}
-use Rattle.weighin.proofs.weigh_dispatch.Statement.{statement}
-use Rattle.weighin.proofs.weigh_dispatch.Tie as tie
+use Rattle.weighout.specs.Weighed.{holding}
+use Rattle.weighout.proofs.Holding.{holds}
+use Rattle.weighout.proofs.weigh_dispatch.Statement.{statement}
+use Rattle.weighout.proofs.weigh_dispatch.Tie as tie
 
 made-requires : tie.Need-made-requires
 made-requires c κs = search needs

@@ -7,10 +7,10 @@ use Rattle.unsequenced.specs.Calls.{arrivesUnsequenced}
 use Rattle.receive.specs.Calls.{answerOf, receives}
 use Rattle.weigh.specs.Weighed.{settingsOf, told}
 use Rattle.weigh.proofs.Weighing.{leaves, weighs}
 use Rattle.weighin.specs.Weighed.{unsequencedOf}
 use Rattle.weighin.proofs.Arriving.{alone, beside}
-use Rattle.weighin.proofs.weigh_receive.Statement.{statement}
-use Rattle.weighin.proofs.weigh_receive.Tie as tie
+use Rattle.weighout.proofs.weigh_receive.Statement.{statement}
+use Rattle.weighout.proofs.weigh_receive.Tie as tie
 
 made-requires : tie.Need-made-requires
 made-requires c κs = search needs
