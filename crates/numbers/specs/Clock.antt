@@ -23,11 +23,14 @@ completed clock sent =
 abbrev pub gap : ℕ → ℕ → ℕ
 gap clock sent = minus 32 clock (completed clock sent)
 
-abbrev pub sampled : ℕ → ℕ → Answer
-sampled clock sent =
-    pick (leb 86400000 (gap clock sent)) (done (0 ∷ [])) (done (1 ∷ pick (ltb (gap clock sent) 1) 1 (gap clock sent) ∷ []))
+abbrev pub tripOf : ℕ → ℕ → Trip
+tripOf clock sent =
+    pick (leb 86400000 (gap clock sent)) PassedOver (Taken (pick (ltb (gap clock sent) 1) 1 (gap clock sent)))
 
 -- 0 and which: passed over, or the sample
 abbrev pub answerOf : Trip → Answer
 answerOf PassedOver = done (0 ∷ [])
 answerOf (Taken s) = done (1 ∷ s ∷ [])
+
+abbrev pub sampled : ℕ → ℕ → Answer
+sampled clock sent = answerOf (tripOf clock sent)

@@ -12,6 +12,8 @@ use Rattle.parts.specs.declared.groups.Standing.{Standing}
 use Rattle.parts.specs.declared.groups.Totals.{Totals}
 use Rattle.parts.specs.declared.groups.Times.{Times}
 use Rattle.parts.specs.declared.groups.Loss.{Loss}
+use Rattle.parts.specs.declared.groups.Throttling.{Throttling}
+use Rattle.parts.specs.declared.groups.Trips.{Trips}
 use Rattle.parts.specs.declared.groups.Flow.{Flow}
 use Rattle.parts.specs.declared.groups.Lists.{Lists}
 use Rattle.parts.specs.declared.groups.Groups.{Groups}
@@ -37,8 +39,70 @@ withNextTimeout t x =
       «earliest_timeout» = t .«earliest_timeout»;
     }
 
+-- the next timeout, and the earliest
+abbrev pub withTimeouts : Times → ℕ → ℕ → Times
+withTimeouts t next earliest =
+    record { «last_send» = t .«last_send»; «last_receive» = t .«last_receive»; «next_timeout» = next; «earliest_timeout» = earliest }
+
+-- the last receive, and the earliest timeout
+abbrev pub withReceive : Times → ℕ → ℕ → Times
+withReceive t last earliest =
+    record { «last_send» = t .«last_send»; «last_receive» = last; «next_timeout» = t .«next_timeout»; «earliest_timeout» = earliest }
+
 abbrev pub withPacketsSent : Loss → ℕ → Loss
 withPacketsSent l x = record { epoch = l .epoch; sent = x; lost = l .lost; loss = l .loss; variance = l .variance }
+
+abbrev pub withPacketsLost : Loss → ℕ → Loss
+withPacketsLost l x = record { epoch = l .epoch; sent = l .sent; lost = x; loss = l .loss; variance = l .variance }
+
+-- the throttle's value, and the epoch of its interval
+abbrev pub withValue : Throttling → ℕ → Throttling
+withValue t x =
+    record {
+      value = x;
+      limit = t .limit;
+      counter = t .counter;
+      epoch = t .epoch;
+      acceleration = t .acceleration;
+      deceleration = t .deceleration;
+      interval = t .interval;
+    }
+
+abbrev pub withEpoch : Throttling → ℕ → Throttling
+withEpoch t x =
+    record {
+      value = t .value;
+      limit = t .limit;
+      counter = t .counter;
+      epoch = x;
+      acceleration = t .acceleration;
+      deceleration = t .deceleration;
+      interval = t .interval;
+    }
+
+-- the round trip and its variance
+abbrev pub withTrip : Trips → ℕ → ℕ → Trips
+withTrip t now variance =
+    record {
+      last = t .last;
+      lowest = t .lowest;
+      «last_variance» = t .«last_variance»;
+      «highest_variance» = t .«highest_variance»;
+      now = now;
+      variance = variance;
+    }
+
+-- the lowest round trip and the highest variance
+abbrev pub withExtremes : Trips → ℕ → ℕ → Trips
+withExtremes t lowest highest =
+    record {
+      last = t .last;
+      lowest = lowest;
+      «last_variance» = t .«last_variance»;
+      «highest_variance» = highest;
+      now = t .now;
+      variance = t .variance;
+    }
 
 abbrev pub withMtu : Flow → ℕ → Flow
 withMtu f x = record { mtu = x; window = f .window; transit = f .transit; reliable = f .reliable }
@@ -126,6 +190,9 @@ withAttempt o sent timeout attempts =
       packet = o .packet;
       command = o .command;
     }
+
+abbrev pub withTimeout : Outgoing → ℕ → Outgoing
+withTimeout o x = withAttempt o (o .sent) x (o .attempts)
 
 -- a list of the outgoing pool with a slot more at its end, and without its head
 abbrev pub longer : OutList → ℕ → OutList

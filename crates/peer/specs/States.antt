@@ -4,11 +4,23 @@ use mathlib.Core.Bool.{Bool}
 use lib.Dec.{eqb}
 use Rattle.parts.specs.declared.groups.Standing.{Standing}
 
+abbrev pub disconnected : ℕ
+disconnected = 0
+
+abbrev pub acknowledgingConnect : ℕ
+acknowledgingConnect = 2
+
 abbrev pub connected : ℕ
 connected = 5
 
 abbrev pub disconnectLater : ℕ
 disconnectLater = 6
+
+abbrev pub disconnecting : ℕ
+disconnecting = 7
+
+abbrev pub zombie : ℕ
+zombie = 9
 
 abbrev pub lastState : ℕ
 lastState = 9

@@ -1,9 +1,11 @@
--- The record with another group: what a call does not name stays as it is. A group that joins the record is added in `remade`.
+-- The record with another group: what a call does not name stays as it is. A group that joins the record is added in `rebuilt`.
 use mathlib.Core.List.{List}
 use Rattle.parts.specs.declared.groups.Standing.{Standing}
 use Rattle.parts.specs.declared.groups.Totals.{Totals}
 use Rattle.parts.specs.declared.groups.Times.{Times}
 use Rattle.parts.specs.declared.groups.Loss.{Loss}
+use Rattle.parts.specs.declared.groups.Throttling.{Throttling}
+use Rattle.parts.specs.declared.groups.Trips.{Trips}
 use Rattle.parts.specs.declared.groups.Flow.{Flow}
 use Rattle.parts.specs.declared.groups.Lists.{Lists}
 use Rattle.parts.specs.declared.groups.Groups.{Groups}
@@ -14,8 +16,8 @@ use Rattle.parts.specs.declared.groups.Incoming.{Incoming}
 use Rattle.peer.specs.declared.record.Peer.{Peer}
 
 -- all the groups that a call may change
-abbrev pub remade : Peer → Standing → Totals → Times → Loss → Flow → Lists → Groups → Waiting → List Channel → List Outgoing → List Incoming → Peer
-remade p standing totals times loss flow lists groups waiting channels outgoing incoming =
+abbrev pub rebuilt : Peer → Standing → Totals → Times → Loss → Throttling → Trips → Flow → Lists → Groups → Waiting → List Channel → List Outgoing → List Incoming → Peer
+rebuilt p standing totals times loss throttling trips flow lists groups waiting channels outgoing incoming =
     record {
       ids = p .ids;
       standing = standing;
@@ -23,9 +25,9 @@ remade p standing totals times loss flow lists groups waiting channels outgoing 
       totals = totals;
       times = times;
       loss = loss;
-      throttling = p .throttling;
+      throttling = throttling;
       limits = p .limits;
-      trips = p .trips;
+      trips = trips;
       flow = flow;
       lists = lists;
       groups = groups;
@@ -34,6 +36,11 @@ remade p standing totals times loss flow lists groups waiting channels outgoing 
       outgoing = outgoing;
       incoming = incoming;
     }
+
+-- all but those that only acknowledgement and throttle change
+abbrev pub remade : Peer → Standing → Totals → Times → Loss → Flow → Lists → Groups → Waiting → List Channel → List Outgoing → List Incoming → Peer
+remade p standing totals times loss flow lists groups waiting channels outgoing incoming =
+    rebuilt p standing totals times loss (p .throttling) (p .trips) flow lists groups waiting channels outgoing incoming
 
 -- all but the incoming slots
 abbrev pub renewed : Peer → Standing → Totals → Times → Loss → Flow → Lists → Groups → Waiting → List Channel → List Outgoing → Peer
@@ -75,3 +82,16 @@ withOutgoing p x = renewed p (p .standing) (p .totals) (p .times) (p .loss) (p .
 abbrev pub withArrival : Peer → Lists → Groups → Waiting → List Channel → List Incoming → Peer
 withArrival p lists groups waiting channels incoming =
     remade p (p .standing) (p .totals) (p .times) (p .loss) (p .flow) lists groups waiting channels (p .outgoing) incoming
+
+-- the groups that an acknowledgement may change
+abbrev pub withHeard : Peer → Times → Throttling → Trips → Flow → Lists → Peer
+withHeard p times throttling trips flow lists =
+    rebuilt p (p .standing) (p .totals) times (p .loss) throttling trips flow lists (p .groups) (p .waiting) (p .channels) (p .outgoing) (p .incoming)
+
+abbrev pub withThrottling : Peer → Throttling → Peer
+withThrottling p x = withHeard p (p .times) x (p .trips) (p .flow) (p .lists)
+
+-- and a timeout check
+abbrev pub withChecked : Peer → Times → Loss → Flow → Lists → List Outgoing → Peer
+withChecked p times loss flow lists outgoing =
+    renewed p (p .standing) (p .totals) times loss flow lists (p .groups) (p .waiting) (p .channels) outgoing

@@ -1,0 +1,59 @@
+-- "the interval roll (epoch 0, or the distance from it at or above the interval)" (issue 10; protocol.rs 1276–1297), and the throttle on the
+-- record's own numbers: a later sample rolls it before the averages.
+use Prim.Native.Nat.{ℕ}
+use mathlib.Core.Bool.{Bool, true}
+use lib.Dec.{eqb, ltb, leb}
+use Rattle.numbers.specs.Pick.{pick}
+use Rattle.numbers.specs.Clock.{apart}
+use Rattle.throttle.specs.Throttling.{valueAfter}
+use Rattle.throttle.specs.declared.Throttle.{Throttle}
+use Rattle.parts.specs.Updates.{withValue, withEpoch}
+use Rattle.parts.specs.declared.groups.Throttling.{Throttling}
+use Rattle.parts.specs.declared.groups.Trips.{Trips}
+use Rattle.averages.specs.Averages.{averaged}
+use Rattle.averages.specs.declared.Measured.{Measured}
+
+abbrev pub isOver : ℕ → Throttling → Bool
+isOver clock th = pick (eqb (th .epoch) 0) true (leb (th .interval) (apart clock (th .epoch)))
+
+-- the interval's lowest round trip and highest variance, at least 1, are the last; the next interval begins with what is now
+abbrev pub lastTrips : Trips → Trips
+lastTrips t =
+    record {
+      last = t .lowest;
+      lowest = t .now;
+      «last_variance» = pick (ltb 1 (t .«highest_variance»)) (t .«highest_variance») 1;
+      «highest_variance» = t .variance;
+      now = t .now;
+      variance = t .variance;
+    }
+
+abbrev pub rolled : ℕ → Throttling → Trips → Measured
+rolled clock th t =
+    pick (isOver clock th)
+    (record { throttling = withEpoch th clock; trips = lastTrips t })
+    (record { throttling = th; trips = t })
+
+-- the numbers that the throttle reads
+abbrev pub throttleOf : Throttling → Trips → Throttle
+throttleOf th t =
+    record {
+      value = th .value;
+      limit = th .limit;
+      acceleration = th .acceleration;
+      deceleration = th .deceleration;
+      last = t .last;
+      variance = t .«last_variance»;
+    }
+
+-- only its value changes
+abbrev pub throttled : ℕ → Throttling → Trips → Throttling
+throttled sample th t = withValue th (valueAfter (throttleOf th t) sample)
+
+-- a later sample rolls it first
+abbrev pub beforeAverages : Bool → ℕ → Throttling → Trips → Throttling
+beforeAverages isFirst sample th t = pick isFirst th (throttled sample th t)
+
+-- a sample: the throttle, then the averages, then the interval
+abbrev pub measured : Bool → ℕ → ℕ → Throttling → Trips → Measured
+measured isFirst sample clock th t = rolled clock (beforeAverages isFirst sample th t) (averaged isFirst sample t)

@@ -1,0 +1,2 @@
+pub mod Overdue
+pub mod Walking

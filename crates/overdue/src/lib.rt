@@ -1,0 +1,4 @@
+// What the timeout check makes of the sent commands, on the groups that it changes.
+pub mod lists;
+pub mod step;
+pub mod turn;

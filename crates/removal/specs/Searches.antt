@@ -1,0 +1,34 @@
+-- For functions inside the house alone: what both searches make of every slot, as one number each, so that no search takes the pool; and the index
+-- under which an owner reads a slot. Nothing here need be believed: proofs/Laws gives the rule back.
+use Prim.Native.Nat.{ℕ}
+use mathlib.Core.Bool.{Bool}
+use mathlib.Core.List.{List}
+use lib.Dec.{ltb}
+use lib.ListN.{getD}
+use Rattle.numbers.specs.Pick.{pick}
+use Rattle.runs.specs.Runs.{first}
+use Rattle.runs.specs.declared.First.{First}
+use Rattle.runs.specs.declared.First.the-variants.{Slot, Empty}
+use Rattle.slots.specs.Lists.{outgoing, outItems}
+use Rattle.parts.specs.declared.groups.Lists.{Lists}
+use Rattle.parts.specs.declared.groups.Outgoing.{Outgoing}
+use Rattle.removal.specs.Removal.{inSent, inQueue, listsWithout, slotAt, isSome}
+use Rattle.removal.specs.declared.Spot.{Spot}
+use Rattle.removal.specs.declared.Taken.{Taken}
+
+abbrev pub lookOf : Bool → ℕ → ℕ → Outgoing → ℕ
+lookOf sent number channel o = pick sent (inSent number channel o) (inQueue number channel o)
+
+abbrev pub at : List ℕ → ℕ → ℕ
+at looks s = getD looks s 0
+
+-- within the pool: 0 where there is no such slot
+abbrev pub indexOf : First → ℕ
+indexOf (Slot s) = pick (ltb s outgoing) s 0
+indexOf Empty = 0
+
+abbrev pub takenBy : Spot → Lists → Taken
+takenBy w l =
+    let left = listsWithout w l in
+    let head = first (outItems (left .sent)) in
+    record { lists = left; slot = indexOf (slotAt w l); head = indexOf head; removed = isSome (slotAt w l); left = isSome head }
