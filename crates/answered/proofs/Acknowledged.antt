@@ -1,11 +1,11 @@
 -- The acknowledgement, for all inputs, refused or not: it frees exactly one slot or none, and a sound record stays sound.
 -- The argument: it changes the lists by a removal alone; so no slot is named more often, and sent names none that it did not name before.
-use Prim.Native.Nat.{ℕ, _+_, _≤_, _<_}
-use mathlib.Core.Path.{_≡_, refl, ap, sym, _∙_, subst}
+use Prim.Native.Nat.{ℕ, _≤_}
+use mathlib.Core.Path.{_≡_, refl, ap}
 use mathlib.Core.Bool.{Bool, true, false}
 use mathlib.Core.List.{List}
 use native.Mathlib.Omega.{arith}
-use lib.Dec.{eqb, leb}
+use lib.Dec.{leb}
 use lib.ListN.{length, getD, length-take}
 use borrow.Author.Tests.{le-leb, leb-true}
 use Rattle.numbers.specs.Pick.{pick}
@@ -38,9 +38,9 @@ use Rattle.removal.specs.Removal.{spotOf, inSent, inQueue, cut, listsWithout, f
 use Rattle.removal.specs.declared.Spot.{Spot}
 use Rattle.removal.specs.declared.Spot.the-variants as spot
 use Rattle.acknowledge.specs.Calls.{heardIn, heardAt, acknowledgesBy, acknowledgesSound, acknowledges}
-use Rattle.answered.specs.Freeing.{Frees, Removes}
+use Rattle.answered.specs.Freeing.{Removes}
 use Rattle.answered.specs.Freeing as freeing
-use Rattle.answered.proofs.Removing.{Stands, spot-stands, Loses, Lost, same, loses, removal-loses, cut-items, loses-times, loses-free}
+use Rattle.answered.proofs.Removing.{Stands, spot-stands, Lost, same, loses, removal-loses, cut-items, loses-times, loses-free}
 
 -- ---- the spot that is found stands in the lists
 pub found-stands : (slots : List Outgoing) (number channel : ℕ) (l : Lists) → Stands l (spotOf slots number channel l)

@@ -1,18 +1,18 @@
 -- The timeout check, for all inputs, refused or not: it moves slots and frees none, and a sound record stays sound.
 -- The argument: each slot of sent bears one mark, and in a sound record the lists that get some have room; a slot keeps its command and attempts.
-use Prim.Native.Nat.{ℕ, _+_, _≤_, _<_}
+use Prim.Native.Nat.{ℕ, _+_, _≤_}
 use mathlib.Core.Path.{_≡_, refl, ap, sym, _∙_}
-use mathlib.Core.Bool.{Bool, true, false}
+use mathlib.Core.Bool.{Bool, true}
 use mathlib.Core.List.{List, [], _++_}
 use native.Mathlib.Omega.{arith}
 use lib.Dec.{leb, ltb}
 use lib.ListN.{length, getD, length-append, length-take}
 use borrow.Author.Tests.{le-leb, leb-true}
 use Rattle.numbers.specs.Pick.{pick}
-use Rattle.runs.specs.Runs.{has, prepended}
+use Rattle.runs.specs.Runs.{prepended}
 use Rattle.runs.proofs.Lengths.{prepended-fits}
 use Rattle.runs.proofs.Lowest.{free-and-named}
-use Rattle.slots.specs.Lists.{outgoing, outItems, outKeep}
+use Rattle.slots.specs.Lists.{outgoing, outItems}
 use Rattle.slots.specs.declared.outgoing.OutList.{OutList}
 use Rattle.slots.proofs.Keeps.{times, times-append, has-times}
 use Rattle.slots.proofs.Views.{out-items-keep}

@@ -1,16 +1,15 @@
 -- The walk's marks: each is one of three, so each slot of the list bears exactly one of them; and what the walk leaves in the slots.
 -- The argument: by cases on the step's tests, and by induction on the list that is walked.
-use Prim.Native.Nat.{ℕ, zero, suc, _+_, _≤_, _<_}
-use mathlib.Core.Path.{_≡_, refl, ap, sym, _∙_}
+use Prim.Native.Nat.{ℕ, zero, suc, _+_, _≤_}
+use mathlib.Core.Path.{_≡_, refl, ap, _∙_}
 use mathlib.Core.Bool.{Bool, true, false}
 use mathlib.Core.List.{List, [], _∷_}
 use native.Mathlib.Omega.{arith}
 use lib.Dec.{eqb, ltb}
 use lib.ListN.{length, getD, set, drop, length-set}
 use lib.Seq.{getD-drop, getD-set-same, getD-set-other, set-out}
-use borrow.Author.Tests.{eqb-true, eqb-false, eq-eqb, ne-eqb, ltb-true, ltb-false}
+use borrow.Author.Tests.{eqb-true, eqb-false, ltb-true, ltb-false}
 use Rattle.numbers.specs.Pick.{pick}
-use Rattle.numbers.specs.Modulo.{sum}
 use Rattle.slots.proofs.Keeps.{one, times}
 use Rattle.parts.specs.Fresh.{noOutgoing}
 use Rattle.parts.specs.Updates.{withTimeout}

@@ -1,6 +1,6 @@
 -- What a removal does to the lists: nothing, or one of them loses one place. So an acknowledgement frees exactly one slot or none.
 -- The argument: a search finds a place of its list, and a list without a place is what stands before it and what stands behind.
-use Prim.Native.Nat.{ℕ, _+_, _≤_, _<_}
+use Prim.Native.Nat.{ℕ, _+_, _<_}
 use mathlib.Core.Path.{_≡_, refl, ap, sym, _∙_}
 use mathlib.Core.Bool.{Bool, true, false}
 use mathlib.Core.List.{List, [], _∷_, _++_, append-assoc, append-nil}

@@ -1,13 +1,13 @@
 -- In transit is what the packets in sent carry, on every record that the calls reach from a reset.
 -- The argument: setting up fills a slot that no list names; a send step adds a slot to sent and its load to the number; an acknowledgement and a
 -- timeout check take both away again; no other call touches them.
-use Prim.Native.Nat.{ℕ, zero, suc, _+_, _-_, _≤_, _<_, _%_, _^_, min}
+use Prim.Native.Nat.{ℕ, zero, suc, _+_, _-_, _<_, _%_, _^_}
 use mathlib.Core.Path.{_≡_, refl, ap, sym, _∙_, subst}
 use mathlib.Core.Bool.{Bool, true, false}
 use mathlib.Core.List.{List, [], _∷_, _++_}
 use native.Mathlib.Omega.{arith}
 use lib.Dec.{leb, eqb}
-use lib.ListN.{length, getD, set, drop, replicate}
+use lib.ListN.{length, getD, set, replicate}
 use borrow.Author.Tests.{leb-true}
 use Rattle.numbers.specs.Pick.{pick}
 use Rattle.numbers.specs.Modulo.{sum, minus}
@@ -18,8 +18,6 @@ use Rattle.runs.specs.Runs.{has, first, without}
 use Rattle.runs.specs.Free.{lowest}
 use Rattle.runs.specs.declared.Free.{Free}
 use Rattle.runs.specs.declared.Free.the-variants.{Lowest, Full}
-use Rattle.runs.specs.declared.First.{First}
-use Rattle.runs.specs.declared.First.the-variants.{Slot, Empty}
 use Rattle.runs.proofs.Lowest.{lowest-free}
 use Rattle.slots.specs.Lists.{outgoing, outItems}
 use Rattle.slots.specs.declared.outgoing.OutList.{OutList}
@@ -54,7 +52,7 @@ use Rattle.stamps.specs.Pieces.{listsWith}
 use Rattle.stamps.specs.declared.pieces.Piece.{Piece}
 use Rattle.setup.specs.Queueing.{room, made, queuedIn, queuedAt, queued, queuedAll}
 use Rattle.setup.specs.Calls.{setupGate, setsUpSound, setsUp}
-use Rattle.packets.specs.Packets.{fragmentLength, whole, lengthAt, cutFrom, cutBy}
+use Rattle.packets.specs.Packets.{whole, lengthAt, cutFrom, cutBy}
 use Rattle.packets.specs.Packets as packets
 use Rattle.packets.specs.declared.Cut.{Cut}
 use Rattle.plans.specs.Refusals.{sendGate, queueGate}
@@ -66,9 +64,8 @@ use Rattle.sendstep.specs.Calls.{stepsFrom, stepsSound, steps}
 use Rattle.sendstep.specs.declared.heads.Queue.{Queue}
 use Rattle.sendstep.proofs.Freeing.{sentBy, sent-by, joined-items, without-sent}
 use Rattle.throttling.specs.Calls.{throttlesSound, throttles}
-use Rattle.removal.specs.Removal.{spotOf, slotAt, heldBy, flowWithout, listsWithout}
+use Rattle.removal.specs.Removal.{spotOf}
 use Rattle.removal.specs.declared.Spot.{Spot}
-use Rattle.removal.specs.declared.Spot.the-variants as spot
 use Rattle.acknowledge.specs.Calls.{heardIn, heardAt, acknowledgesBy, acknowledgesSound, acknowledges}
 use Rattle.overdue.specs.Overdue.{stays, toOutgoing, toReliable, isDue, earliestBy, isGivenUp, nextBy, keptIn, overIn, goesBack, staysIn, stepBy}
 use Rattle.overdue.specs.Walking.{sentOf, turnBy, startOf, walked, bearing}

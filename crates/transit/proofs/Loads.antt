@@ -1,7 +1,7 @@
 -- What a list of slots carries: sums over lists, and over slots that change without their load.
 -- The argument: by induction on the list; sums modulo 2^32 by arithmetic.
-use Prim.Native.Nat.{ℕ, _+_, _≤_, _<_, _%_, _^_}
-use mathlib.Core.Path.{_≡_, refl, ap, sym, _∙_}
+use Prim.Native.Nat.{ℕ, _+_, _<_, _%_, _^_}
+use mathlib.Core.Path.{_≡_, refl, ap}
 use mathlib.Core.Bool.{Bool, true, false}
 use mathlib.Core.List.{List, [], _∷_, _++_}
 use native.Mathlib.Numerals.{add-one}
