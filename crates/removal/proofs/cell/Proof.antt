@@ -1,8 +1,7 @@
 -- `cell` meets its contract: past the list's end there is nothing, and before it the items are the cells.
-use Prim.Native.Nat.{_<_}
-use mathlib.Core.Path.{_≡_, sym, _∙_}
+use mathlib.Core.Path.{sym}
 use native.Mathlib.Omega.{arith}
-use lib.ListN.{length, getD, List·getD-eq-default}
+use lib.ListN.{List·getD-eq-default}
 use lib.Seq.{getD-take}
 use borrow.Author.Needs.{needs}
 use Rattle.slots.specs.Lists.{outItems}
