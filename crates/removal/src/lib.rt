@@ -2,9 +2,8 @@
 ghost use mathlib.Core.Path.{_≡_};
 ghost use mathlib.Core.List.{map};
 ghost use lib.ListN.{getD};
-ghost use Rattle.runs.specs.Runs.{first};
 ghost use Rattle.slots.specs.Lists.{outItems};
-ghost use Rattle.removal.specs.Removal.{isThat, seek, spotBy, listsWithout, slotAt, flowWithout, isSome, timesWithout, commandAt};
+ghost use Rattle.removal.specs.Removal.{inSent, inQueue, seek, spotBy, listsWithout, slotAt, flowWithout, isSome, timesWithout, commandAt};
 ghost use Rattle.removal.specs.Searches.{lookOf, at, indexOf, takenBy};
 use numbers::counters::Reliable;
 use parts::groups::Flow;
@@ -41,33 +40,42 @@ const FOUND: u8 = 1;
 
 const ENDS: u8 = 2;
 
-fn is_that(slot: Outgoing, number: Reliable, channel: u8) -> bool
-    ensures { λ r. ⌜ r ≡ isThat (number .0) channel slot ⌝ }
+// Among those sent: this is the one, or it goes on.
+fn in_sent(slot: Outgoing, number: Reliable, channel: u8) -> u8
+    ensures { λ r. ⌜ r ≡ inSent (number .0) channel slot ⌝ }
 {
     let own = slot.reliable;
     let c = slot.command;
     if own.0 != number.0 {
-        return false;
+        return GOES_ON;
     }
-    c.channel == channel
+    if c.channel != channel {
+        return GOES_ON;
+    }
+    FOUND
+}
+
+// Among those queued: only an acknowledged one counts, and an unsent one ends the search.
+fn in_queue(slot: Outgoing, number: Reliable, channel: u8) -> u8
+    ensures { λ r. ⌜ r ≡ inQueue (number .0) channel slot ⌝ }
+{
+    let c = slot.command;
+    if !counting::is_acknowledged(c.byte) {
+        return GOES_ON;
+    }
+    if slot.attempts < 1 {
+        return ENDS;
+    }
+    in_sent(slot, number, channel)
 }
 
 fn look(slot: Outgoing, number: Reliable, channel: u8, sent: bool) -> u8
     ensures { λ r. ⌜ r ≡ lookOf sent (number .0) channel slot ⌝ }
 {
-    let c = slot.command;
-    if !sent {
-        if !counting::is_acknowledged(c.byte) {
-            return GOES_ON;
-        }
-        if slot.attempts < 1 {
-            return ENDS;
-        }
+    if sent {
+        return in_sent(slot, number, channel);
     }
-    if is_that(slot, number, channel) {
-        return FOUND;
-    }
-    GOES_ON
+    in_queue(slot, number, channel)
 }
 
 // Of every slot: so the pool is looked at in one small function, and the searches need no pool.

@@ -1,0 +1,13 @@
+-- `removed` meets its contract, by whether the command is the one wanted.
+use borrow.Author.Tests.{eq-eqb, ne-eqb}
+use Rattle.acknowledge.proofs.removed.Statement.{statement}
+use Rattle.acknowledge.proofs.removed.Tie as tie
+
+returns : tie.Need-returns
+returns c = rw (eq-eqb _ _ (c .if1 .taken))
+
+returns-2 : tie.Need-returns-2
+returns-2 c = rw (ne-eqb _ _ (c .if1 .left))
+
+pub removed-spec : {M : Type 1} → statement M
+removed-spec = tie.close (tie.spec returns returns-2)
