@@ -1,6 +1,6 @@
 -- The step by its cases; and the slots that bear a mark: one more slot, as its place's mark says, and what the loop that stores them makes.
 -- The argument: the tests pick the case; by induction on the slots.
-use Prim.Native.Nat.{ℕ, suc, _+_, _≤_, _<_}
+use Prim.Native.Nat.{ℕ, zero, suc, _+_, _≤_, _<_}
 use mathlib.Core.Path.{_≡_, refl, ap, sym, _∙_}
 use mathlib.Core.Bool.{Bool, true, false}
 use mathlib.Core.List.{List, [], _∷_, _++_}
@@ -18,8 +18,9 @@ use Rattle.slots.specs.Lists.{outgoing, outItems, outKeep}
 use Rattle.slots.specs.declared.outgoing.OutList.{OutList}
 use Rattle.slots.proofs.Views.{out-items-keep}
 use Rattle.parts.specs.declared.groups.Limits.{Limits}
-use Rattle.overdue.specs.Overdue.{isDue, keptIn, nextBy, dueBy, staysIn, stepBy}
-use Rattle.overdue.specs.Walking.{bearing, ahead}
+use Rattle.parts.specs.declared.groups.Lists.{Lists}
+use Rattle.overdue.specs.Overdue.{stays, toOutgoing, toReliable, isDue, keptIn, nextBy, dueBy, staysIn, stepBy}
+use Rattle.overdue.specs.Walking.{bearing, ahead, listsBy}
 use Rattle.overdue.specs.declared.step.Sent.{Sent}
 use Rattle.overdue.specs.declared.step.Walk.{Walk}
 use Rattle.overdue.specs.declared.step.After.{After}
@@ -115,3 +116,16 @@ pub ahead-made : (l sent : OutList) (xs : List ℕ) {run made : OutList} → run
     → made ≡ outKeep l (prepended outgoing (outItems run) (outItems l)) → made ≡ ahead l xs
 ahead-made l sent xs e m =
     m ∙ ap (λ (ys : List ℕ). outKeep l (prepended outgoing ys (outItems l))) (ap outItems e ∙ out-items-keep sent xs)
+
+-- marks past the slots do not matter
+bearing-within : (mark n : ℕ) (ms xs : List ℕ) → length xs ≤ n → bearing mark (take n ms) xs ≡ bearing mark ms xs
+unfolding bearing
+bearing-within mark n ms [] h = refl
+bearing-within mark zero ms (x ∷ xs) h = absurd (omega arith)
+bearing-within mark (suc n) [] (x ∷ xs) h = refl
+bearing-within mark (suc n) (m ∷ ms) (x ∷ xs) h = rw (bearing-within mark n ms xs (omega arith))
+
+pub lists-within : (n : ℕ) (ms : List ℕ) (l : Lists) → length (outItems (l .sent)) ≤ n → listsBy (take n ms) l ≡ listsBy ms l
+lists-within n ms l h =
+    let sent = outItems (l .sent) in
+    rw (bearing-within stays n ms sent h, bearing-within toReliable n ms sent h, bearing-within toOutgoing n ms sent h)
