@@ -24,7 +24,6 @@ use Rattle.peer.specs.Updates.{withHeard}
 use Rattle.peer.specs.declared.settings.Settings.{Settings}
 use Rattle.peer.specs.declared.record.Peer.{Peer}
 use Rattle.averages.specs.Interval.{measured}
-use Rattle.averages.specs.declared.Measured.{Measured}
 use Rattle.removal.specs.Removal.{spotOf, slotAt, heldBy, listsWithout, flowWithout, timesWithout, isSome, commandAt}
 use Rattle.removal.specs.declared.Spot.{Spot}
 use Rattle.acknowledge.specs.declared.Reply.{Reply}

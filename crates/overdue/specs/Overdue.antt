@@ -3,7 +3,7 @@
 -- 2^(attempts − 1) reaches the limit, exactly for every 16-bit attempts, and the distance reaches the minimum; else counted lost, its timeout doubled
 -- modulo 2^32, in transit less for a packet" (issue 10; document 01, "Timeouts"; protocol.rs 1765–1815).
 use Prim.Native.Nat.{ℕ}
-use mathlib.Core.Bool.{Bool, true, false, not}
+use mathlib.Core.Bool.{Bool, true, not}
 use lib.Dec.{eqb, leb}
 use Rattle.numbers.specs.Pick.{pick, both}
 use Rattle.numbers.specs.Modulo.{sum, minus}

@@ -1,7 +1,7 @@
 -- "Walk the sent list once, oldest first, by the source's tests. A timed-out command goes back before what stood in its list at entry; several keep
 -- their order."
 use Prim.Native.Nat.{ℕ}
-use mathlib.Core.Bool.{Bool, true, false}
+use mathlib.Core.Bool.{false}
 use mathlib.Core.List.{List, [], _∷_}
 use lib.Dec.{eqb}
 use lib.ListN.{getD, set, drop}

@@ -7,7 +7,7 @@ use lib.Dec.{eqb, ltb}
 use lib.ListN.{getD}
 use Rattle.numbers.specs.Pick.{pick, both}
 use Rattle.numbers.specs.Modulo.{sum, minus}
-use Rattle.runs.specs.Runs.{first, without}
+use Rattle.runs.specs.Runs.{without}
 use Rattle.runs.specs.declared.Found.{Found}
 use Rattle.runs.specs.declared.Found.the-variants.{At, Nowhere}
 use Rattle.runs.specs.declared.First.{First}

@@ -13,10 +13,11 @@ pub(crate) fn op(f: Frame, input: &[u8]) -> u32 {
     let op = f.op;
     let is_fit = match op {
         0 => (f.n3 < 2) & (f.n4 <= settings::STORE),
-        1..=4 | 13 | 15..=17 | 30 | 32 => true,
+        1..=4 | 9 | 13..=17 | 30 | 32 => true,
         5 | 12 => f.n0 < 256,
         6 => (f.n4 < 2) & (f.n6 < 65536),
         7 => f.n0 < 2,
+        8 => (f.n0 < 256) & (f.n1 < 65536) & (f.n2 < 65536),
         10 | 11 => is_arrival(f),
         20..=24 => sets::is_fit(f),
         31 => f.n4 <= commands::ROOM,

@@ -1,4 +1,5 @@
 // Reads a script of frames and writes one line for each, as SCRIPT.md says.
+mod answers;
 mod arrivals;
 mod calls;
 mod fits;
@@ -47,8 +48,11 @@ fn changed(f: Frame, input: &[u8], bench: Bench, peer: Peer, store: &mut [u8]) -
     match op {
         1..=6 | 12 => calls::call(f, input, settings, peer),
         7 => steps::call(f, settings, peer),
+        8 => answers::acknowledge(f, settings, peer),
+        9 => answers::check(f, settings, peer),
         10 | 11 => arrivals::call(f, input, bench, peer, store),
         13 => receives::call(settings, peer),
+        14 => answers::throttle(f, settings, peer),
         20 => setters::number(f.n0, f.n1, peer),
         21..=24 => setters::part(f, input, peer),
         _ => peer,

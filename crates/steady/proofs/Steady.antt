@@ -46,6 +46,11 @@ use Rattle.ping.specs.Calls.{pingPiece, pingGate, pingsSound, pings}
 use Rattle.sendstep.specs.Steps.{listOf, sentAs}
 use Rattle.sendstep.specs.Calls.{stepsFrom, stepsSound, steps}
 use Rattle.sendstep.specs.declared.heads.Queue.{Queue}
+use Rattle.throttling.specs.Calls.{throttles}
+use Rattle.acknowledge.specs.Calls.{acknowledges}
+use Rattle.timeouts.specs.Calls.{checks}
+use Rattle.answered.specs.Untouched.{Untouched}
+use Rattle.answered.proofs.Untouched.{acknowledge-untouched, check-untouched, throttle-untouched}
 use Rattle.dispatch.specs.Calls.{dispatches}
 use Rattle.dispatch.proofs.Moving.{dispatch-keeps}
 use Rattle.receive.specs.Calls.{receivesFrom, receivesSound, receives}
@@ -136,6 +141,25 @@ pub dispatch-steady : (s : Settings) (channel : ℕ) (p : Peer) → Steady p (di
 dispatch-steady s channel p =
     let k = dispatch-keeps channel p s in
     record { window = record { base = k .base; words = k .words }; total = ap (λ (w : Waiting). w .total) (k .waiting) }
+
+-- acknowledgement, throttle and timeout check leave the whole incoming side
+untouched-steady : (p q : Peer) → Untouched p q → Steady p q
+untouched-steady p q u =
+    record {
+      window = record { base = ap (λ (g : Groups). g .incoming) (u .groups); words = ap (λ (g : Groups). g .words) (u .groups) };
+      total = ap (λ (w : Waiting). w .total) (u .waiting);
+    }
+
+pub acknowledge-steady : (s : Settings) (channel number sent clock : ℕ) (p : Peer)
+    → Steady p (acknowledges s channel number sent clock p .after)
+acknowledge-steady s channel number sent clock p =
+    untouched-steady p (acknowledges s channel number sent clock p .after) (acknowledge-untouched s channel number sent clock p)
+
+pub check-steady : (s : Settings) (clock : ℕ) (p : Peer) → Steady p (checks s clock p .after)
+check-steady s clock p = untouched-steady p (checks s clock p .after) (check-untouched s clock p)
+
+pub throttle-steady : (s : Settings) (sample : ℕ) (p : Peer) → Steady p (throttles s sample p .after)
+throttle-steady s sample p = untouched-steady p (throttles s sample p .after) (throttle-untouched s sample p)
 
 pub receive-window : (s : Settings) (p : Peer) → SameWindow p (receives s p .after)
 receive-window s p =

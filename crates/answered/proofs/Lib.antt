@@ -1,0 +1,5 @@
+pub mod Removing
+pub mod Acknowledged
+pub mod Marking
+pub mod Checked
+pub mod Untouched

@@ -1,0 +1,3 @@
+pub mod Freeing
+pub mod Moving
+pub mod Untouched

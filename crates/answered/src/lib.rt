@@ -1,0 +1,1 @@
+// What acknowledgement, throttle and timeout check do: theorems alone.
