@@ -13,16 +13,18 @@ use Rattle.throttle.specs.declared.Throttle.{Throttle}
 use Rattle.slots.specs.Lists.{outItems, inItems}
 use Rattle.slots.specs.declared.incoming.InList.{InList}
 use Rattle.parts.specs.Fresh.{noOutgoing, noChannel}
-use Rattle.parts.specs.Updates.{withWindow, withHeld, withLast}
+use Rattle.parts.specs.Updates.{withWindow, withHeld, withLast, withValue}
+use Rattle.parts.specs.declared.groups.Trips.{Trips}
 use Rattle.parts.specs.declared.groups.Incoming.{Incoming}
 use Rattle.peer.specs.Fresh.{freshPeer}
 use Rattle.peer.specs.States.{connected}
 use Rattle.peer.specs.Outcome.{State, Outcome}
-use Rattle.peer.specs.Updates.{withGroups, withArrival}
+use Rattle.peer.specs.Updates.{withGroups, withArrival, withHeard}
 use Rattle.opening.specs.Calls.{begins, setsState}
 use Rattle.peer.specs.declared.settings.Settings.{Settings}
 use Rattle.peer.specs.declared.defaults.Kept.{Kept}
 use Rattle.peer.specs.declared.record.Peer.{Peer}
+use Rattle.throttling.specs.Calls.{throttles}
 use Rattle.sending.specs.Calls.{sends}
 use Rattle.dispatch.specs.Calls.{dispatches}
 use Rattle.arriving.specs.declared.Arrival.{Arrival}
@@ -51,6 +53,28 @@ nobody = record { «incoming_peer» = 0; «outgoing_session» = 0; «incoming_se
 -- a peer as after a reset, begun with one channel and connected
 abbrev opened : ℕ → Peer
 opened mtu = setsState (settings mtu) connected (begins (settings mtu) mtu 1 (freshPeer mtu nobody) .after) .after
+
+-- such a peer with a last round trip, its variance and a throttle value
+abbrev paced : ℕ → ℕ → ℕ → Peer
+paced last variance value =
+    let p = opened 576 in
+    let t = p .trips in
+    let trips : Trips = record {
+      last = last;
+      lowest = t .lowest;
+      «last_variance» = variance;
+      «highest_variance» = t .«highest_variance»;
+      now = t .now;
+      variance = t .variance;
+    } in
+    withHeard p (p .times) (withValue (p .throttling) value) trips (p .flow) (p .lists)
+
+-- the throttle as a call on such a peer: the reply's number and which turn, then the value
+abbrev turned : Outcome Peer → List ℤ
+turned o = pos (o .answer .number) ∷ map pos (o .answer .values ++ (o .after .throttling .value ∷ []))
+
+abbrev paces : ℕ → ℕ → ℕ → ℕ → List ℤ
+paces last variance value trip = turned (throttles (settings 576) trip (paced last variance value))
 
 -- such a peer with a base and words; its store has any bytes, the datagram none
 abbrev pub at : ℕ → List ℕ → List ℕ → State
@@ -110,6 +134,8 @@ cases words store =
     ∷ record { given = sample 65541 5; stated = pos 1 ∷ pos 1 ∷ [] }  -- P6
     ∷ record { given = rolled 100 10 32 121; stated = pos 30 ∷ negsuc 0 ∷ [] }  -- P7
     ∷ record { given = rolled 100 10 32 120; stated = pos 32 ∷ pos 0 ∷ [] }
+    ∷ record { given = paces 100 10 32 121; stated = pos 0 ∷ pos 2 ∷ pos 30 ∷ [] }  -- P7 on the record
+    ∷ record { given = paces 100 10 32 120; stated = pos 0 ∷ pos 0 ∷ pos 32 ∷ [] }
     ∷ record { given = queues 576 548; stated = pos 0 ∷ pos 548 ∷ [] }  -- P8
     ∷ record { given = queues 576 549; stated = pos 0 ∷ pos 548 ∷ pos 1 ∷ [] }
     ∷ record { given = moved (dispatches (settings 576) 0 (holding 65534 (came 65535 0) (came 0 3) (came 3 0))); stated = pos 0 ∷ pos 3 ∷ pos 0 ∷ pos 1 ∷ pos 2 ∷ [] }  -- P9

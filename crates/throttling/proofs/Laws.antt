@@ -1,0 +1,36 @@
+-- A turn whose answer is the rule's has the rule's reply. The argument: the answers tell the turns apart, so the turn is the one that the tests
+-- pick, and a function of what they pick is what they pick of the function's values.
+use Prim.Native.Nat.{ℕ}
+use mathlib.Core.Path.{_≡_, refl, ap, sym, _∙_}
+use mathlib.Core.Bool.{Bool, true, false}
+use lib.Dec.{ltb, leb}
+use Rattle.numbers.specs.Pick.{pick}
+use Rattle.numbers.specs.Modulo.{sum}
+use Rattle.throttle.specs.Throttling.{byTests, answerOf, answerAfter}
+use Rattle.throttle.specs.declared.Throttle.{Throttle}
+use Rattle.throttle.specs.declared.Turn.{Turn}
+use Rattle.throttle.specs.declared.Turn.the-variants as turn
+use Rattle.throttle.proofs.Settled.{turns-apart}
+use Rattle.throttling.specs.Calls.{replyOf}
+use Rattle.throttling.specs.declared.Reply.the-variants as vr
+
+module _ (t : Throttle) (sample : ℕ) where
+  tests-of : {A B : Type 0} (f : A → B) (steady quick slow between : A)
+      → f (byTests t sample steady quick slow between) ≡ byTests t sample (f steady) (f quick) (f slow) (f between)
+  tests-of f steady quick slow between =
+      go (leb (t .last) (t .variance)) (leb sample (t .last)) (ltb (sum 32 (t .last) (sum 32 (t .variance) (t .variance))) sample)
+    where
+      go : (a b c : Bool) → f (pick a steady (pick b quick (pick c slow between))) ≡ pick a (f steady) (pick b (f quick) (pick c (f slow) (f between)))
+      go true b c = refl
+      go false true c = refl
+      go false false true = refl
+      go false false false = refl
+
+  -- the turn that the tests pick
+  abbrev turned : Turn
+  turned = byTests t sample turn.Held turn.Raised turn.Lowered turn.Held
+
+  pub reply-of-turn : (u : Turn) → answerOf u ≡ answerAfter t sample → replyOf u ≡ byTests t sample vr.Held vr.Raised vr.Lowered vr.Held
+  reply-of-turn u e =
+      ap replyOf (turns-apart u turned (e ∙ sym (tests-of answerOf turn.Held turn.Raised turn.Lowered turn.Held)))
+      ∙ tests-of replyOf turn.Held turn.Raised turn.Lowered turn.Held
