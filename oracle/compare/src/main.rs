@@ -1,10 +1,12 @@
 //! Writes call scripts (SCRIPT.md) with the lines that the oracle gives for them, and compares line files.
 
+mod acknowledging;
 mod arriving;
 mod build;
 mod damage;
 mod frame;
 mod lines;
+mod mix;
 mod model;
 mod ops;
 mod output;
@@ -18,6 +20,7 @@ mod sending;
 use std::{env, fs, io, process::ExitCode};
 
 use arriving::taken;
+use mix::Mix;
 use output::Output;
 use sending::{rules, sets};
 
@@ -31,6 +34,9 @@ fn main() -> ExitCode {
         ["damage", script, lines] => write_damage(script, lines),
         ["sending", seed, count, script, lines] => write_sending(seed, count, script, lines),
         ["arriving", seed, count, script, lines] => write_arriving(seed, count, script, lines),
+        ["acknowledging", seed, count, script, lines] => {
+            write_acknowledging(seed, count, script, lines)
+        }
         ["every", set, script, lines] => write_every(set, script, lines),
         ["packing", seed, count] => pack(seed, count),
         ["reliable", seed, count] => queue(seed, count),
@@ -56,6 +62,7 @@ fn usage() -> String {
   compare damage SCRIPT_FILE LINES_FILE
   compare sending SEED COUNT SCRIPT_FILE LINES_FILE
   compare arriving SEED COUNT SCRIPT_FILE LINES_FILE
+  compare acknowledging SEED COUNT SCRIPT_FILE LINES_FILE
   compare every SET SCRIPT_FILE LINES_FILE
       SET: {}, {}
   compare packing SEED COUNT
@@ -86,7 +93,7 @@ fn write(
 
 fn write_records(seed: &str, count: &str, script: &str, lines: &str) -> Result<ExitCode, String> {
     let (seed, count) = (number(seed)?, number(count)?);
-    written(script, lines, |output| records::write(output, seed, count))
+    written(script, lines, |output| records::write(output, seed, count, Mix::All))
 }
 
 fn write_damage(script: &str, lines: &str) -> Result<ExitCode, String> {
@@ -95,12 +102,22 @@ fn write_damage(script: &str, lines: &str) -> Result<ExitCode, String> {
 
 fn write_sending(seed: &str, count: &str, script: &str, lines: &str) -> Result<ExitCode, String> {
     let (seed, count) = (number(seed)?, number(count)?);
-    written(script, lines, |output| sending::write(output, seed, count))
+    written(script, lines, |output| sending::write(output, seed, count, Mix::All))
 }
 
 fn write_arriving(seed: &str, count: &str, script: &str, lines: &str) -> Result<ExitCode, String> {
     let (seed, count) = (number(seed)?, number(count)?);
-    written(script, lines, |output| arriving::write(output, seed, count))
+    written(script, lines, |output| arriving::write(output, seed, count, Mix::All))
+}
+
+fn write_acknowledging(
+    seed: &str,
+    count: &str,
+    script: &str,
+    lines: &str,
+) -> Result<ExitCode, String> {
+    let (seed, count) = (number(seed)?, number(count)?);
+    written(script, lines, |output| acknowledging::write(output, seed, count))
 }
 
 fn write_every(set: &str, script: &str, lines: &str) -> Result<ExitCode, String> {
@@ -127,9 +144,9 @@ fn write_vectors(script: &str, lines: &str) -> Result<ExitCode, String> {
     let plan = script::Plan { seed: 1, count: 3_000, choice: script::Choice::named(None)? };
     written(script, lines, |output| {
         records::write_damage(output)?;
-        records::write(output, 3, 150)?;
+        records::write(output, 3, 150, Mix::Stored)?;
         rules::write(output)?;
-        sending::write(output, 5, 250)?;
+        sending::write(output, 5, 250, Mix::Stored)?;
         taken::write(output, 7, 250)?;
         plan.write_with(output, |output| arriving::write_arrivals(output, 9, 400))
     })
