@@ -64,7 +64,7 @@ fn usage() -> String {
   compare arriving SEED COUNT SCRIPT_FILE LINES_FILE
   compare acknowledging SEED COUNT SCRIPT_FILE LINES_FILE
   compare every SET SCRIPT_FILE LINES_FILE
-      SET: {}, {}
+      SET: {}, {}, {}
   compare packing SEED COUNT
   compare reliable SEED COUNT
   compare vectors SCRIPT_FILE LINES_FILE
@@ -72,7 +72,8 @@ fn usage() -> String {
         names.join(","),
         more.join(","),
         sets::NAMES.join(", "),
-        arriving::NAMES.join(", ")
+        arriving::NAMES.join(", "),
+        acknowledging::NAMES.join(", ")
     )
 }
 
@@ -122,6 +123,7 @@ fn write_acknowledging(
 
 fn write_every(set: &str, script: &str, lines: &str) -> Result<ExitCode, String> {
     let write = sets::named(set).or_else(|| arriving::named(set));
+    let write = write.or_else(|| acknowledging::named(set));
     let write = write.ok_or_else(|| format!("there is no set {set}\n{}", usage()))?;
     written(script, lines, write)
 }
@@ -139,7 +141,8 @@ fn queue(seed: &str, count: &str) -> Result<ExitCode, String> {
 }
 
 /// What the repository stores for replay: each kind of damage, random records, the rules of sending, some
-/// sequences of sending and of dispatch and receive, then every other op, then arrivals, and last a cut frame.
+/// sequences of sending and of dispatch and receive, then every other op, then arrivals, then acknowledgement, timeouts
+/// and throttle, and last a cut frame.
 fn write_vectors(script: &str, lines: &str) -> Result<ExitCode, String> {
     let plan = script::Plan { seed: 1, count: 3_000, choice: script::Choice::named(None)? };
     written(script, lines, |output| {
@@ -148,7 +151,10 @@ fn write_vectors(script: &str, lines: &str) -> Result<ExitCode, String> {
         rules::write(output)?;
         sending::write(output, 5, 250, Mix::Stored)?;
         taken::write(output, 7, 250)?;
-        plan.write_with(output, |output| arriving::write_arrivals(output, 9, 400))
+        plan.write_with(output, |output| {
+            arriving::write_arrivals(output, 9, 400)?;
+            acknowledging::write_stored(output, 11, 150)
+        })
     })
 }
 
