@@ -4,6 +4,7 @@ mod acknowledging;
 mod arriving;
 mod build;
 mod damage;
+mod events;
 mod frame;
 mod lines;
 mod mix;
@@ -40,6 +41,7 @@ fn main() -> ExitCode {
         ["every", set, script, lines] => write_every(set, script, lines),
         ["packing", seed, count] => pack(seed, count),
         ["reliable", seed, count] => queue(seed, count),
+        ["events", seed, count] => notify(seed, count),
         ["vectors", script, lines] => write_vectors(script, lines),
         ["lines", expected, got] => compare(expected, got),
         _ => Err(usage()),
@@ -67,6 +69,7 @@ fn usage() -> String {
       SET: {}, {}, {}
   compare packing SEED COUNT
   compare reliable SEED COUNT
+  compare events SEED COUNT
   compare vectors SCRIPT_FILE LINES_FILE
   compare lines EXPECTED GOT",
         names.join(","),
@@ -137,6 +140,12 @@ fn pack(seed: &str, count: &str) -> Result<ExitCode, String> {
 /// The source's reliable arrival beside document 01's.
 fn queue(seed: &str, count: &str) -> Result<ExitCode, String> {
     let same = queueing::compare(number(seed)?, number(count)?);
+    Ok(if same { ExitCode::SUCCESS } else { ExitCode::FAILURE })
+}
+
+/// What the source does when it notifies or disconnects, beside document 01's answers.
+fn notify(seed: &str, count: &str) -> Result<ExitCode, String> {
+    let same = events::compare(number(seed)?, number(count)?);
     Ok(if same { ExitCode::SUCCESS } else { ExitCode::FAILURE })
 }
 

@@ -83,7 +83,7 @@ fn line(model: &mut Model, frame: &Frame) -> String {
 }
 
 /// What came in, if every number fits.
-fn came(frame: &Frame) -> Option<Acknowledgement> {
+pub fn came(frame: &Frame) -> Option<Acknowledgement> {
     Some(Acknowledgement {
         channel: frame.number(0).try_into().ok()?,
         number: frame.number(1).try_into().ok()?,

@@ -46,7 +46,7 @@ fn line(model: &mut Model, frame: &Frame) -> String {
 }
 
 /// Whether a sound record's peer is given up, and the record after the check.
-fn check(bench: &mut Bench, record: &Record, clock: u32) -> (bool, Record) {
+pub fn check(bench: &mut Bench, record: &Record, clock: u32) -> (bool, Record) {
     let many = |slot: usize| record.outgoing_slots[slot].attempts > ATTEMPTS;
     if !record.sent.slots().any(many) {
         return bench.check_timeouts(record, clock);

@@ -47,13 +47,13 @@ impl Bench {
         record: &Record,
         came: Acknowledgement,
     ) -> (Acknowledged, Record) {
-        let (answer, after) = self.acknowledged(record, came);
+        let (answer, after) = self.acknowledge_whole(record, came);
         match answer {
             Acknowledged::Connect | Acknowledged::Disconnect | Acknowledged::DisconnectNow => {
                 // The handler asks for the state at its start, where 5 goes on like these, and then at its end
                 // alone, where 5 does nothing. So this is the record on which the notice came.
                 let (_, after) =
-                    self.acknowledged(&in_state(record, ENET_PEER_STATE_CONNECTED), came);
+                    self.acknowledge_whole(&in_state(record, ENET_PEER_STATE_CONNECTED), came);
                 (answer, in_state(&after, record.numbers[place::STATE]))
             }
             Acknowledged::PassedOver | Acknowledged::Done | Acknowledged::Refused => {
@@ -63,7 +63,11 @@ impl Bench {
     }
 
     /// The same with all that the source does when it notifies or disconnects.
-    fn acknowledged(&mut self, record: &Record, came: Acknowledgement) -> (Acknowledged, Record) {
+    pub fn acknowledge_whole(
+        &mut self,
+        record: &Record,
+        came: Acknowledgement,
+    ) -> (Acknowledged, Record) {
         let handle = |bench: &mut Bench, nodes: &mut Nodes| unsafe {
             (*bench.peer).earliest_timeout = MARK;
             let answer = bench.hand_in(came);
