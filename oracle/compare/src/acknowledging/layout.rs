@@ -14,6 +14,9 @@ pub const NUMBER: u16 = 500;
 /// The flag that asks for acknowledgement.
 const ACKNOWLEDGE: u8 = 128;
 
+/// Which list of a record is meant.
+type Which = fn(&mut Record) -> &mut List;
+
 /// The lists sent, outgoing and send-reliable. Asked for are `T`, `t` without flag 128 and `U` with 0 attempts; `c` has
 /// its number on another channel; of other numbers are `o`, `p` without flag 128 and attempts, `u` without attempts.
 pub type Layout = [&'static str; 3];
@@ -31,7 +34,7 @@ pub fn record(layout: &Layout, asked: Asked) -> Record {
     record.numbers[place::STATE] = CONNECTED;
     record.numbers[place::CHANNEL_COUNT] = 2;
     let [sent, outgoing, send_reliable] = layout;
-    let lists: [(&str, fn(&mut Record) -> &mut List); 3] = [
+    let lists: [(&str, Which); 3] = [
         (sent, |record| &mut record.sent),
         (outgoing, |record| &mut record.outgoing),
         (send_reliable, |record| &mut record.send_reliable),

@@ -84,16 +84,10 @@ pub fn drawn(model: &Model, random: &mut Random) -> Frame {
     }
 }
 
-/// That a script meets each of these replies, and is no longer than this.
+/// That these lines meet each of these replies, and are no more than this.
 #[cfg(test)]
-fn assert_met(
-    write: impl FnOnce(&mut Output<io::Sink, &mut Vec<u8>>) -> io::Result<()>,
-    replies: &[&str],
-    most: usize,
-) {
-    let mut lines = Vec::new();
-    write(&mut Output::new(io::sink(), &mut lines)).unwrap();
-    let met = crate::arriving::met(&lines);
+fn assert_met(lines: &[u8], replies: &[&str], most: usize) {
+    let met = crate::arriving::met(lines);
     for reply in replies {
         assert!(met.contains_key(*reply), "{reply}: {met:?}");
     }

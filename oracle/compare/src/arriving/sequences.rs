@@ -242,6 +242,7 @@ mod tests {
         let inside = lists().any(|(b, a)| {
             a.list.length > b.list.length && a.list.items().last() == b.list.items().last()
         });
+        let gone = after.sent.length < before.sent.length;
         let (ten, eleven) = (line.starts_with("10 "), line.starts_with("11 "));
         let (eight, over) = (line.contains(" 8 #"), line.contains(" 0 0 #"));
         [
@@ -257,6 +258,9 @@ mod tests {
             ("several dispatched", eleven && dispatched > 1),
             ("reliable 8 for want of slots", eleven && eight && full),
             ("reliable passed over in state 6", eleven && over && later),
+            ("acknowledged where it was sent", line.starts_with("8 0 ") && gone),
+            ("went back", line.starts_with("9 0 1 ") && gone),
+            ("given up", line.starts_with("9 0 3 ")),
         ]
         .into_iter()
         .filter(|(_, met)| *met)
@@ -265,7 +269,7 @@ mod tests {
     }
 
     #[test]
-    fn whatever_an_arrival_can_do_is_done() {
+    fn whatever_these_calls_can_do_is_done() {
         let (mut random, mut met) = (Random::new(1), BTreeMap::new());
         let mut output = Output::new(io::sink(), io::sink());
         for _ in 0..400 {
@@ -281,6 +285,6 @@ mod tests {
                 }
             }
         }
-        assert!(met.len() == 12 && met.values().all(|count| *count >= 20), "{met:?}");
+        assert!(met.len() == 15 && met.values().all(|count| *count >= 20), "{met:?}");
     }
 }

@@ -26,8 +26,11 @@ impl Bench {
         let quiet = in_state(record, ENET_PEER_STATE_CONNECTED);
         let check = |bench: &mut Bench| unsafe { bench.check(clock, null_mut()) != 0 };
         let (given_up, mut after) = unsafe { self.call(&quiet, |bench, _| check(bench)) };
-        for place in [place::STATE, place::FLAGS, place::EVENT_DATA] {
-            after.numbers[place] = record.numbers[place];
+        after.numbers[place::STATE] = record.numbers[place::STATE];
+        if given_up {
+            for place in [place::FLAGS, place::EVENT_DATA] {
+                after.numbers[place] = record.numbers[place];
+            }
         }
         (given_up, after)
     }
