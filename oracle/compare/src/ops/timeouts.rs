@@ -119,9 +119,9 @@ mod tests {
                 record.outgoing.insert(back[which], *slot);
             }
             back[which] += 1;
-            let next = entry.get(place + 1).copied();
-            if next.is_some() && next == record.sent.slots().next() {
-                let head = &record.outgoing_slots[next.unwrap()];
+            let head = record.sent.slots().next();
+            if let Some(head) = head.filter(|head| entry.get(place + 1) == Some(head)) {
+                let head = &record.outgoing_slots[head];
                 record.numbers[place::NEXT_TIMEOUT] = head.sent_time.wrapping_add(head.timeout);
             }
         }
