@@ -1,6 +1,6 @@
 //! The frames of ops 20 to 24 that make a record.
 
-use enet::record::{List, Record, INCOMING};
+use enet::record::{List, Outgoing, Record, INCOMING};
 
 use crate::frame::Frame;
 
@@ -28,6 +28,27 @@ pub fn frames(from: &Record, to: &Record) -> Vec<Frame> {
     }
     frames.extend(outgoing(from, to));
     frames.extend(incoming(from, to));
+    frames
+}
+
+/// The same where nothing lies between the two but numbers, outgoing lists and outgoing slots: of these what counts
+/// in both and is the same is left out.
+pub fn outgoing_frames(from: &Record, to: &Record) -> Vec<Frame> {
+    let mut frames = numbers(from, to);
+    let lists = [(&from.sent, &to.sent), (&from.send_reliable, &to.send_reliable)];
+    for (which, (old, new)) in lists.into_iter().chain([(&from.outgoing, &to.outgoing)]).enumerate()
+    {
+        if (old.length, old.items()) != (new.length, new.items()) {
+            frames.extend(list(which, old, new, true));
+        }
+    }
+    let used = from.used_outgoing();
+    for slot in to.used_outgoing() {
+        let new = &to.outgoing_slots[slot];
+        if !used.contains(&slot) || from.outgoing_slots[slot] != *new {
+            frames.push(set_outgoing(slot, new));
+        }
+    }
     frames
 }
 
@@ -69,14 +90,16 @@ fn outgoing(from: &Record, to: &Record) -> Vec<Frame> {
         .filter(|(slot, new)| {
             used.contains(slot) || (new.kind != 0 && from.outgoing_slots[*slot] != **new)
         })
-        .map(|(slot, new)| {
-            let mut frame = frame(23, [slot as u32]);
-            frame.numbers.extend(new.numbers());
-            frame.numbers.push(new.kind.into());
-            frame.numbers.extend(&new.fields);
-            frame
-        })
+        .map(|(slot, new)| set_outgoing(slot, new))
         .collect()
+}
+
+fn set_outgoing(slot: usize, to: &Outgoing) -> Frame {
+    let mut frame = frame(23, [slot as u32]);
+    frame.numbers.extend(to.numbers());
+    frame.numbers.push(to.kind.into());
+    frame.numbers.extend(&to.fields);
+    frame
 }
 
 fn incoming(from: &Record, to: &Record) -> Vec<Frame> {
@@ -97,6 +120,7 @@ fn incoming(from: &Record, to: &Record) -> Vec<Frame> {
 mod tests {
     use super::*;
     use crate::{
+        acknowledging,
         model::Model,
         ops,
         random::Random,
@@ -116,6 +140,27 @@ mod tests {
             }
             assert_eq!(model.record.row(), record.row());
             assert!(frames(&model.record, &record).iter().all(|frame| frame.op > 20));
+        }
+    }
+
+    #[test]
+    fn few_frames_make_the_record_after_calls_that_move_commands() {
+        let (mut random, mut model) = (Random::new(1), Model::new());
+        for _ in 0..300 {
+            let record = sound::rich(&mut random);
+            model.record = record.clone();
+            for _ in 0..random.below(4) {
+                let asked = acknowledging::drawn(&model, &mut random);
+                if [8, 9, 14].contains(&asked.op) {
+                    ops::answer(&mut model, &asked);
+                }
+            }
+            let frames = outgoing_frames(&model.record, &record);
+            for frame in &frames {
+                ops::answer(&mut model, frame);
+            }
+            assert_eq!(model.record.row(), record.row());
+            assert!(outgoing_frames(&model.record, &record).is_empty());
         }
     }
 }

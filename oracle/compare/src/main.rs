@@ -1,10 +1,13 @@
 //! Writes call scripts (SCRIPT.md) with the lines that the oracle gives for them, and compares line files.
 
+mod acknowledging;
 mod arriving;
 mod build;
 mod damage;
+mod events;
 mod frame;
 mod lines;
+mod mix;
 mod model;
 mod ops;
 mod output;
@@ -18,6 +21,7 @@ mod sending;
 use std::{env, fs, io, process::ExitCode};
 
 use arriving::taken;
+use mix::Mix;
 use output::Output;
 use sending::{rules, sets};
 
@@ -31,9 +35,13 @@ fn main() -> ExitCode {
         ["damage", script, lines] => write_damage(script, lines),
         ["sending", seed, count, script, lines] => write_sending(seed, count, script, lines),
         ["arriving", seed, count, script, lines] => write_arriving(seed, count, script, lines),
+        ["acknowledging", seed, count, script, lines] => {
+            write_acknowledging(seed, count, script, lines)
+        }
         ["every", set, script, lines] => write_every(set, script, lines),
         ["packing", seed, count] => pack(seed, count),
         ["reliable", seed, count] => queue(seed, count),
+        ["events", seed, count] => notify(seed, count),
         ["vectors", script, lines] => write_vectors(script, lines),
         ["lines", expected, got] => compare(expected, got),
         _ => Err(usage()),
@@ -56,16 +64,19 @@ fn usage() -> String {
   compare damage SCRIPT_FILE LINES_FILE
   compare sending SEED COUNT SCRIPT_FILE LINES_FILE
   compare arriving SEED COUNT SCRIPT_FILE LINES_FILE
+  compare acknowledging SEED COUNT SCRIPT_FILE LINES_FILE
   compare every SET SCRIPT_FILE LINES_FILE
-      SET: {}, {}
+      SET: {}, {}, {}
   compare packing SEED COUNT
   compare reliable SEED COUNT
+  compare events SEED COUNT
   compare vectors SCRIPT_FILE LINES_FILE
   compare lines EXPECTED GOT",
         names.join(","),
         more.join(","),
         sets::NAMES.join(", "),
-        arriving::NAMES.join(", ")
+        arriving::NAMES.join(", "),
+        acknowledging::NAMES.join(", ")
     )
 }
 
@@ -86,7 +97,7 @@ fn write(
 
 fn write_records(seed: &str, count: &str, script: &str, lines: &str) -> Result<ExitCode, String> {
     let (seed, count) = (number(seed)?, number(count)?);
-    written(script, lines, |output| records::write(output, seed, count))
+    written(script, lines, |output| records::write(output, seed, count, Mix::All))
 }
 
 fn write_damage(script: &str, lines: &str) -> Result<ExitCode, String> {
@@ -95,16 +106,27 @@ fn write_damage(script: &str, lines: &str) -> Result<ExitCode, String> {
 
 fn write_sending(seed: &str, count: &str, script: &str, lines: &str) -> Result<ExitCode, String> {
     let (seed, count) = (number(seed)?, number(count)?);
-    written(script, lines, |output| sending::write(output, seed, count))
+    written(script, lines, |output| sending::write(output, seed, count, Mix::All))
 }
 
 fn write_arriving(seed: &str, count: &str, script: &str, lines: &str) -> Result<ExitCode, String> {
     let (seed, count) = (number(seed)?, number(count)?);
-    written(script, lines, |output| arriving::write(output, seed, count))
+    written(script, lines, |output| arriving::write(output, seed, count, Mix::All))
+}
+
+fn write_acknowledging(
+    seed: &str,
+    count: &str,
+    script: &str,
+    lines: &str,
+) -> Result<ExitCode, String> {
+    let (seed, count) = (number(seed)?, number(count)?);
+    written(script, lines, |output| acknowledging::write(output, seed, count))
 }
 
 fn write_every(set: &str, script: &str, lines: &str) -> Result<ExitCode, String> {
     let write = sets::named(set).or_else(|| arriving::named(set));
+    let write = write.or_else(|| acknowledging::named(set));
     let write = write.ok_or_else(|| format!("there is no set {set}\n{}", usage()))?;
     written(script, lines, write)
 }
@@ -121,17 +143,27 @@ fn queue(seed: &str, count: &str) -> Result<ExitCode, String> {
     Ok(if same { ExitCode::SUCCESS } else { ExitCode::FAILURE })
 }
 
+/// What the source does when it notifies or disconnects, beside document 01's answers.
+fn notify(seed: &str, count: &str) -> Result<ExitCode, String> {
+    let same = events::compare(number(seed)?, number(count)?);
+    Ok(if same { ExitCode::SUCCESS } else { ExitCode::FAILURE })
+}
+
 /// What the repository stores for replay: each kind of damage, random records, the rules of sending, some
-/// sequences of sending and of dispatch and receive, then every other op, then arrivals, and last a cut frame.
+/// sequences of sending and of dispatch and receive, then every other op, then arrivals, then acknowledgement, timeouts
+/// and throttle, and last a cut frame.
 fn write_vectors(script: &str, lines: &str) -> Result<ExitCode, String> {
     let plan = script::Plan { seed: 1, count: 3_000, choice: script::Choice::named(None)? };
     written(script, lines, |output| {
         records::write_damage(output)?;
-        records::write(output, 3, 150)?;
+        records::write(output, 3, 150, Mix::Stored)?;
         rules::write(output)?;
-        sending::write(output, 5, 250)?;
+        sending::write(output, 5, 250, Mix::Stored)?;
         taken::write(output, 7, 250)?;
-        plan.write_with(output, |output| arriving::write_arrivals(output, 9, 400))
+        plan.write_with(output, |output| {
+            arriving::write_arrivals(output, 9, 400)?;
+            acknowledging::write_stored(output, 11, 150)
+        })
     })
 }
 

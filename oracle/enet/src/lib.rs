@@ -12,7 +12,9 @@ mod silent;
 
 pub use bench::Bench;
 pub use door::{
+    acknowledge::{Acknowledged, Acknowledgement},
     arrival::{Arrival, Arrived, Room},
+    awaiting::{Acknowledging, Awaiting},
     command::{limits, size, write, Read},
     pack::Packed,
     receive::Received,
@@ -20,5 +22,6 @@ pub use door::{
     send::{Limits, Packet},
     throttle::Throttle,
     timed::{Made, Sender},
+    timeouts::GivenUp,
     window::{Verdict, Window},
 };

@@ -2,7 +2,7 @@
 
 use enet::{
     record::{place, Outgoing, Record},
-    Arrival, Bench, Limits, Packet, Room,
+    Acknowledgement, Arrival, Bench, Limits, Packet, Room,
 };
 
 const LIMITS: Limits = Limits { packet: 1_000, checksum: true };
@@ -10,6 +10,8 @@ const PACKET: Packet = Packet { channel: 0, length: 1, flags: 1 };
 const ROOM: Room = Room { packet: 1_000, waiting: 1_000 };
 const ARRIVAL: Arrival =
     Arrival { byte: 73, channel: 0, number: 1, group: 2, length: 1, rest: &[7] };
+const ACKNOWLEDGEMENT: Acknowledgement =
+    Acknowledgement { channel: 0, number: 1, sent_time: 2, clock: 3 };
 
 /// A connected record of one channel with something also where it does not count.
 fn connected() -> Record {
@@ -38,6 +40,9 @@ fn each(bench: &mut Bench, record: &Record) -> Vec<Record> {
         bench.pack(record, 5).1,
         bench.disconnect(record, 3),
         bench.arrive(record, ROOM, &ARRIVAL).1,
+        bench.acknowledge(record, ACKNOWLEDGEMENT).1,
+        bench.check_timeouts(record, 5).1,
+        bench.throttled(record, 5).1,
     ]
 }
 

@@ -14,6 +14,7 @@ use enet::record::{place, Record};
 
 use crate::{
     frame::Frame,
+    mix::Mix,
     model::{Settings, CONNECTED, STORE},
     output::Output,
     records::{frame, set},
@@ -42,7 +43,7 @@ pub fn write_arrivals<S: Write, L: Write>(
     seed: u64,
     count: u64,
 ) -> io::Result<()> {
-    sequences::write(output, seed, count)?;
+    sequences::write(output, seed, count, Mix::Stored)?;
     unsequenced::write_slice(output)?;
     reliable::write_slice(output)
 }
@@ -73,7 +74,7 @@ fn start<S: Write, L: Write>(output: &mut Output<S, L>) -> io::Result<()> {
 
 /// How often each op answered what: the op, then all before the hash, cut to three words.
 #[cfg(test)]
-fn met(lines: &[u8]) -> std::collections::BTreeMap<String, usize> {
+pub fn met(lines: &[u8]) -> std::collections::BTreeMap<String, usize> {
     let mut met = std::collections::BTreeMap::new();
     for line in String::from_utf8(lines.to_vec()).unwrap().lines() {
         let reply: Vec<&str> = line.split(" # ").next().unwrap().split(' ').take(3).collect();

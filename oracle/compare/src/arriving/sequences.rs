@@ -7,6 +7,7 @@ use enet::record::place;
 use super::{start, stores, taken, whole_store};
 use crate::{
     frame::Frame,
+    mix::Mix,
     model::{Model, Settings, CELL, CONNECTED, DISCONNECT_LATER, STORE},
     ops::{self, reliable, unsequenced},
     output::Output,
@@ -19,17 +20,19 @@ use crate::{
 /// How many arrivals a sequence remembers.
 const REMEMBERED: usize = 8;
 
-/// A script of so many calls of ops 1 to 7 and 10 to 13, in sequences that start from new or random records.
+/// A script of so many calls of ops 1 to 7 and 10 to 13, and of 8, 9 and 14 where the mix has them, in sequences
+/// that start from new or random records.
 pub fn write<S: Write, L: Write>(
     output: &mut Output<S, L>,
     seed: u64,
     count: u64,
+    mix: Mix,
 ) -> io::Result<()> {
     let mut random = Random::new(seed);
     let mut left = count;
     while left > 0 {
         open(output, &mut random)?;
-        let mut sequence = Sequence::default();
+        let mut sequence = Sequence::new(mix);
         let calls = left.min(8 + random.below(56));
         for _ in 0..calls {
             sequence.call(output, &mut random)?;
@@ -84,10 +87,16 @@ fn state(random: &mut Random) -> u32 {
 }
 
 /// What a sequence remembers: some arrivals, to repeat them.
-#[derive(Default)]
-struct Sequence(Vec<Frame>);
+struct Sequence {
+    kept: Vec<Frame>,
+    mix: Mix,
+}
 
 impl Sequence {
+    fn new(mix: Mix) -> Self {
+        Sequence { kept: Vec::new(), mix }
+    }
+
     /// A call, now and then with numbers missing, or under other settings; then a look at what it left.
     fn call<S: Write, L: Write>(
         &mut self,
@@ -128,6 +137,9 @@ impl Sequence {
         if ![CONNECTED, DISCONNECT_LATER].contains(&numbers[place::STATE]) && random.once_in(4) {
             return frame(3, vec![CONNECTED]);
         }
+        if let Some(frame) = self.mix.more(model, random, 5) {
+            return frame;
+        }
         match random.below(64) {
             0 if random.once_in(3) => frame(1, vec![]),
             0 => (ops::named("2").expect("the group is known").frame)(random, 0),
@@ -135,8 +147,8 @@ impl Sequence {
             2..=3 => frame(3, vec![state(random)]),
             4..=7 => sending::drawn(model, random),
             8..=20 => taken::drawn(random, count),
-            21..=26 if !self.0.is_empty() => {
-                self.0[random.below(self.0.len() as u64) as usize].clone()
+            21..=26 if !self.kept.is_empty() => {
+                self.kept[random.below(self.kept.len() as u64) as usize].clone()
             }
             21..=42 => unsequenced::drawn(random, &model.record),
             _ => reliable::drawn(random, &model.record),
@@ -148,10 +160,10 @@ impl Sequence {
         if ![10, 11].contains(&asked.op) {
             return;
         }
-        if self.0.len() == REMEMBERED {
-            self.0.swap_remove(random.below(REMEMBERED as u64) as usize);
+        if self.kept.len() == REMEMBERED {
+            self.kept.swap_remove(random.below(REMEMBERED as u64) as usize);
         }
-        self.0.push(asked.clone());
+        self.kept.push(asked.clone());
     }
 }
 
@@ -201,13 +213,14 @@ mod tests {
     #[test]
     fn so_many_calls_are_made_and_every_reply_is_met() {
         let mut lines = Vec::new();
-        write(&mut Output::new(io::sink(), &mut lines), 1, 20_000).unwrap();
+        write(&mut Output::new(io::sink(), &mut lines), 1, 20_000, Mix::All).unwrap();
         let met = met(&lines);
         for reply in [
             "1 0", "2 0", "2 11", "3 0", "3 11", "4 0", "5 0", "6 0", "7 0 0", "7 0 1", "12 0",
             "12 2", "12 11", "12 13", "12 bad", "13 0 0", "13 0 1", "13 11", "13 13", "10 0 0",
             "10 0 1", "10 6", "10 7", "10 8", "10 9", "10 11", "10 13", "10 bad", "11 0 0",
-            "11 0 1", "11 6", "11 7", "11 8", "11 9", "11 11", "11 13", "11 bad",
+            "11 0 1", "11 6", "11 7", "11 8", "11 9", "11 11", "11 13", "11 bad", "8 0 0", "8 0 1",
+            "8 0 4", "9 0 1", "9 0 3", "14 0 0", "14 0 1", "14 0 2",
         ] {
             assert!(met.get(reply).is_some_and(|count| *count >= 10), "{reply}: {met:?}");
         }
@@ -229,6 +242,7 @@ mod tests {
         let inside = lists().any(|(b, a)| {
             a.list.length > b.list.length && a.list.items().last() == b.list.items().last()
         });
+        let gone = after.sent.length < before.sent.length;
         let (ten, eleven) = (line.starts_with("10 "), line.starts_with("11 "));
         let (eight, over) = (line.contains(" 8 #"), line.contains(" 0 0 #"));
         [
@@ -244,6 +258,9 @@ mod tests {
             ("several dispatched", eleven && dispatched > 1),
             ("reliable 8 for want of slots", eleven && eight && full),
             ("reliable passed over in state 6", eleven && over && later),
+            ("acknowledged where it was sent", line.starts_with("8 0 ") && gone),
+            ("went back", line.starts_with("9 0 1 ") && gone),
+            ("given up", line.starts_with("9 0 3 ")),
         ]
         .into_iter()
         .filter(|(_, met)| *met)
@@ -252,12 +269,12 @@ mod tests {
     }
 
     #[test]
-    fn whatever_an_arrival_can_do_is_done() {
+    fn whatever_these_calls_can_do_is_done() {
         let (mut random, mut met) = (Random::new(1), BTreeMap::new());
         let mut output = Output::new(io::sink(), io::sink());
         for _ in 0..400 {
             open(&mut output, &mut random).unwrap();
-            let mut sequence = Sequence::default();
+            let mut sequence = Sequence::new(Mix::All);
             for _ in 0..40 {
                 let asked = sequence.drawn(&output.model, &mut random);
                 sequence.remember(&asked, &mut random);
@@ -268,6 +285,6 @@ mod tests {
                 }
             }
         }
-        assert!(met.len() == 12 && met.values().all(|count| *count >= 20), "{met:?}");
+        assert!(met.len() == 15 && met.values().all(|count| *count >= 20), "{met:?}");
     }
 }

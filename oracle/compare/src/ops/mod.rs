@@ -1,5 +1,6 @@
 //! The ops of SCRIPT.md in groups: each makes frames and says what the oracle answers.
 
+pub mod acknowledgement;
 pub mod arrival;
 mod begin;
 mod bytes;
@@ -22,6 +23,8 @@ pub mod setup;
 mod state;
 pub mod step;
 mod store;
+pub mod throttle;
+pub mod timeouts;
 mod unknown;
 pub mod unsequenced;
 mod write;
@@ -52,10 +55,13 @@ pub const MORE: &[Group] = &[
     send::GROUP,
     setup::GROUP,
     step::GROUP,
+    acknowledgement::GROUP,
+    timeouts::GROUP,
     unsequenced::GROUP,
     reliable::GROUP,
     dispatch::GROUP,
     receive::GROUP,
+    throttle::GROUP,
     row::GROUP,
     store::GROUP,
     bytes::GROUP,

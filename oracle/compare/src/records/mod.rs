@@ -8,7 +8,15 @@ use std::io::{self, Write};
 
 use enet::record::Record;
 
-use crate::{build, frame::Frame, model::Settings, ops, output::Output, random::Random};
+use crate::{
+    build,
+    frame::Frame,
+    mix::Mix,
+    model::Settings,
+    ops::{self, acknowledgement, throttle, timeouts},
+    output::Output,
+    random::Random,
+};
 
 /// The seed of the records of damage, which take no seed from outside.
 const SEED: u64 = 1;
@@ -21,6 +29,7 @@ pub fn write<S: Write, L: Write>(
     output: &mut Output<S, L>,
     seed: u64,
     count: u64,
+    mix: Mix,
 ) -> io::Result<()> {
     let mut random = Random::new(seed);
     for _ in 0..count {
@@ -32,10 +41,10 @@ pub fn write<S: Write, L: Write>(
         make(output, &record)?;
         look(output, &mut random)?;
         for _ in 0..random.below(3) {
-            call(output, &mut random)?;
+            call(output, &mut random, mix)?;
         }
         if random.once_in(8) {
-            refused(output, &mut random)?;
+            refused(output, &mut random, mix)?;
         }
         let mtu = 576 + random.up_to(4_096 - 576);
         let packet = 1 + random.up_to(1_073_741_823);
@@ -43,7 +52,7 @@ pub fn write<S: Write, L: Write>(
         output.put(&frame(1, vec![]))?;
         look(output, &mut random)?;
         for _ in 0..random.below(4) {
-            call(output, &mut random)?;
+            call(output, &mut random, mix)?;
         }
     }
     Ok(())
@@ -99,19 +108,33 @@ fn look<S: Write, L: Write>(output: &mut Output<S, L>, random: &mut Random) -> i
     Ok(())
 }
 
-/// Begin or set state.
-fn call<S: Write, L: Write>(output: &mut Output<S, L>, random: &mut Random) -> io::Result<()> {
-    let name = random.pick(&["2", "3"]);
-    output.put(&drawn(name, random))
+/// A call of some op of the mix, which suits the record where that matters.
+fn call<S: Write, L: Write>(
+    output: &mut Output<S, L>,
+    random: &mut Random,
+    mix: Mix,
+) -> io::Result<()> {
+    let record = &output.model.record;
+    let frame = match random.pick(mix.calls()) {
+        "8" => acknowledgement::drawn(random, record),
+        "9" => timeouts::drawn(random, record),
+        "14" => throttle::drawn(random, record),
+        name => drawn(name, random),
+    };
+    output.put(&frame)
 }
 
 /// Calls that a bad setting refuses, be the record sound or damaged.
-fn refused<S: Write, L: Write>(output: &mut Output<S, L>, random: &mut Random) -> io::Result<()> {
+fn refused<S: Write, L: Write>(
+    output: &mut Output<S, L>,
+    random: &mut Random,
+    mix: Mix,
+) -> io::Result<()> {
     let bad = [(575, PACKET), (4_097, PACKET), (1_392, 0), (1_392, 1_073_741_825)];
     let (mtu, packet) = random.pick(&bad);
     output.put(&settings(mtu, packet))?;
     output.put(&frame(1, vec![]))?;
-    call(output, random)
+    call(output, random, mix)
 }
 
 /// A frame of the group of this name.
@@ -141,9 +164,9 @@ mod tests {
     #[test]
     fn so_many_records_are_reset_and_every_reply_is_met() {
         let mut lines = Vec::new();
-        write(&mut Output::new(io::sink(), &mut lines), 1, 2_000).unwrap();
-        assert_eq!(count(&replies(&lines, "1"), "0"), 2_000);
-        for op in ["2", "3"] {
+        write(&mut Output::new(io::sink(), &mut lines), 1, 4_000, Mix::All).unwrap();
+        assert_eq!(count(&replies(&lines, "1"), "0"), 4_000);
+        for op in Mix::All.calls() {
             for number in ["0", "11", "13"] {
                 assert!(count(&replies(&lines, op), number) >= 10, "op {op}, reply {number}");
             }

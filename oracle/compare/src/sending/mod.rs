@@ -9,6 +9,7 @@ use enet::record::place;
 
 use crate::{
     frame::Frame,
+    mix::Mix,
     model::{Model, CONNECTED},
     ops::{self, send, setup},
     output::Output,
@@ -33,11 +34,13 @@ const COUNTERS: &[usize] = &[
     place::HOST_COUNT,
 ];
 
-/// A script of so many calls of ops 4 to 7, in sequences that start from random records.
+/// A script of so many calls of ops 4 to 7, with acknowledgements between where the mix has them, in sequences
+/// that start from random records.
 pub fn write<S: Write, L: Write>(
     output: &mut Output<S, L>,
     seed: u64,
     count: u64,
+    mix: Mix,
 ) -> io::Result<()> {
     let mut random = Random::new(seed);
     let mut left = count;
@@ -45,7 +48,7 @@ pub fn write<S: Write, L: Write>(
         start(output, &mut random)?;
         let calls = left.min(8 + random.below(48));
         for _ in 0..calls {
-            call(output, &mut random)?;
+            call(output, &mut random, mix)?;
             if random.once_in(16) {
                 output.put(&records::frame(15, vec![]))?;
             }
@@ -109,8 +112,15 @@ fn edge(random: &mut Random, limit: u32) -> u32 {
 }
 
 /// A call, now and then with numbers missing, or under settings that refuse it.
-fn call<S: Write, L: Write>(output: &mut Output<S, L>, random: &mut Random) -> io::Result<()> {
-    let mut frame = drawn(&output.model, random);
+fn call<S: Write, L: Write>(
+    output: &mut Output<S, L>,
+    random: &mut Random,
+    mix: Mix,
+) -> io::Result<()> {
+    let mut frame = match mix.more(&output.model, random, 3) {
+        Some(frame) => frame,
+        None => drawn(&output.model, random),
+    };
     if random.once_in(48) {
         miscount(&mut frame, random);
     }
@@ -160,15 +170,16 @@ mod tests {
     #[test]
     fn so_many_calls_are_made_and_every_reply_is_met() {
         let mut lines = Vec::new();
-        write(&mut Output::new(io::sink(), &mut lines), 1, 40_000).unwrap();
+        write(&mut Output::new(io::sink(), &mut lines), 1, 40_000, Mix::All).unwrap();
         let met = met(&lines, 2);
-        let calls = ["4 ", "5 ", "6 ", "7 "];
+        let calls = ["4 ", "5 ", "6 ", "7 ", "8 ", "9 ", "14 "];
         let made = |(reply, _): &(&String, &usize)| calls.iter().any(|op| reply.starts_with(op));
         assert_eq!(met.iter().filter(made).map(|(_, count)| count).sum::<usize>(), 40_000);
         for reply in [
             "4 0", "4 1", "4 5", "4 11", "4 13", "5 0", "5 1", "5 2", "5 3", "5 4", "5 5", "5 11",
             "5 13", "5 bad", "6 0", "6 2", "6 5", "6 9", "6 11", "6 13", "6 bad", "7 0", "7 11",
-            "7 13", "7 bad",
+            "7 13", "7 bad", "8 0", "8 11", "8 13", "8 bad", "9 0", "9 11", "9 13", "14 0",
+            "14 11", "14 13",
         ] {
             assert!(met.get(reply).is_some_and(|count| *count >= 10), "{reply}: {met:?}");
         }

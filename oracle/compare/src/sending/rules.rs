@@ -38,7 +38,15 @@ impl Step {
 
 /// A script of all rules; the oracle must reply as each says.
 pub fn write<S: Write, L: Write>(output: &mut Output<S, L>) -> io::Result<()> {
-    for rule in rules() {
+    write_text(output, TEXT)
+}
+
+/// The same of another text.
+pub fn write_text<S: Write, L: Write>(
+    output: &mut Output<S, L>,
+    text: &'static str,
+) -> io::Result<()> {
+    for rule in rules(text) {
         for step in rule.steps {
             let line = ops::answer(&mut output.model, &step.frame);
             assert!(step.holds(&line), "{}: {:?} gives {line}", rule.name, step.frame.numbers);
@@ -48,9 +56,9 @@ pub fn write<S: Write, L: Write>(output: &mut Output<S, L>) -> io::Result<()> {
     Ok(())
 }
 
-fn rules() -> Vec<Rule> {
+fn rules(text: &'static str) -> Vec<Rule> {
     let mut rules: Vec<Rule> = Vec::new();
-    for line in TEXT.lines().filter(|line| !line.is_empty()) {
+    for line in text.lines().filter(|line| !line.is_empty()) {
         match line.strip_prefix("# ") {
             Some(name) => rules.push(Rule { name, steps: Vec::new() }),
             None => rules.last_mut().expect("a name comes first").steps.extend(steps(line)),
@@ -98,15 +106,20 @@ fn frame(words: &str) -> Frame {
 #[cfg(test)]
 mod tests {
     use super::*;
+    use crate::acknowledging;
 
     #[test]
     fn every_rule_replies_as_it_says() {
-        write(&mut Output::new(io::sink(), io::sink())).unwrap();
+        for text in [TEXT, acknowledging::RULES] {
+            write_text(&mut Output::new(io::sink(), io::sink()), text).unwrap();
+        }
     }
 
     #[test]
     fn every_rule_has_a_name_of_its_own() {
-        let mut names: Vec<&str> = rules().iter().map(|rule| rule.name).collect();
+        let texts = [TEXT, acknowledging::RULES];
+        let rules = texts.into_iter().flat_map(rules);
+        let mut names: Vec<&str> = rules.map(|rule| rule.name).collect();
         let all = names.len();
         names.sort();
         names.dedup();

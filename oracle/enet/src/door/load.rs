@@ -79,7 +79,7 @@ unsafe fn fill<T>(
     }
 }
 
-unsafe fn outgoing(slot: &Outgoing) -> *mut u8 {
+pub(crate) unsafe fn outgoing(slot: &Outgoing) -> *mut u8 {
     let node = enet_malloc(Layout::new::<ENetOutgoingCommand>());
     node.cast::<ENetOutgoingCommand>().write(ENetOutgoingCommand {
         outgoing_command_list: zeroed(),

@@ -1,6 +1,8 @@
 //! The doors, one file for each function or piece of the source that they lead to.
 
+pub(crate) mod acknowledge;
 pub(crate) mod arrival;
+pub(crate) mod awaiting;
 mod call;
 pub(crate) mod command;
 mod disconnect;
@@ -19,4 +21,5 @@ pub(crate) mod send;
 mod setup;
 pub(crate) mod throttle;
 pub(crate) mod timed;
+pub(crate) mod timeouts;
 pub(crate) mod window;

@@ -1,6 +1,6 @@
 //! The door to `enet_peer_throttle`.
 
-use crate::{enet_peer_throttle, Bench};
+use crate::{enet_peer_throttle, record::Record, Bench};
 
 /// The six numbers of the peer that the throttle reads; it changes the value alone.
 #[derive(Clone, Copy, Debug, PartialEq, Eq)]
@@ -34,5 +34,10 @@ impl Bench {
             variance: peer.last_round_trip_time_variance,
         };
         (after, returned)
+    }
+    /// What the source returned for a round trip of this length on a sound record, and the record after it.
+    pub fn throttled(&mut self, record: &Record, sample: u32) -> (i32, Record) {
+        let throttle = |bench: &mut Bench| unsafe { enet_peer_throttle(bench.peer, sample) };
+        unsafe { self.call(record, |bench, _| throttle(bench)) }
     }
 }

@@ -34,6 +34,14 @@ impl List {
         Some(slot.into())
     }
 
+    /// Takes a slot out of a list no longer than its pool, wherever it stands; the cells past the new length stay.
+    pub fn leave(&mut self, slot: usize) {
+        if let Some(place) = self.items().iter().position(|there| usize::from(*there) == slot) {
+            self.cells.copy_within(place + 1..usize::from(self.length), place);
+            self.length -= 1;
+        }
+    }
+
     /// The cells that count: all there are, if the length is above the pool.
     pub fn items(&self) -> &[u16] {
         &self.cells[..self.cells.len().min(self.length.into())]

@@ -28,6 +28,15 @@ pub(crate) unsafe fn handle_send_reliable<S: Socket>(
     enet_protocol_handle_send_reliable(host, peer, command, current_data)
 }
 
+pub(crate) unsafe fn handle_acknowledge<S: Socket>(
+    host: *mut ENetHost<S>,
+    event: *mut ENetEvent<S>,
+    peer: *mut ENetPeer<S>,
+    command: *const ENetProtocol,
+) -> i32 {
+    enet_protocol_handle_acknowledge(host, event, peer, command)
+}
+
 pub(crate) unsafe fn handle_incoming_commands<S: Socket>(
     host: *mut ENetHost<S>,
     event: *mut ENetEvent<S>,
