@@ -14,6 +14,7 @@ use Rattle.peer.specs.Damage.{sound}
 use Rattle.peer.specs.Gate.{gated}
 use Rattle.peer.specs.Outcome.{State, Outcome}
 use Rattle.peer.specs.declared.gate.Lent.the-variants.{Store}
+use Rattle.removal.specs.Removal.{seek}
 use Rattle.unsequenced.specs.Calls.{unsequencedSound}
 use Rattle.setup.specs.Queueing.{queuedAt, queued, queuedAll}
 use Rattle.packets.specs.Packets.{cutFrom}
@@ -39,5 +40,5 @@ module _ (words store : List ℕ) (long : length store ≡ storeLength) where
   lands base g = ap (λ (n : ℕ). landed (lent n (at base words store) g)) long
 
   pub stated : Hold (cases words store)
-  unfolding layout total firstFrom countFrom exist once noLists noChannel noOutgoing noIncoming freshPeer sound all held heldFit own lengths queuedAt queued queuedAll cutFrom readyCount readyLast withBit
+  unfolding layout total firstFrom countFrom exist once noLists noChannel noOutgoing noIncoming freshPeer sound all held heldFit own lengths queuedAt queued queuedAll cutFrom readyCount readyLast withBit seek
   stated = four _ _ _ _ _ _ _ _ _ (lands 0 32767) (lands 0 32768) (lands 33792 5) (lands 32768 5)

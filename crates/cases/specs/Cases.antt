@@ -25,6 +25,7 @@ use Rattle.peer.specs.declared.settings.Settings.{Settings}
 use Rattle.peer.specs.declared.defaults.Kept.{Kept}
 use Rattle.peer.specs.declared.record.Peer.{Peer}
 use Rattle.throttling.specs.Calls.{throttles}
+use Rattle.acknowledge.specs.Calls.{acknowledges}
 use Rattle.sending.specs.Calls.{sends}
 use Rattle.dispatch.specs.Calls.{dispatches}
 use Rattle.arriving.specs.declared.Arrival.{Arrival}
@@ -53,6 +54,14 @@ nobody = record { «incoming_peer» = 0; «outgoing_session» = 0; «incoming_se
 -- a peer as after a reset, begun with one channel and connected
 abbrev opened : ℕ → Peer
 opened mtu = setsState (settings mtu) connected (begins (settings mtu) mtu 1 (freshPeer mtu nobody) .after) .after
+
+-- an acknowledgement on such a peer, to which it is the first: the reply's number and which, then the round trip and the last receive time
+abbrev heard : Outcome Peer → List ℤ
+heard o =
+    pos (o .answer .number) ∷ map pos (o .answer .values ++ (o .after .trips .now ∷ o .after .times .«last_receive» ∷ []))
+
+abbrev hears : ℕ → ℕ → List ℤ
+hears clock sent = heard (acknowledges (settings 576) 0 1 sent clock (opened 576))
 
 -- such a peer with a last round trip, its variance and a throttle value
 abbrev paced : ℕ → ℕ → ℕ → Peer
@@ -132,6 +141,8 @@ cases words store =
     ∷ record { given = landed (arrives (at 32768 words store) 5); stated = pos 0 ∷ pos 0 ∷ pos 32768 ∷ [] }  -- P4
     ∷ record { given = sample 65541 6; stated = pos 0 ∷ [] }  -- P5
     ∷ record { given = sample 65541 5; stated = pos 1 ∷ pos 1 ∷ [] }  -- P6
+    ∷ record { given = hears 65541 6; stated = pos 0 ∷ pos 0 ∷ pos 500 ∷ pos 0 ∷ [] }  -- P5 on the record
+    ∷ record { given = hears 65541 5; stated = pos 0 ∷ pos 1 ∷ pos 1 ∷ pos 65541 ∷ [] }  -- P6 on the record
     ∷ record { given = rolled 100 10 32 121; stated = pos 30 ∷ negsuc 0 ∷ [] }  -- P7
     ∷ record { given = rolled 100 10 32 120; stated = pos 32 ∷ pos 0 ∷ [] }
     ∷ record { given = paces 100 10 32 121; stated = pos 0 ∷ pos 2 ∷ pos 30 ∷ [] }  -- P7 on the record
