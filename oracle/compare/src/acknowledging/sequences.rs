@@ -167,7 +167,8 @@ impl Sequence {
     /// A send step now, of a list in which something waits, if there is one.
     fn step(&self, record: &Record, random: &mut Random) -> Frame {
         let list = match (record.outgoing.length, record.send_reliable.length) {
-            (0, 0) => random.pick(&[0, 1, 2]),
+            (0, 0) if random.once_in(24) => 2,
+            (0, 0) => random.below(2) as u32,
             (0, _) => 1,
             (_, 0) => 0,
             _ => random.below(2) as u32,
