@@ -84,7 +84,7 @@ impl Sequence {
         let record = match random.below(48) {
             0 => harm::any(random),
             1 => sound::any(random),
-            2..=8 => self.busy(random),
+            2..=12 => self.busy(random),
             _ => return begin(output, random),
         };
         records::make(output, &record)
@@ -99,7 +99,7 @@ impl Sequence {
         record.numbers[place::STATE] = state(random);
         record.numbers[place::ROUND_TRIP] = random.below(1_000) as u32;
         record.numbers[place::TIMEOUT_LIMIT] = random.pick(&[4, 8, 16, 64]);
-        record.numbers[place::TIMEOUT_MINIMUM] = random.pick(&[0, 500, 1_500]);
+        record.numbers[place::TIMEOUT_MINIMUM] = random.pick(&[0, 0, 500]);
         record.numbers[place::TIMEOUT_MAXIMUM] = random.pick(&[1_000, 30_000, u32::MAX]);
         if random.once_in(2) {
             record.numbers[place::EARLIEST_TIMEOUT] = 0;
