@@ -84,7 +84,7 @@ impl Sequence {
         let record = match random.below(48) {
             0 => harm::any(random),
             1 => sound::any(random),
-            2..=8 => self.busy(random),
+            2..=12 => self.busy(random),
             _ => return begin(output, random),
         };
         records::make(output, &record)
@@ -99,7 +99,7 @@ impl Sequence {
         record.numbers[place::STATE] = state(random);
         record.numbers[place::ROUND_TRIP] = random.below(1_000) as u32;
         record.numbers[place::TIMEOUT_LIMIT] = random.pick(&[4, 8, 16, 64]);
-        record.numbers[place::TIMEOUT_MINIMUM] = random.pick(&[0, 500, 1_500]);
+        record.numbers[place::TIMEOUT_MINIMUM] = random.pick(&[0, 0, 500]);
         record.numbers[place::TIMEOUT_MAXIMUM] = random.pick(&[1_000, 30_000, u32::MAX]);
         if random.once_in(2) {
             record.numbers[place::EARLIEST_TIMEOUT] = 0;
@@ -167,7 +167,8 @@ impl Sequence {
     /// A send step now, of a list in which something waits, if there is one.
     fn step(&self, record: &Record, random: &mut Random) -> Frame {
         let list = match (record.outgoing.length, record.send_reliable.length) {
-            (0, 0) => random.pick(&[0, 1, 2]),
+            (0, 0) if random.once_in(24) => 2,
+            (0, 0) => random.below(2) as u32,
             (0, _) => 1,
             (_, 0) => 0,
             _ => random.below(2) as u32,
