@@ -20,6 +20,7 @@ use Rattle.parts.specs.Fresh.{noOutgoing}
 use Rattle.parts.specs.Updates.{withTimeouts, withPacketsLost, withTransit}
 use Rattle.parts.specs.declared.groups.Limits.{Limits}
 use Rattle.parts.specs.declared.groups.Lists.{Lists}
+use Rattle.parts.specs.declared.groups.Outgoing.{Outgoing}
 use Rattle.peer.specs.Gate.{fits, gateOf}
 use Rattle.peer.specs.Outcome.{Came}
 use Rattle.peer.specs.Updates.{withOutgoing, withChecked}
@@ -102,6 +103,11 @@ module _ {limits : Limits} {clock : ℕ} {cells : List ℕ} {n : ℕ} {w₀ : Wa
       ∙ ap (λ (xs : List ℕ). onward (take j marks) (walked limits clock xs w (p .outgoing))) (part-end cells j n h)
       ∙ ap (λ (ms : List ℕ). record { walk = w; marks = ms; slots = p .outgoing }) (append-nil (take j marks) ∙ ap (λ (k : ℕ). take k marks) e)
 
+-- the record with what the code stores at the end
+abbrev stored : Peer → Walk → Lists → List Outgoing → Peer
+stored p w lists slots =
+    withChecked p (withTimeouts (p .times) (w .next) (w .earliest)) (withPacketsLost (p .loss) (w .lost)) (withTransit (p .flow) (w .transit)) lists slots
+
 -- ---- the check: ws, g, n and w₀ are what the code answered
 module _ (s : Settings) (clock : ℕ) (p : Peer) (ws : List ℕ) (v : ws ≡ worthsOf p) (g : Gate) (e : g ≡ gateOf (fits s Nothing) (soundBy p ws))
     (passed : g ≡ Open) (n : ℕ) (counted : OutCounted (p .lists .sent) n) (w₀ : Walk) (we : w₀ ≡ startOf (p .times) (p .loss) (p .flow)) where
@@ -139,8 +145,7 @@ module _ (s : Settings) (clock : ℕ) (p : Peer) (ws : List ℕ) (v : ws ≡ wor
 
     -- left are the lists that the code made
     pub check-left : (left : Lists) → left ≡ listsBy marks (p .lists) → (reply : Reply) → reply ≡ replyBy (w .over)
-        → Came answerOf (checks s clock p) reply
-        (withChecked r (withTimeouts (r .times) (w .next) (w .earliest)) (withPacketsLost (r .loss) (w .lost)) (withTransit (r .flow) (w .transit)) left (r .outgoing))
+        → Came answerOf (checks s clock p) reply (stored r w left (r .outgoing))
     unfolding made
     check-left left le reply re =
         let lists : left ≡ listsBy (take n marks) (p .lists) = le ∙ sym (lists-within n marks (p .lists) (omega (arith, counted .is))) in
@@ -148,6 +153,5 @@ module _ (s : Settings) (clock : ℕ) (p : Peer) (ws : List ℕ) (v : ws ≡ wor
         (rw walk-is (record {
           answer = ap answerOf re;
           after =
-              ap (λ (q : Peer). withChecked q (withTimeouts (q .times) (w .next) (w .earliest)) (withPacketsLost (q .loss) (w .lost)) (withTransit (q .flow) (w .transit)) left (r .outgoing)) (t .same)
-              ∙ ap (λ (l : Lists). withChecked p (withTimeouts (p .times) (w .next) (w .earliest)) (withPacketsLost (p .loss) (w .lost)) (withTransit (p .flow) (w .transit)) l (r .outgoing)) lists;
+              ap (λ (q : Peer). stored q w left (r .outgoing)) (t .same) ∙ ap (λ (l : Lists). stored p w l (r .outgoing)) lists;
         }))

@@ -46,14 +46,13 @@ start-requires c κs = search needs
 
 loop-holds : tie.Need-loop-holds Inv-loop μ-loop
 loop-holds c =
-    let i = c in
-    let n = i .before .before .before .before .before .before in
+    let n = c .before .before .before .before .before .before in
     let t = n .before .before in
     let g = t .before .before in
     let w = g .before in
     let a = w .before .before .before .before .before .args in
     walking-start (a .settings) (a .clock) (a .peer) (w .worths .result) (w .worths .ensures) (g .pass .result) (g .pass .ensures)
-    (t .enum-told .given .1) (n .count .result) (n .count .ensures) (i .start .result) (i .start .ensures) _ refl
+    (t .enum-told .given .1) (n .count .result) (n .count .ensures) (c .start .result) (c .start .ensures) _ refl
 
 mul-at : tie.Need-mul-at Inv-loop μ-loop
 mul-at c = search needs
