@@ -16,6 +16,7 @@ use Rattle.slots.specs.Lists.{outgoing, outItems}
 use Rattle.parts.specs.Fresh.{noOutgoing}
 use Rattle.parts.specs.Damage.{usedOut}
 use Rattle.parts.specs.declared.groups.Flow.{Flow}
+use Rattle.parts.specs.declared.groups.Lists.{Lists}
 use Rattle.parts.specs.declared.groups.Times.{Times}
 use Rattle.peer.specs.Outcome.{Came}
 use Rattle.peer.specs.Gate.{fits, gateOf}
@@ -38,34 +39,9 @@ use Rattle.acknowledge.specs.Calls.{answerOf, heardIn, received, eventIn
 use Rattle.acknowledge.specs.declared.Reply.{Reply}
 use Rattle.acknowledge.specs.declared.Reply.the-variants as vr
 
--- the command at a spot that its list has is removed: each part by its equation
-module _ (p : Peer) (clock sample : ℕ) (named : exist outgoing (usedOut (p .lists)) ≡ true) (w : Spot) (placed : Placed w (p .lists))
-    (m : Measured) (k : Taken) (now times : Times) (flow : Flow) (command : ℕ) (reply : Reply)
-    (mq : m ≡ measured (eqb (p .times .«last_receive») 0) sample clock (p .throttling) (p .trips))
-    (kq : k ≡ takenBy w (p .lists))
-    (nq : now ≡ received clock (p .times))
-    (tq : times ≡ timesWithout (k .removed) (k .left) (getD (p .outgoing) (k .head) noOutgoing) now)
-    (fq : flow ≡ flowWithout w (getD (p .outgoing) (k .slot) noOutgoing) (p .flow))
-    (cq : command ≡ commandAt (k .removed) (getD (p .outgoing) (k .slot) noOutgoing))
-    (rq : reply ≡ eventIn (p .standing .state) command (k .lists)) where
-  abbrev slot : First
-  slot = slotAt w (p .lists)
-
-  abbrev head : First
-  head = first (outItems (listsWithout w (p .lists) .sent))
-
-  times-is : times ≡ timesWithout (isSome slot) (isSome head) (heldBy (p .outgoing) head) (received clock (p .times))
-  times-is =
-      tq ∙ rw (kq, nq) (times-read (p .outgoing) head (left-exists (p .lists) named w) (isSome slot) (received clock (p .times)))
-
-  flow-is : flow ≡ flowWithout w (heldBy (p .outgoing) slot) (p .flow)
-  flow-is = fq ∙ rw kq (flow-read (p .outgoing) w (p .lists) (spot-exists (p .lists) named w placed) (p .flow))
-
-  command-is : command ≡ commandAt (isSome slot) (heldBy (p .outgoing) slot)
-  command-is = cq ∙ rw kq (command-read (p .outgoing) slot (spot-exists (p .lists) named w placed))
-
-  heard-at : Came answerOf (heardAt w sample clock p) reply (withHeard p times (m .throttling) (m .trips) flow (k .lists))
-  heard-at = record { answer = rw (rq, command-is, kq); after = rw (times-is, flow-is, mq, kq) }
+-- sent's head once the command is gone
+abbrev headLeft : Spot → Lists → First
+headLeft w l = first (outItems (listsWithout w l .sent))
 
 -- ws, g and t are what the code answered
 module _ (s : Settings) (channel number sent clock : ℕ) (p : Peer) (ws : List ℕ) (v : ws ≡ worthsOf p)
@@ -92,17 +68,31 @@ module _ (s : Settings) (channel number sent clock : ℕ) (p : Peer) (ws : List 
     placed : Placed w (p .lists)
     placed = rw wq (spot-placed (at looked) (at queued) (p .lists))
 
-    pub heard : (m : Measured) (k : Taken) (now times : Times) (flow : Flow) (command : ℕ) (reply : Reply)
-        → m ≡ measured (eqb (p .times .«last_receive») 0) sample clock (p .throttling) (p .trips)
-        → k ≡ takenBy w (p .lists)
-        → now ≡ received clock (p .times)
-        → times ≡ timesWithout (k .removed) (k .left) (getD (p .outgoing) (k .head) noOutgoing) now
-        → flow ≡ flowWithout w (getD (p .outgoing) (k .slot) noOutgoing) (p .flow)
-        → command ≡ commandAt (k .removed) (getD (p .outgoing) (k .slot) noOutgoing)
-        → reply ≡ eventIn (p .standing .state) command (k .lists)
-        → Came answerOf (acknowledges s channel number sent clock p) reply
-        (withHeard p times (m .throttling) (m .trips) flow (k .lists))
-    heard m k now times flow command reply mq kq nq tq fq cq rq =
-        let y = withHeard p times (m .throttling) (m .trips) flow (k .lists) in
-        let c = heard-at p clock sample named w placed m k now times flow command reply mq kq nq tq fq cq rq in
-        came reply y (rw z (rw spot-is at c))
+    -- the command is removed: each part that the code makes, by its equation
+    module _ (m : Measured) (k : Taken) (now times : Times) (flow : Flow) (command : ℕ) (reply : Reply)
+        (mq : m ≡ measured (eqb (p .times .«last_receive») 0) sample clock (p .throttling) (p .trips))
+        (kq : k ≡ takenBy w (p .lists))
+        (nq : now ≡ received clock (p .times))
+        (tq : times ≡ timesWithout (k .removed) (k .left) (getD (p .outgoing) (k .head) noOutgoing) now)
+        (fq : flow ≡ flowWithout w (getD (p .outgoing) (k .slot) noOutgoing) (p .flow))
+        (cq : command ≡ commandAt (k .removed) (getD (p .outgoing) (k .slot) noOutgoing))
+        (rq : reply ≡ eventIn (p .standing .state) command (k .lists)) where
+      times-is : times
+          ≡ timesWithout (isSome (slotAt w (p .lists))) (isSome (headLeft w (p .lists))) (heldBy (p .outgoing) (headLeft w (p .lists)))
+          (received clock (p .times))
+      times-is =
+          tq
+          ∙ rw (kq, nq)
+          (times-read (p .outgoing) (headLeft w (p .lists)) (left-exists (p .lists) named w) (isSome (slotAt w (p .lists))) (received clock (p .times)))
+
+      flow-is : flow ≡ flowWithout w (heldBy (p .outgoing) (slotAt w (p .lists))) (p .flow)
+      flow-is = fq ∙ rw kq (flow-read (p .outgoing) w (p .lists) (spot-exists (p .lists) named w placed) (p .flow))
+
+      command-is : command ≡ commandAt (isSome (slotAt w (p .lists))) (heldBy (p .outgoing) (slotAt w (p .lists)))
+      command-is = cq ∙ rw kq (command-read (p .outgoing) (slotAt w (p .lists)) (spot-exists (p .lists) named w placed))
+
+      heard-at : Came answerOf (heardAt w sample clock p) reply (withHeard p times (m .throttling) (m .trips) flow (k .lists))
+      heard-at = record { answer = rw (rq, command-is, kq); after = rw (times-is, flow-is, mq, kq) }
+
+      pub heard : Came answerOf (acknowledges s channel number sent clock p) reply (withHeard p times (m .throttling) (m .trips) flow (k .lists))
+      heard = came reply (withHeard p times (m .throttling) (m .trips) flow (k .lists)) (rw z (rw spot-is at heard-at))

@@ -123,8 +123,7 @@ returns-3 c =
     let t = x .before .before in
     let g = t .before .before .before in
     let b = g .before in
-    let o = b .before in
-    let a = o .before .before .before .before .args in
+    let a = b .before .before .before .before .before .args in
     let ok = l .looks .ok in
     let size : length (l .looks .result) ≡ outgoing = search needs in
     heard (a .settings) (a .channel) (a .number .0) (a .sent) (a .clock) (a .peer) (b .worths .result) (b .worths .ensures) (g .pass .result)
