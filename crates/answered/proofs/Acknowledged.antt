@@ -37,15 +37,16 @@ use Rattle.peer.proofs.OutClauses.{others-fit, out-sound}
 use Rattle.removal.specs.Removal.{spotOf, inSent, inQueue, cut, listsWithout, flowWithout}
 use Rattle.removal.specs.declared.Spot.{Spot}
 use Rattle.removal.specs.declared.Spot.the-variants as spot
+use Rattle.removal.proofs.Laws.{Placed, spot-placed}
 use Rattle.acknowledge.specs.Calls.{heardIn, heardAt, acknowledgesBy, acknowledgesSound, acknowledges}
 use Rattle.answered.specs.Freeing.{Removes}
 use Rattle.answered.specs.Freeing as freeing
-use Rattle.answered.proofs.Removing.{Stands, spot-stands, Lost, same, loses, removal-loses, cut-items, loses-times, loses-free}
+use Rattle.answered.proofs.Removing.{Lost, same, loses, removal-loses, cut-items, loses-times, loses-free}
 
--- ---- the spot that is found stands in the lists
-pub found-stands : (slots : List Outgoing) (number channel : ℕ) (l : Lists) → Stands l (spotOf slots number channel l)
-found-stands slots number channel l =
-    spot-stands (λ (s : ℕ). inSent number channel (getD slots s noOutgoing)) (λ (s : ℕ). inQueue number channel (getD slots s noOutgoing)) l
+-- ---- the spot that is found is a place of its list
+pub found-placed : (slots : List Outgoing) (number channel : ℕ) (l : Lists) → Placed (spotOf slots number channel l) l
+found-placed slots number channel l =
+    spot-placed (λ (s : ℕ). inSent number channel (getD slots s noOutgoing)) (λ (s : ℕ). inQueue number channel (getD slots s noOutgoing)) l
 
 -- ---- what it frees
 module _ (p : Peer) (h : sound p ≡ true) (w : Spot) (sample clock : ℕ) where
@@ -67,7 +68,7 @@ by-removes : (t : Trip) (channel number clock : ℕ) (p : Peer) → sound p ≡ 
 by-removes PassedOver channel number clock p h = freeing.none refl refl
 by-removes (Taken sample) channel number clock p h =
     let w = spotOf (p .outgoing) number channel (p .lists) in
-    heard-removes p h w sample clock (removal-loses (p .lists) w (found-stands (p .outgoing) number channel (p .lists)))
+    heard-removes p h w sample clock (removal-loses (p .lists) w (found-placed (p .outgoing) number channel (p .lists)))
 
 pub acknowledge-removes : (s : Settings) (channel number sent clock : ℕ) (p : Peer) → Removes p (acknowledges s channel number sent clock p .after)
 acknowledge-removes s channel number sent clock p =
@@ -116,7 +117,7 @@ used-less : (l : Lists) (w : Spot) → Lost l w → (k : ℕ) → times (usedOut
 used-less l w (same e) k = omega (arith, ap (λ (x : Lists). times (usedOut x) k) e)
 used-less l w (loses x) k = omega (arith, loses-times (usedOut l) (usedOut (listsWithout w l)) x k)
 
-heard-sound : (w : Spot) (sample clock : ℕ) (p : Peer) → Stands (p .lists) w → Clauses p → sound (heardAt w sample clock p .after) ≡ true
+heard-sound : (w : Spot) (sample clock : ℕ) (p : Peer) → Placed w (p .lists) → Clauses p → sound (heardAt w sample clock p .after) ≡ true
 heard-sound w sample clock p st c =
     out-sound p (heardAt w sample clock p .after) c
     (record {
@@ -133,7 +134,7 @@ heard-sound w sample clock p st c =
 by-sound : (t : Trip) (channel number clock : ℕ) (p : Peer) → sound p ≡ true → sound (acknowledgesBy t channel number clock p .after) ≡ true
 by-sound PassedOver channel number clock p h = h
 by-sound (Taken sample) channel number clock p h =
-    heard-sound (spotOf (p .outgoing) number channel (p .lists)) sample clock p (found-stands (p .outgoing) number channel (p .lists))
+    heard-sound (spotOf (p .outgoing) number channel (p .lists)) sample clock p (found-placed (p .outgoing) number channel (p .lists))
     (sound-clauses p h)
 
 by-whole : (t : Trip) (channel number clock : ℕ) (p : Peer) → Whole p → Whole (acknowledgesBy t channel number clock p .after)

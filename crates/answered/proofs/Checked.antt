@@ -31,11 +31,12 @@ use Rattle.peer.proofs.Gates.{behind-has, sound-open}
 use Rattle.peer.proofs.Sound.{gated-sounds}
 use Rattle.peer.proofs.Clauses.{Clauses, sound-clauses, all-at}
 use Rattle.peer.proofs.OutClauses.{others-fit, out-sound}
-use Rattle.overdue.specs.Overdue.{stays, toOutgoing, toReliable}
-use Rattle.overdue.specs.Walking.{startOf, bearing, ahead, listsBy}
+use Rattle.overdue.specs.Overdue.{stays, backOutgoing, backReliable}
+use Rattle.overdue.specs.Walking.{atEntry, bearing, ahead, listsBy}
+use Rattle.overdue.proofs.Laws.{bearing-length}
 use Rattle.timeouts.specs.Calls.{walkOf, checksSound, checks}
 use Rattle.answered.specs.Moving.{Moves}
-use Rattle.answered.proofs.Marking.{Low, walk-low, bearing-times, bearing-length, bearing-some, unmarked-stay, unmarked-move, Keeps, walk-keeps, walk-length}
+use Rattle.answered.proofs.Marking.{Low, walk-low, bearing-times, bearing-some, unmarked-stay, unmarked-move, Keeps, walk-keeps, walk-length}
 
 -- a run before a list that has room for it
 ahead-items : (l : OutList) (run : List ℕ) → length run + length (outItems l) ≤ outgoing → outItems (ahead l run) ≡ run ++ outItems l
@@ -75,11 +76,11 @@ module _ (p : Peer) (c : Clauses p) (ms : List ℕ) (low : Low ms) where
   pub sent-items : outItems (listsBy ms l .sent) ≡ bearing stays ms sent
   sent-items = out-items-keep (l .sent) (bearing stays ms sent)
 
-  pub reliable-items : outItems (listsBy ms l .reliable) ≡ bearing toReliable ms sent ++ outItems (l .reliable)
-  reliable-items = ahead-items (l .reliable) (bearing toReliable ms sent) (omega (arith, space, bearing-length toReliable ms sent))
+  pub reliable-items : outItems (listsBy ms l .reliable) ≡ bearing backReliable ms sent ++ outItems (l .reliable)
+  reliable-items = ahead-items (l .reliable) (bearing backReliable ms sent) (omega (arith, space, bearing-length backReliable ms sent))
 
-  pub outgoing-items : outItems (listsBy ms l .outgoing) ≡ bearing toOutgoing ms sent ++ outItems (l .outgoing)
-  outgoing-items = ahead-items (l .outgoing) (bearing toOutgoing ms sent) (omega (arith, space, bearing-length toOutgoing ms sent))
+  pub outgoing-items : outItems (listsBy ms l .outgoing) ≡ bearing backOutgoing ms sent ++ outItems (l .outgoing)
+  outgoing-items = ahead-items (l .outgoing) (bearing backOutgoing ms sent) (omega (arith, space, bearing-length backOutgoing ms sent))
 
   pub used-same : (k : ℕ) → times (usedOut (listsBy ms l)) k ≡ times (usedOut l) k
   used-same k =
@@ -92,8 +93,8 @@ module _ (p : Peer) (c : Clauses p) (ms : List ℕ) (low : Low ms) where
         times-append sent (outItems (l .reliable) ++ outItems (l .outgoing)) k,
         times-append (outItems (l .reliable)) (outItems (l .outgoing)) k,
         ap (λ (xs : List ℕ). times xs k) sent-items,
-        ap (λ (xs : List ℕ). times xs k) reliable-items ∙ times-append (bearing toReliable ms sent) (outItems (l .reliable)) k,
-        ap (λ (xs : List ℕ). times xs k) outgoing-items ∙ times-append (bearing toOutgoing ms sent) (outItems (l .outgoing)) k,
+        ap (λ (xs : List ℕ). times xs k) reliable-items ∙ times-append (bearing backReliable ms sent) (outItems (l .reliable)) k,
+        ap (λ (xs : List ℕ). times xs k) outgoing-items ∙ times-append (bearing backOutgoing ms sent) (outItems (l .outgoing)) k,
       )
 
 -- ---- the check on a sound record
@@ -105,10 +106,10 @@ module _ (clock : ℕ) (p : Peer) (c : Clauses p) where
   after = checksSound clock p .after
 
   low : Low marks
-  low = walk-low (p .limits) clock (outItems (p .lists .sent)) (startOf (p .times) (p .loss) (p .flow)) (p .outgoing)
+  low = walk-low (p .limits) clock (outItems (p .lists .sent)) (atEntry (p .times) (p .loss) (p .flow)) (p .outgoing)
 
   slots : (k : ℕ) → Keeps (getD (p .outgoing) k noOutgoing) (getD (after .outgoing) k noOutgoing)
-  slots = walk-keeps (p .limits) clock (outItems (p .lists .sent)) (startOf (p .times) (p .loss) (p .flow)) (p .outgoing)
+  slots = walk-keeps (p .limits) clock (outItems (p .lists .sent)) (atEntry (p .times) (p .loss) (p .flow)) (p .outgoing)
 
   walk-moves : Moves p after
   walk-moves =
@@ -132,8 +133,8 @@ module _ (clock : ℕ) (p : Peer) (c : Clauses p) where
   walk-sound =
       out-sound p after c (record { mtu = refl; standing = refl; dispatched = refl; total = refl; channels = refl; incoming = refl })
       (others-fit (p .lists) (listsBy marks (p .lists) .sent) (listsBy marks (p .lists) .reliable) (listsBy marks (p .lists) .outgoing)
-      (kept-fits (p .lists .sent) marks) (ahead-fits (p .lists .reliable) (bearing toReliable marks (outItems (p .lists .sent))))
-      (ahead-fits (p .lists .outgoing) (bearing toOutgoing marks (outItems (p .lists .sent)))) (c .lists))
+      (kept-fits (p .lists .sent) marks) (ahead-fits (p .lists .reliable) (bearing backReliable marks (outItems (p .lists .sent))))
+      (ahead-fits (p .lists .outgoing) (bearing backOutgoing marks (outItems (p .lists .sent)))) (c .lists))
       (λ k. omega (arith, used-same p c marks low k)) (λ k. ap (λ (o : Outgoing). o .command) (slots k))
       (λ k h.
       same-tried k
@@ -152,8 +153,8 @@ none-moved p =
     record {
       marks = [];
       sent = sym (unmarked-stay sent);
-      reliable = ap (λ (xs : List ℕ). xs ++ outItems (p .lists .reliable)) (sym (unmarked-move toReliable refl sent));
-      outgoing = ap (λ (xs : List ℕ). xs ++ outItems (p .lists .outgoing)) (sym (unmarked-move toOutgoing refl sent));
+      reliable = ap (λ (xs : List ℕ). xs ++ outItems (p .lists .reliable)) (sym (unmarked-move backReliable refl sent));
+      outgoing = ap (λ (xs : List ℕ). xs ++ outItems (p .lists .outgoing)) (sym (unmarked-move backOutgoing refl sent));
       names = λ k. refl;
       slots = λ k. refl;
     }
@@ -167,7 +168,7 @@ walk-whole : (clock : ℕ) (p : Peer) → Whole p → Whole (checksSound clock p
 walk-whole clock p w =
     record {
       channels = w .channels;
-      outgoing = walk-length (p .limits) clock (outItems (p .lists .sent)) (startOf (p .times) (p .loss) (p .flow)) (p .outgoing) ∙ w .outgoing;
+      outgoing = walk-length (p .limits) clock (outItems (p .lists .sent)) (atEntry (p .times) (p .loss) (p .flow)) (p .outgoing) ∙ w .outgoing;
       incoming = w .incoming;
     }
 

@@ -15,7 +15,7 @@ use Rattle.parts.specs.Fresh.{noOutgoing}
 use Rattle.parts.specs.Updates.{withTimeout}
 use Rattle.parts.specs.declared.groups.Limits.{Limits}
 use Rattle.parts.specs.declared.groups.Outgoing.{Outgoing}
-use Rattle.overdue.specs.Overdue.{stays, toOutgoing, toReliable, isDue, earliestBy, isGivenUp, nextBy, keptIn, overIn, goesBack, staysIn, stepBy}
+use Rattle.overdue.specs.Overdue.{stays, backOutgoing, backReliable, isDue, earliestBy, isGivenUp, nextBy, keptIn, overIn, goesBack, staysIn, stepBy}
 use Rattle.overdue.specs.Walking.{sentOf, turnBy, walked, bearing}
 use Rattle.overdue.specs.declared.step.Sent.{Sent}
 use Rattle.overdue.specs.declared.step.Walk.{Walk}
@@ -26,11 +26,11 @@ step-mark l clock w o =
     let e = earliestBy (w .earliest) (o .sent) in
     go (nextBy w o) e (w .over) (isDue clock o) (isGivenUp l clock e (o .attempts)) (back (o .packet))
   where
-    back : (b : Bool) → pick b toReliable toOutgoing ≤ 2
+    back : (b : Bool) → pick b backReliable backOutgoing ≤ 2
     back true = omega arith
     back false = omega arith
 
-    go : (n e : ℕ) (a b c : Bool) → pick (o .packet) toReliable toOutgoing ≤ 2
+    go : (n e : ℕ) (a b c : Bool) → pick (o .packet) backReliable backOutgoing ≤ 2
         → pick a (staysIn w o) (pick b (pick c (staysIn (overIn w n e) o) (goesBack w n e o)) (staysIn (keptIn w n) o)) .mark ≤ 2
     go n e true b c h = omega arith
     go n e false true true h = omega arith
@@ -52,16 +52,16 @@ low-rest ms h i = rw (getD-drop 1 ms i stays) (h (1 + i))
 
 -- each slot bears one of them
 pub bearing-times : (ms xs : List ℕ) → Low ms → (k : ℕ)
-    → times (bearing stays ms xs) k + (times (bearing toReliable ms xs) k + times (bearing toOutgoing ms xs) k) ≡ times xs k
+    → times (bearing stays ms xs) k + (times (bearing backReliable ms xs) k + times (bearing backOutgoing ms xs) k) ≡ times xs k
 unfolding bearing
 bearing-times ms [] h k = refl
 bearing-times ms (x ∷ xs) h k = go (getD ms 0 stays) (h 0) (bearing-times (drop 1 ms) xs (low-rest ms h) k)
   where
     go : (m : ℕ) → m ≤ 2
-        → times (bearing stays (drop 1 ms) xs) k + (times (bearing toReliable (drop 1 ms) xs) k + times (bearing toOutgoing (drop 1 ms) xs) k) ≡ times xs k
+        → times (bearing stays (drop 1 ms) xs) k + (times (bearing backReliable (drop 1 ms) xs) k + times (bearing backOutgoing (drop 1 ms) xs) k) ≡ times xs k
         → times (pick (eqb m stays) (x ∷ bearing stays (drop 1 ms) xs) (bearing stays (drop 1 ms) xs)) k
-        + (times (pick (eqb m toReliable) (x ∷ bearing toReliable (drop 1 ms) xs) (bearing toReliable (drop 1 ms) xs)) k
-        + times (pick (eqb m toOutgoing) (x ∷ bearing toOutgoing (drop 1 ms) xs) (bearing toOutgoing (drop 1 ms) xs)) k)
+        + (times (pick (eqb m backReliable) (x ∷ bearing backReliable (drop 1 ms) xs) (bearing backReliable (drop 1 ms) xs)) k
+        + times (pick (eqb m backOutgoing) (x ∷ bearing backOutgoing (drop 1 ms) xs) (bearing backOutgoing (drop 1 ms) xs)) k)
         ≡ one x k + times xs k
     go zero h e = omega (arith, e)
     go (suc zero) h e = omega (arith, e)
@@ -69,16 +69,6 @@ bearing-times ms (x ∷ xs) h k = go (getD ms 0 stays) (h 0) (bearing-times (dro
     go (suc (suc (suc m))) h e = absurd (omega arith)
 
 -- and those of one mark are some of the list
-pub bearing-length : (mark : ℕ) (ms xs : List ℕ) → length (bearing mark ms xs) ≤ length xs
-unfolding bearing
-bearing-length mark ms [] = omega arith
-bearing-length mark ms (x ∷ xs) = go (eqb (getD ms 0 stays) mark) (bearing-length mark (drop 1 ms) xs)
-  where
-    go : (b : Bool) → length (bearing mark (drop 1 ms) xs) ≤ length xs
-        → length (pick b (x ∷ bearing mark (drop 1 ms) xs) (bearing mark (drop 1 ms) xs)) ≤ length (x ∷ xs)
-    go true h = omega arith
-    go false h = omega arith
-
 pub bearing-some : (mark : ℕ) (ms xs : List ℕ) (k : ℕ) → times (bearing mark ms xs) k ≤ times xs k
 unfolding bearing
 bearing-some mark ms [] k = omega arith

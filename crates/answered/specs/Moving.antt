@@ -10,14 +10,14 @@ use Rattle.parts.specs.Fresh.{noOutgoing}
 use Rattle.parts.specs.Damage.{usedOut}
 use Rattle.parts.specs.Updates.{withTimeout}
 use Rattle.peer.specs.declared.record.Peer.{Peer}
-use Rattle.overdue.specs.Overdue.{stays, toOutgoing, toReliable}
+use Rattle.overdue.specs.Overdue.{stays, backOutgoing, backReliable}
 use Rattle.overdue.specs.Walking.{bearing}
 
 pub record Moves (before after : Peer) : Type 0 where
   pub marks : List ℕ
   pub sent : outItems (after .lists .sent) ≡ bearing stays marks (outItems (before .lists .sent))
-  pub reliable : outItems (after .lists .reliable) ≡ bearing toReliable marks (outItems (before .lists .sent)) ++ outItems (before .lists .reliable)
-  pub outgoing : outItems (after .lists .outgoing) ≡ bearing toOutgoing marks (outItems (before .lists .sent)) ++ outItems (before .lists .outgoing)
+  pub reliable : outItems (after .lists .reliable) ≡ bearing backReliable marks (outItems (before .lists .sent)) ++ outItems (before .lists .reliable)
+  pub outgoing : outItems (after .lists .outgoing) ≡ bearing backOutgoing marks (outItems (before .lists .sent)) ++ outItems (before .lists .outgoing)
   pub names : (k : ℕ) → has (usedOut (after .lists)) k ≡ has (usedOut (before .lists)) k
   pub slots : (k : ℕ)
       → getD (after .outgoing) k noOutgoing ≡ withTimeout (getD (before .outgoing) k noOutgoing) (getD (after .outgoing) k noOutgoing .timeout)

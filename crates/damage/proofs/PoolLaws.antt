@@ -6,9 +6,7 @@ use mathlib.Core.Path.{_≡_, refl, ap, sym, _∙_}
 use mathlib.Core.List.{List, [], _∷_, _++_, map}
 use mathlib.Core.Bool.{Bool, true, false}
 use lib.Dec.{eqb}
-use lib.ListN.{length, take, getD, set, replicate, List·getD-map}
-use lib.Seq.{take-suc, take-suc-set}
-use native.Mathlib.Numerals.{add-one}
+use lib.ListN.{take, getD, set, replicate, List·getD-map}
 use Rattle.numbers.proofs.BoolLaws.{both-with-true}
 use Rattle.numbers.specs.Pick.{pick, both}
 use Rattle.runs.specs.Free.{exist, once, markedAll}
@@ -107,10 +105,6 @@ pub worth-sound : (mtu count total : ℕ) (l : Lists) (cs : List Channel) (out :
 worth-sound mtu count total l cs out inn =
     let e = out-same (worthPasses (map (worthOf count) out)) (outPasses out count) (worth-passes out count) l 3 0 (replicate outgoing 0) ∙ sym (out-is out l count) in
     ap (λ (b : Bool). both (ranged mtu count) (both (both (listsFit l) (heldFit (below cs count))) (both b (inSound inn l (below cs count) count total)))) e
-
--- a turn of the loop over the slots: one more of them is known
-pub worth-turn : (w t : List ℕ) (m v : ℕ) → m < length w → m < length t → v ≡ getD t m 0 → take m w ≡ take m t → take (m + 1) (set w m v) ≡ take (m + 1) t
-worth-turn w t m v h k e q = rw (add-one, take-suc-set w m v h, take-suc t m 0 k, q, e)
 
 -- a turn of the loop over the lists, where list k is x and its n cells are its items: the walk over it stops, or goes on to the next list
 module _ (f : Bool → ℕ → Bool) (l : Lists) (k : ℕ) (m : List ℕ) (h : k < 3) (x : OutList) (n : ℕ) (is : x ≡ listAt l k)

@@ -19,7 +19,7 @@ use Rattle.slots.specs.declared.outgoing.OutList.{OutList}
 use Rattle.slots.proofs.Views.{out-items-keep}
 use Rattle.parts.specs.declared.groups.Limits.{Limits}
 use Rattle.parts.specs.declared.groups.Lists.{Lists}
-use Rattle.overdue.specs.Overdue.{stays, toOutgoing, toReliable, isDue, keptIn, nextBy, dueBy, staysIn, stepBy}
+use Rattle.overdue.specs.Overdue.{stays, backOutgoing, backReliable, isDue, keptIn, nextBy, dueBy, staysIn, stepBy}
 use Rattle.overdue.specs.Walking.{bearing, ahead, listsBy}
 use Rattle.overdue.specs.declared.step.Sent.{Sent}
 use Rattle.overdue.specs.declared.step.Walk.{Walk}
@@ -128,4 +128,4 @@ bearing-within mark (suc n) (m ∷ ms) (x ∷ xs) h = rw (bearing-within mark n 
 pub lists-within : (n : ℕ) (ms : List ℕ) (l : Lists) → length (outItems (l .sent)) ≤ n → listsBy (take n ms) l ≡ listsBy ms l
 lists-within n ms l h =
     let sent = outItems (l .sent) in
-    rw (bearing-within stays n ms sent h, bearing-within toReliable n ms sent h, bearing-within toOutgoing n ms sent h)
+    rw (bearing-within stays n ms sent h, bearing-within backReliable n ms sent h, bearing-within backOutgoing n ms sent h)

@@ -18,11 +18,11 @@ use Rattle.overdue.specs.declared.step.After.{After}
 abbrev pub stays : ℕ
 stays = 0
 
-abbrev pub toOutgoing : ℕ
-toOutgoing = 1
+abbrev pub backOutgoing : ℕ
+backOutgoing = 1
 
-abbrev pub toReliable : ℕ
-toReliable = 2
+abbrev pub backReliable : ℕ
+backReliable = 2
 
 abbrev pub isDue : ℕ → Sent → Bool
 isDue clock o = leb (o .timeout) (apart clock (o .sent))
@@ -65,7 +65,7 @@ backIn w next earliest o =
 -- a packet goes back to send-reliable, another command to outgoing, with its timeout doubled
 abbrev pub goesBack : Walk → ℕ → ℕ → Sent → After
 goesBack w next earliest o =
-    record { walk = backIn w next earliest o; timeout = sum 32 (o .timeout) (o .timeout); mark = pick (o .packet) toReliable toOutgoing }
+    record { walk = backIn w next earliest o; timeout = sum 32 (o .timeout) (o .timeout); mark = pick (o .packet) backReliable backOutgoing }
 
 abbrev pub staysIn : Walk → Sent → After
 staysIn w o = record { walk = w; timeout = o .timeout; mark = stays }

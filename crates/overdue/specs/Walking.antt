@@ -17,7 +17,7 @@ use Rattle.parts.specs.declared.groups.Flow.{Flow}
 use Rattle.parts.specs.declared.groups.Limits.{Limits}
 use Rattle.parts.specs.declared.groups.Lists.{Lists}
 use Rattle.parts.specs.declared.groups.Outgoing.{Outgoing}
-use Rattle.overdue.specs.Overdue.{stays, toOutgoing, toReliable, stepBy}
+use Rattle.overdue.specs.Overdue.{stays, backOutgoing, backReliable, stepBy}
 use Rattle.overdue.specs.declared.step.Sent.{Sent}
 use Rattle.overdue.specs.declared.step.Walk.{Walk}
 use Rattle.overdue.specs.declared.turn.Turned.{Turned}
@@ -32,8 +32,8 @@ turnBy l clock w o =
     let r = stepBy l clock w (sentOf o) in record { walk = r .walk; slot = withTimeout o (r .timeout); mark = r .mark }
 
 -- the numbers of the record that the walk begins with
-abbrev pub startOf : Times → Loss → Flow → Walk
-startOf t l f =
+abbrev pub atEntry : Times → Loss → Flow → Walk
+atEntry t l f =
     record {
       earliest = t .«earliest_timeout»;
       next = t .«next_timeout»;
@@ -72,7 +72,7 @@ listsBy ms l =
     let sent = outItems (l .sent) in
     record {
       sent = outKeep (l .sent) (bearing stays ms sent);
-      reliable = ahead (l .reliable) (bearing toReliable ms sent);
-      outgoing = ahead (l .outgoing) (bearing toOutgoing ms sent);
+      reliable = ahead (l .reliable) (bearing backReliable ms sent);
+      outgoing = ahead (l .outgoing) (bearing backOutgoing ms sent);
       dispatched = l .dispatched;
     }

@@ -2,9 +2,9 @@
 ghost use mathlib.Core.Path.{_≡_};
 ghost use Rattle.slots.specs.Lists.{outItems, outKeep};
 ghost use Rattle.overdue.specs.Walking.{bearing, listsBy};
+use crate::step::BACK_OUTGOING;
+use crate::step::BACK_RELIABLE;
 use crate::step::STAYS;
-use crate::step::TO_OUTGOING;
-use crate::step::TO_RELIABLE;
 use parts::groups::Lists;
 use slots::OUTGOING;
 use slots::outgoing::OutList;
@@ -39,8 +39,8 @@ pub fn send_back(lists: Lists, marks: [u8; OUTGOING]) -> Lists
     let reliable = lists.reliable;
     let outgoing = lists.outgoing;
     let kept = bearing(sent, marks, STAYS);
-    let packets = bearing(sent, marks, TO_RELIABLE);
-    let others = bearing(sent, marks, TO_OUTGOING);
+    let packets = bearing(sent, marks, BACK_RELIABLE);
+    let others = bearing(sent, marks, BACK_OUTGOING);
     let reliable = reliable.prepend(packets);
     let outgoing = outgoing.prepend(others);
     let mut l = lists;

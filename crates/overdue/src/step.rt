@@ -35,9 +35,9 @@ pub struct After {
 // It stays in sent, or goes back to outgoing or to send-reliable.
 pub const STAYS: u8 = 0;
 
-pub const TO_OUTGOING: u8 = 1;
+pub const BACK_OUTGOING: u8 = 1;
 
-pub const TO_RELIABLE: u8 = 2;
+pub const BACK_RELIABLE: u8 = 2;
 
 fn is_due(clock: u32, o: Sent) -> bool
     ensures { λ r. ⌜ r ≡ isDue clock o ⌝ }
@@ -112,14 +112,14 @@ fn go_back(walk: Walk, next: u32, earliest: u32, o: Sent) -> After
         return After {
             walk: w,
             timeout,
-            mark: TO_OUTGOING,
+            mark: BACK_OUTGOING,
         };
     }
     w.transit = std::num::wrapping_sub_u32(walk.transit, o.length as u32);
     After {
         walk: w,
         timeout,
-        mark: TO_RELIABLE,
+        mark: BACK_RELIABLE,
     }
 }
 

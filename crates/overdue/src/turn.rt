@@ -1,6 +1,6 @@
 // The step on a slot of the record.
 ghost use mathlib.Core.Path.{_≡_};
-ghost use Rattle.overdue.specs.Walking.{sentOf, turnBy, startOf};
+ghost use Rattle.overdue.specs.Walking.{sentOf, turnBy, atEntry};
 use crate::step;
 use crate::step::Sent;
 use crate::step::Walk;
@@ -18,7 +18,7 @@ pub struct Turned {
 
 // The numbers that the walk begins with.
 pub fn start(times: Times, loss: Loss, flow: Flow) -> Walk
-    ensures { λ r. ⌜ r ≡ startOf times loss flow ⌝ }
+    ensures { λ r. ⌜ r ≡ atEntry times loss flow ⌝ }
 {
     Walk {
         earliest: times.earliest_timeout,

@@ -6,11 +6,9 @@ use Prim.Native.Nat.{ℕ, _+_, _≤_, _<_}
 use mathlib.Core.Path.{_≡_, refl, sym, _∙_}
 use mathlib.Core.Bool.{Bool, true, false}
 use mathlib.Core.List.{List, [], _∷_, _++_, map}
-use native.Mathlib.Numerals.{add-one}
 use native.Mathlib.Omega.{arith}
 use lib.Dec.{eqb, ltb}
-use lib.ListN.{length, take, drop, getD, set, length-map, List·getD-map}
-use lib.Seq.{take-suc, take-suc-set}
+use lib.ListN.{length, take, drop, getD, length-map, List·getD-map}
 use borrow.Author.Tests.{eq-eqb, ne-eqb, lt-ltb, ltb-true}
 use Rattle.numbers.specs.Pick.{pick}
 use Rattle.numbers.proofs.BoolLaws.{both-left, both-right}
@@ -42,13 +40,6 @@ module _ (f : Outgoing → ℕ) (slots : List Outgoing) (m : ℕ) (h : m < lengt
   made-at =
       let l = length-map slots f in
       at-any (map f slots) m 0 (f noOutgoing) (omega arith) ∙ List·getD-map f slots m noOutgoing
-
-  -- a turn of the loop: one more is known
-  pub made-turn : (all : List ℕ) (v : ℕ) → m < length all → v ≡ f (getD slots m noOutgoing)
-      → take m all ≡ take m (map f slots) → take (m + 1) (set all m v) ≡ take (m + 1) (map f slots)
-  made-turn all v k e q =
-      let l = length-map slots f in
-      rw (add-one, take-suc-set all m v k, take-suc (map f slots) m 0 (omega arith), q, e ∙ sym made-at)
 
 -- v is what the search makes of the slot at place k
 module _ (f : ℕ → ℕ) (xs : List ℕ) (n k : ℕ) (e : n ≤ length xs) (h : k < n) (v : ℕ) (is : v ≡ f (getD xs k 0)) where

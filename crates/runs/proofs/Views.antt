@@ -1,13 +1,13 @@
 -- What is left of a list from place k on, whatever its elements are: element k and what is left from the next place, or nothing;
--- its first, and a place of it. The argument: `drop-cons`, and the length of what is taken.
+-- its first, and a place of it; a list that is made cell by cell. The argument: `drop-cons`, and the length of what is taken.
 use Prim.Native.Nat.{ℕ, zero, suc, _+_, _≤_, _<_}
 use mathlib.Core.Path.{_≡_, refl}
 use mathlib.Core.List.{List, [], _∷_}
 use native.Mathlib.Nat.{le-of-suc-le-suc, not-suc-le-zero}
 use native.Mathlib.Numerals.{add-one}
 use native.Mathlib.Omega.{arith}
-use lib.ListN.{length, take, drop, getD, length-take, drop-of-length-le}
-use lib.Seq.{drop-cons, getD-take}
+use lib.ListN.{length, take, drop, getD, set, length-take, drop-of-length-le}
+use lib.Seq.{drop-cons, getD-take, take-suc, take-suc-set}
 use Rattle.runs.specs.Runs.{first}
 use Rattle.runs.specs.declared.First.the-variants.{Slot}
 
@@ -21,6 +21,10 @@ at-any (x ∷ xs) (suc i) d e h = at-any xs i d e (le-of-suc-le-suc h)
 pub first-cons : (xs : List ℕ) (s : ℕ) → first xs ≡ Slot s → xs ≡ s ∷ drop 1 xs
 first-cons [] s e = let z : _≡_ {A = ℕ} 0 1 = cc in absurd (omega arith)
 first-cons (x ∷ xs) s e = let z : x ≡ s = cc in rw z
+
+-- a turn of a loop that makes t cell by cell: one more of them is known
+pub made-turn : (w t : List ℕ) (m v : ℕ) → m < length w → m < length t → v ≡ getD t m 0 → take m w ≡ take m t → take (m + 1) (set w m v) ≡ take (m + 1) t
+made-turn w t m v h k e q = rw (add-one, take-suc-set w m v h, take-suc t m 0 k, q, e)
 
 module _ {A : Type 0} (xs : List A) (k : ℕ) where
   pub rest-step : (d : A) → k < length xs → drop k xs ≡ getD xs k d ∷ drop (k + 1) xs

@@ -31,7 +31,7 @@ use Rattle.peer.specs.declared.gate.Gate.the-variants.{Open}
 use Rattle.peer.specs.declared.gate.Lent.the-variants.{Nothing}
 use Rattle.peer.proofs.Gates.{worthsOf, soundBy, open-sound, came-open}
 use Rattle.peer.proofs.Clauses.{sound-clauses}
-use Rattle.overdue.specs.Walking.{Walked, walked, markedBy, turnBy, startOf, listsBy}
+use Rattle.overdue.specs.Walking.{Walked, walked, markedBy, turnBy, atEntry, listsBy}
 use Rattle.overdue.proofs.Laws.{lists-within}
 use Rattle.overdue.specs.declared.step.Walk.{Walk}
 use Rattle.overdue.specs.declared.turn.Turned.{Turned}
@@ -110,7 +110,7 @@ stored p w lists slots =
 
 -- ---- the check: ws, g, n and w₀ are what the code answered
 module _ (s : Settings) (clock : ℕ) (p : Peer) (ws : List ℕ) (v : ws ≡ worthsOf p) (g : Gate) (e : g ≡ gateOf (fits s Nothing) (soundBy p ws))
-    (passed : g ≡ Open) (n : ℕ) (counted : OutCounted (p .lists .sent) n) (w₀ : Walk) (we : w₀ ≡ startOf (p .times) (p .loss) (p .flow)) where
+    (passed : g ≡ Open) (n : ℕ) (counted : OutCounted (p .lists .sent) n) (w₀ : Walk) (we : w₀ ≡ atEntry (p .times) (p .loss) (p .flow)) where
   abbrev sent : List ℕ
   sent = outItems (p .lists .sent)
 

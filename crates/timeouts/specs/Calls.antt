@@ -11,7 +11,7 @@ use Rattle.peer.specs.Gate.{onRecord}
 use Rattle.peer.specs.Updates.{withChecked}
 use Rattle.peer.specs.declared.settings.Settings.{Settings}
 use Rattle.peer.specs.declared.record.Peer.{Peer}
-use Rattle.overdue.specs.Walking.{Walked, startOf, walked, listsBy}
+use Rattle.overdue.specs.Walking.{Walked, atEntry, walked, listsBy}
 use Rattle.timeouts.specs.declared.Reply.{Reply}
 use Rattle.timeouts.specs.declared.Reply.the-variants as vr
 
@@ -26,7 +26,7 @@ replyBy over = pick over vr.Disconnect vr.Done
 
 -- the walk over a record's sent list
 abbrev pub walkOf : ℕ → Peer → Walked
-walkOf clock p = walked (p .limits) clock (outItems (p .lists .sent)) (startOf (p .times) (p .loss) (p .flow)) (p .outgoing)
+walkOf clock p = walked (p .limits) clock (outItems (p .lists .sent)) (atEntry (p .times) (p .loss) (p .flow)) (p .outgoing)
 
 -- the record with what a walk made
 abbrev pub walkedOn : Peer → Walked → Peer

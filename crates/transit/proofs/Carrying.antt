@@ -66,16 +66,17 @@ use Rattle.sendstep.proofs.Freeing.{sentBy, sent-by, joined-items, without-sent
 use Rattle.throttling.specs.Calls.{throttlesSound, throttles}
 use Rattle.removal.specs.Removal.{spotOf}
 use Rattle.removal.specs.declared.Spot.{Spot}
+use Rattle.removal.specs.declared.Spot.the-variants as spot
+use Rattle.removal.proofs.Laws.{Placed}
 use Rattle.acknowledge.specs.Calls.{heardIn, heardAt, acknowledgesBy, acknowledgesSound, acknowledges}
-use Rattle.overdue.specs.Overdue.{stays, toOutgoing, toReliable, isDue, earliestBy, isGivenUp, nextBy, keptIn, overIn, goesBack, staysIn, stepBy}
-use Rattle.overdue.specs.Walking.{sentOf, turnBy, startOf, walked, bearing}
+use Rattle.overdue.specs.Overdue.{stays, backOutgoing, backReliable, isDue, earliestBy, isGivenUp, nextBy, keptIn, overIn, goesBack, staysIn, stepBy}
+use Rattle.overdue.specs.Walking.{sentOf, turnBy, atEntry, walked, bearing}
 use Rattle.overdue.specs.declared.step.Sent.{Sent}
 use Rattle.overdue.specs.declared.step.Walk.{Walk}
 use Rattle.overdue.specs.declared.step.After.{After}
 use Rattle.timeouts.specs.Calls.{walkOf, checksSound, checks}
-use Rattle.answered.proofs.Removing.{Stands, cut-items}
-use Rattle.answered.proofs.Removing as removing
-use Rattle.answered.proofs.Acknowledged.{found-stands}
+use Rattle.answered.proofs.Removing.{cut-items}
+use Rattle.answered.proofs.Acknowledged.{found-placed}
 use Rattle.answered.proofs.Marking.{Keeps, keeps-on, set-keeps, walk-keeps}
 use Rattle.transit.specs.Transit.{load, loads, limit, Carries, Reached}
 use Rattle.transit.specs.Transit as transit
@@ -277,8 +278,8 @@ module _ (sample clock : ℕ) (p : Peer) (c : Carries p) where
   unloaded true f n r h e = less (f .transit) r n h e
   unloaded false f n r h e = omega (arith, e)
 
-  heard-carries : (w : Spot) → Stands (p .lists) w → Carries (heardAt w sample clock p .after)
-  heard-carries w (removing.sent k h) =
+  heard-carries : (w : Spot) → Placed w (p .lists) → Carries (heardAt w sample clock p .after)
+  heard-carries (spot.Sent k) h =
       let xs = outItems (p .lists .sent) in
       record {
         low = c .low;
@@ -287,9 +288,9 @@ module _ (sample clock : ℕ) (p : Peer) (c : Carries p) where
             (c .is ∙ ap (λ (n : ℕ). n % 2 ^ 32) (loads-without (p .outgoing) xs k h))
             ∙ ap (λ (ys : List ℕ). loads (p .outgoing) ys % 2 ^ 32) (sym (cut-items (p .lists .sent) k));
       }
-  heard-carries w (removing.outgoing k h) = record { low = c .low; is = c .is }
-  heard-carries w (removing.reliable k h) = record { low = c .low; is = c .is }
-  heard-carries w removing.nowhere = record { low = c .low; is = c .is }
+  heard-carries (spot.Outgoing k) h = record { low = c .low; is = c .is }
+  heard-carries (spot.Reliable k) h = record { low = c .low; is = c .is }
+  heard-carries spot.Nowhere h = record { low = c .low; is = c .is }
 
 acknowledge-carries : (s : Settings) (channel number sent clock : ℕ) (p : Peer) → Carries p → Carries (acknowledges s channel number sent clock p .after)
 acknowledge-carries s channel number sent clock p c =
@@ -298,7 +299,7 @@ acknowledge-carries s channel number sent clock p c =
     go : (t : Trip) → Carries (acknowledgesBy t channel number clock p .after)
     go PassedOver = c
     go (Taken sample) =
-        heard-carries sample clock p c (spotOf (p .outgoing) number channel (p .lists)) (found-stands (p .outgoing) number channel (p .lists))
+        heard-carries sample clock p c (spotOf (p .outgoing) number channel (p .lists)) (found-placed (p .outgoing) number channel (p .lists))
 
 -- ---- the timeout check: a step leaves the number and the command, or takes away the command's load with it
 data Steps (w : Walk) (o : Sent) (r : After) : Type 0 where
@@ -310,11 +311,11 @@ step-steps l clock w o =
     let e = earliestBy (w .earliest) (o .sent) in
     go (nextBy w o) e (w .over) (isDue clock o) (isGivenUp l clock e (o .attempts)) (back (o .packet))
   where
-    back : (b : Bool) → eqb (pick b toReliable toOutgoing) stays ≡ false
+    back : (b : Bool) → eqb (pick b backReliable backOutgoing) stays ≡ false
     back true = refl
     back false = refl
 
-    go : (n e : ℕ) (a b c : Bool) → eqb (pick (o .packet) toReliable toOutgoing) stays ≡ false
+    go : (n e : ℕ) (a b c : Bool) → eqb (pick (o .packet) backReliable backOutgoing) stays ≡ false
         → Steps w o (pick a (staysIn w o) (pick b (pick c (staysIn (overIn w n e) o) (goesBack w n e o)) (staysIn (keptIn w n) o)))
     go n e true b c h = keeps refl refl
     go n e false true true h = keeps refl refl
@@ -364,7 +365,7 @@ check-carries s clock p c = carries-gated s p (checksSound clock p) c (λ h. go 
     go : Clauses p → Carries (checksSound clock p .after)
     go w =
         let xs = outItems (p .lists .sent) in
-        let start = startOf (p .times) (p .loss) (p .flow) in
+        let start = atEntry (p .times) (p .loss) (p .flow) in
         let keep = walk-keeps (p .limits) clock xs start (p .outgoing) in
         let marks = walkOf clock p .marks in
         record {

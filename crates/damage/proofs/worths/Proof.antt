@@ -8,7 +8,8 @@ use lib.Seq.{take-all}
 use borrow.Author.Needs.{needs}
 use Rattle.parts.specs.Fresh.{noOutgoing}
 use Rattle.damage.specs.Walks.{worthOf}
-use Rattle.damage.proofs.PoolLaws.{worth-at, worth-turn}
+use Rattle.runs.proofs.Views.{made-turn}
+use Rattle.damage.proofs.PoolLaws.{worth-at}
 use Rattle.damage.proofs.worths.Statement.{statement}
 use Rattle.damage.proofs.worths.Tie as tie
 
@@ -49,7 +50,7 @@ loop-again c =
     let k : length t ≡ 32 = length-map (a .t1) (worthOf (a .count)) ∙ e in (
       omega arith,
       simp length-set (o .loop .inv .1),
-      worth-turn (o .loop .all) t (o .loop .m) (c .worth .result) (omega arith) (omega arith)
+      made-turn (o .loop .all) t (o .loop .m) (c .worth .result) (omega arith) (omega arith)
           (c .worth .ensures ∙ sym (worth-at (a .t1) (a .count) (o .loop .m))) (o .loop .inv .2),
     )
 

@@ -8,7 +8,8 @@ use lib.Seq.{take-all}
 use borrow.Author.Needs.{needs}
 use Rattle.parts.specs.Fresh.{noOutgoing}
 use Rattle.removal.specs.Searches.{lookOf}
-use Rattle.removal.proofs.Laws.{made-turn}
+use Rattle.runs.proofs.Views.{made-turn}
+use Rattle.removal.proofs.Laws.{made-at}
 use Rattle.removal.proofs.looks.Statement.{statement}
 use Rattle.removal.proofs.looks.Tie as tie
 
@@ -45,11 +46,13 @@ unfolding noOutgoing
 loop-again c =
     let o = c .before .before .before in
     let a = o .before .args in
-    let e : length (a .t1) ≡ 32 = search needs in (
+    let f = lookOf (a .sent) (a .number .0) (a .channel) in
+    let e : length (a .t1) ≡ 32 = search needs in
+    let k : length (map f (a .t1)) ≡ 32 = length-map (a .t1) f ∙ e in (
       omega arith,
       simp length-set (o .loop .inv .1),
-      made-turn (lookOf (a .sent) (a .number .0) (a .channel)) (a .t1) (o .loop .m) (omega arith) (o .loop .all) (c .look .result) (omega arith)
-          (c .look .ensures) (o .loop .inv .2),
+      made-turn (o .loop .all) (map f (a .t1)) (o .loop .m) (c .look .result) (omega arith) (omega arith)
+          (c .look .ensures ∙ sym (made-at f (a .t1) (o .loop .m) (omega arith))) (o .loop .inv .2),
     )
 
 returns : tie.Need-returns Inv-loop μ-loop

@@ -1,7 +1,7 @@
 -- `send_back` meets its contract: each list is what its callees make, and a list that was kept names what it was given.
 use borrow.Author.Needs.{needs}
 use Rattle.slots.specs.Lists.{outItems}
-use Rattle.overdue.specs.Overdue.{toOutgoing, toReliable}
+use Rattle.overdue.specs.Overdue.{backOutgoing, backReliable}
 use Rattle.overdue.specs.Walking.{bearing}
 use Rattle.overdue.proofs.Laws.{ahead-made}
 use Rattle.overdue.proofs.lists.send_back.Statement.{statement}
@@ -32,8 +32,8 @@ returns c =
     let items = outItems (l .sent) in
     rw (
       k .bearing .ensures,
-      ahead-made (l .reliable) (l .sent) (bearing toReliable (a .marks) items) (r .bearing2 .ensures) (c .before .prepend .ensures),
-      ahead-made (l .outgoing) (l .sent) (bearing toOutgoing (a .marks) items) (o .bearing3 .ensures) (c .prepend2 .ensures),
+      ahead-made (l .reliable) (l .sent) (bearing backReliable (a .marks) items) (r .bearing2 .ensures) (c .before .prepend .ensures),
+      ahead-made (l .outgoing) (l .sent) (bearing backOutgoing (a .marks) items) (o .bearing3 .ensures) (c .prepend2 .ensures),
     )
 
 pub send-back-spec : {M : Type 1} → statement M
