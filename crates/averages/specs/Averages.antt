@@ -1,6 +1,6 @@
--- The averages, on the six round-trip numbers alone, as the source orders it: "the first sample (last receive time 0) sets the round trip and the
--- variance"; a later one moves both: "variance less a quarter of itself, plus a quarter of the difference; round trip by an eighth, up or down";
--- then the lowest round trip and the highest variance (issue 10; protocol.rs 1241–1275).
+-- The averages, on the six round-trip numbers alone: "All else follows exactly as the source orders it" (protocol.rs 1241–1274). The first sample sets
+-- the round trip and the variance; a later one moves both, the variance less a quarter of itself, plus a quarter of the difference, the round trip by an
+-- eighth of it, up or down; then come the lowest round trip and the highest variance.
 use Prim.Native.Nat.{ℕ, _-_, _/_}
 use mathlib.Core.Bool.{Bool}
 use lib.Dec.{ltb, leb}

@@ -1,5 +1,5 @@
--- "the interval roll (epoch 0, or the distance from it at or above the interval)" (issue 10; protocol.rs 1276–1297), and the throttle on the
--- record's own numbers: a later sample rolls it before the averages.
+-- The throttle's interval is over where its epoch is 0, or the distance from it at or above the interval (protocol.rs 1275–1294); and the throttle on
+-- the record's own numbers: a later sample rolls it before the averages.
 use Prim.Native.Nat.{ℕ}
 use mathlib.Core.Bool.{Bool, true}
 use lib.Dec.{eqb, ltb, leb}

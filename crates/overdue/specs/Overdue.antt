@@ -1,7 +1,7 @@
--- One sent command by the source's tests in their order: "not yet due: on to the next; earliest timeout taken over if it is 0 or if the sent time minus
--- it is 86,400,000 or more (a plain difference, not the distance); given up if the distance from earliest (unless it is 0) reaches the maximum, or
--- 2^(attempts − 1) reaches the limit, exactly for every 16-bit attempts, and the distance reaches the minimum; else counted lost, its timeout doubled
--- modulo 2^32, in transit less for a packet" (issue 10; document 01, "Timeouts"; protocol.rs 1765–1815).
+-- One sent command "by the source's tests" in their order (protocol.rs 1764–1828): not yet due, on to the next; the earliest timeout is taken over
+-- if it is 0 or if the sent time minus it is 86,400,000 or more, a plain difference and not the distance; given up if the distance from the earliest,
+-- unless that is 0, reaches the maximum, or 2^(attempts - 1) reaches the limit and the distance the minimum; else it is counted lost, its timeout doubled
+-- modulo 2^32, in transit less for a packet.
 use Prim.Native.Nat.{ℕ}
 use mathlib.Core.Bool.{Bool, true, not}
 use lib.Dec.{eqb, leb}
@@ -36,8 +36,8 @@ isGivenUp l clock earliest attempts =
     (pick (leb (l .maximum) (apart clock earliest)) true
     (both (reaches attempts (l .timeout)) (leb (l .minimum) (apart clock earliest))))
 
--- "After a command went back, if the next one to look at is now the head of sent, next timeout is that one's sent time + timeout": it is the head
--- where one went back before it and none was kept
+-- after a command went back, the next one to look at may be the head of sent: it is where one went back before it and none was kept; then the next
+-- timeout is its sent time + timeout
 abbrev pub nextBy : Walk → Sent → ℕ
 nextBy w o = pick (both (w .back) (not (w .kept))) (sum 32 (o .sent) (o .timeout)) (w .next)
 

@@ -1,5 +1,5 @@
--- How much is in transit: "from a reset, over setup, send, ping, send step, acknowledgement and timeout check, it equals the sum of the piece lengths of
--- the packets that stand in sent, modulo 2^32" (issue 10); over begin, set state and throttle too.
+-- How much is in transit: from a reset, over setup, send, ping, send step, acknowledgement and timeout check, it equals the sum of the piece lengths of
+-- the packets that stand in sent, modulo 2^32; over begin, set state and throttle too.
 use Prim.Native.Nat.{ℕ, _+_, _%_, _^_, _<_}
 use mathlib.Core.Path.{_≡_}
 use mathlib.Core.List.{List, [], _∷_}
