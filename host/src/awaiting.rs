@@ -38,7 +38,8 @@ pub fn check(count: u16, due: bool) -> (f64, u32) {
     }
 }
 
-/// Nanoseconds of a call that answers 0 and leaves so many sent and waiting.
+/// A call that answers 0 and leaves so many sent and waiting. The clock is looked at after every few calls: its own time
+/// is taken off.
 fn timed(
     count: u16,
     call: impl Fn(&mut Awaiting) -> i32,
@@ -59,8 +60,8 @@ fn timed(
     (time - turns(|| clock::time(&PLACES, |_| ())), wrong)
 }
 
-/// The clock is looked at for every few calls, so its own time is taken off.
-fn turns(mut some: impl FnMut() -> f64) -> f64 {
+/// Nanoseconds of a turn, a few of which are timed at once.
+fn turns(mut few: impl FnMut() -> f64) -> f64 {
     let times = TURNS / PEERS;
-    least(|| (0..times).map(|_| some()).sum::<f64>() / times as f64)
+    least(|| (0..times).map(|_| few()).sum::<f64>() / times as f64)
 }
