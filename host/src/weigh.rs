@@ -3,6 +3,7 @@
 #![no_main] // the ordinary runtime may crash at exit under the emulator
 
 mod arrivals;
+mod awaiting;
 mod clock;
 mod lent;
 mod paint;
@@ -17,6 +18,9 @@ extern "C" {
     fn weigh_send(mtu: u32, length: u32, flags: u32) -> u32;
     fn weigh_step(length: u32, time: u32) -> u32;
     fn weigh_dispatch(number: u16, length: u32) -> u32;
+    fn weigh_sent(count: u16) -> u32;
+    fn weigh_acknowledge(count: u16, number: u16, clock: u32) -> u32;
+    fn weigh_check(count: u16, clock: u32) -> u32;
 }
 
 const MTU: u32 = 1_392;
@@ -34,6 +38,15 @@ const DISTANT: u16 = 32_768;
 const NEXT: u16 = 1;
 const LAST: u16 = 0;
 const LATER: u16 = 2;
+
+/// All that can be sent, the number of those that are, and of none of them; when an acknowledgement comes, and when those
+/// sent at 1,000 are not due yet and are.
+const ALL: u16 = 32;
+const SENT: u16 = 1;
+const UNSENT: u16 = 2;
+const HEARD: u32 = 1_250;
+const EARLY: u32 = 1_100;
+const LATE: u32 = 1_600;
 
 struct Weighed {
     name: &'static str,
@@ -53,8 +66,10 @@ const SOUND: usize = 0;
 const SEND: usize = 1;
 const SEND_PIECES: usize = 2;
 const UNSEQUENCED: usize = 10;
+const SENT_ONE: usize = 17;
+const SENT_ALL: usize = 18;
 
-const CALLS: [Weighed; 17] = [
+const CALLS: [Weighed; 24] = [
     weighed("sound", || unsafe { weigh_sound(CONNECTED) }, 1),
     weighed("send, 100 bytes", || unsafe { send(WHOLE) }, 0),
     weighed("send, 32 pieces", || unsafe { send(PIECES) }, 0),
@@ -84,9 +99,41 @@ const CALLS: [Weighed; 17] = [
         0,
     ),
     weighed("receive", lent::receive, 1).less(UNSEQUENCED),
+    weighed("sound, 1 sent", || unsafe { weigh_sent(1) }, 1).less(SENT_ONE),
+    weighed("sound, 32 sent", || unsafe { weigh_sent(ALL) }, 1).less(SENT_ALL),
+    weighed(
+        "acknowledgement, 1 sent",
+        || unsafe { weigh_acknowledge(1, SENT, HEARD) },
+        1,
+    )
+    .less(SENT_ONE),
+    weighed(
+        "acknowledgement, 32 sent",
+        || unsafe { weigh_acknowledge(ALL, SENT, HEARD) },
+        1,
+    )
+    .less(SENT_ALL),
+    weighed(
+        "acknowledgement, none removed",
+        || unsafe { weigh_acknowledge(ALL, UNSENT, HEARD) },
+        1,
+    )
+    .less(SENT_ALL),
+    weighed(
+        "timeouts, 32 wait",
+        || unsafe { weigh_check(ALL, EARLY) },
+        1,
+    )
+    .less(SENT_ALL),
+    weighed(
+        "timeouts, 32 go back",
+        || unsafe { weigh_check(ALL, LATE) },
+        1,
+    )
+    .less(SENT_ALL),
 ];
 
-const SOURCES: [Source; 9] = [
+const SOURCES: [Source; 14] = [
     source("send, 100 bytes", || sends::source(WHOLE)),
     source("send, 32 pieces", || sends::source(PIECES)),
     source("unsequenced arrival", || arrivals::unsequenced(|turn| turn)),
@@ -102,6 +149,13 @@ const SOURCES: [Source; 9] = [
     source("dispatch, 1 ready", || arrivals::dispatch(true)),
     source("dispatch, 1 waits", || arrivals::dispatch(false)),
     source("receive", arrivals::receive),
+    source("acknowledgement, 1 sent", || awaiting::acknowledge(1)),
+    source("acknowledgement, 32 sent", || awaiting::acknowledge(ALL)),
+    source("acknowledgement, none removed", || {
+        awaiting::acknowledge_none(ALL)
+    }),
+    source("timeouts, 32 wait", || awaiting::check(ALL, false)),
+    source("timeouts, 32 go back", || awaiting::check(ALL, true)),
 ];
 
 const fn weighed(name: &'static str, call: fn() -> u32, answer: u32) -> Weighed {
