@@ -154,8 +154,8 @@ pub fn acknowledge(
     let slot = taken.slot;
     let head = taken.head;
     let left = taken.lists;
-    let o = outgoing[slot];
-    let h = outgoing[head];
+    let o = p.outgoing[slot];
+    let h = p.outgoing[head];
     let times = receive(p.times, clock);
     let times = removal::time(taken.removed, taken.left, h, times);
     let flow = removal::carry(spot, o, p.flow);

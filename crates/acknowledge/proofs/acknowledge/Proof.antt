@@ -69,27 +69,27 @@ find-requires c κs = search needs
 take-requires : tie.Need-take-requires
 take-requires c κs = search needs
 
-array-copy-out-o : tie.Need-array-copy-out-o
-array-copy-out-o c =
+element-copy-out-o : tie.Need-element-copy-out-o
+element-copy-out-o c =
     let t = c .before in
-    let x = t .before .before .before .before .before .before .before in
+    let x = t .before .before .before .before .before .before .before .before in
     let g = x .before .before .before .before .before in
     let a = g .before .before .before .before .before .before .args in
     rw (t .take .ensures) (index-below (slotAt (t .before .find .result) (a .peer .lists)))
 
 mul-o : tie.Need-mul-o
-mul-o c = let h = array-copy-out-o c in omega arith
+mul-o c = let h = element-copy-out-o c in omega arith
 
-array-copy-out-h : tie.Need-array-copy-out-h
-array-copy-out-h c =
+element-copy-out-h : tie.Need-element-copy-out-h
+element-copy-out-h c =
     let t = c .before .before in
-    let x = t .before .before .before .before .before .before .before in
+    let x = t .before .before .before .before .before .before .before .before in
     let g = x .before .before .before .before .before in
     let a = g .before .before .before .before .before .before .args in
     rw (t .take .ensures) (index-below (first (outItems (listsWithout (t .before .find .result) (a .peer .lists) .sent))))
 
 mul-h : tie.Need-mul-h
-mul-h c = let h = array-copy-out-h c in omega arith
+mul-h c = let h = element-copy-out-h c in omega arith
 
 receive-requires : tie.Need-receive-requires
 receive-requires c κs = search needs
@@ -112,14 +112,14 @@ returns-3 c =
     let v = c .before .before in
     let n = v .before in
     let f = n .before in
-    let u = f .before in
+    let u = f .before .before in
     let r = u .before in
-    let k = r .before .before .before .before in
+    let k = r .before .before .before .before .before in
     let w = k .before in
     let q = w .before in
     let l = q .before in
     let m = l .before in
-    let x = m .before .before .before in
+    let x = m .before .before .before .before in
     let t = x .before .before in
     let g = t .before .before .before in
     let b = g .before in
@@ -151,9 +151,9 @@ acknowledge-spec =
     find-requires
     take-requires
     mul-o
-    array-copy-out-o
+    element-copy-out-o
     mul-h
-    array-copy-out-h
+    element-copy-out-h
     receive-requires
     time-requires
     carry-requires
