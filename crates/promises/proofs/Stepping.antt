@@ -12,19 +12,18 @@ use Rattle.peer.specs.Settings.{fitSettings}
 use Rattle.peer.specs.Fresh.{freshPeer}
 use Rattle.peer.specs.Outcome.{State, Outcome, finished, unchanged}
 use Rattle.peer.specs.declared.settings.Settings.{Settings}
-use Rattle.peer.specs.declared.record.Peer.{Peer}
 use Rattle.peer.specs.declared.defaults.Kept.{Kept}
 use Rattle.opening.specs.Calls.{kept, resets}
 use Rattle.arriving.specs.declared.Arrival.{Arrival}
 use Rattle.unsequenced.specs.Calls.{arrivesUnsequenced}
-use Rattle.steady.specs.Steady.{SameWindow, Steady}
+use Rattle.steady.specs.Steady.{SameWindow}
 use Rattle.steady.proofs.Steady.{begin-steady, state-steady, setup-steady, send-steady, ping-steady, step-steady, acknowledge-steady, check-steady, throttle-steady, dispatch-steady, receive-window, reliable-window}
 use Rattle.link.specs.Steps.{step, beside}
-use Rattle.link.specs.Runs.{Asked, made, saysOne, run, resetState}
+use Rattle.link.specs.Runs.{Asked, made, run, resetState}
 use Rattle.link.specs.declared.calls.Call.{Call}
 use Rattle.link.specs.declared.calls.Call.the-variants as call
-use Rattle.promises.specs.History.{Event, wasReset, moved, delivered, Concern, resetting, arriving, neither, concern, InRange, AllInRange, baseOf, logs, logged, history}
-use Rattle.promises.proofs.Windows.{Window, windowIn, windowOf, Holds}
+use Rattle.promises.specs.History.{Event, Concern, resetting, arriving, neither, concern, InRange, AllInRange, baseOf, logs, logged, history}
+use Rattle.promises.proofs.Windows.{windowIn, windowOf, Holds}
 use Rattle.promises.proofs.Effects.{Effect, stays, clears, takes, delivers, freshWindow, fresh-holds, empty-never, holds-after}
 use Rattle.promises.proofs.Landing.{Lands, arrival-lands}
 use Rattle.promises.proofs.Landing as landing

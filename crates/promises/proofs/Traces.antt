@@ -7,9 +7,8 @@ use mathlib.Core.Path.{_≡_, refl, ap, _∙_}
 use mathlib.Core.Bool.{Bool, true, false}
 use mathlib.Core.List.{List, [], _∷_}
 use native.Mathlib.Omega.{arith}
-use Rattle.peer.specs.Outcome.{State, Outcome}
-use Rattle.peer.specs.declared.settings.Settings.{Settings}
-use Rattle.link.specs.Runs.{Asked, made, saysOne, Ran, before, run, resetState}
+use Rattle.peer.specs.Outcome.{State}
+use Rattle.link.specs.Runs.{made, saysOne, Ran, before, run, resetState}
 use Rattle.promises.specs.History.{Event, Since, never, windows, since, AllInRange, logged, history}
 use Rattle.promises.specs.Repeats.{Packet, arrives, Line, own, again, original, aside, played, Recent, Repeats, RepeatsOriginal, NoTrace, NoTraceOriginal, FarApart}
 use Rattle.promises.proofs.Windows.{windowOf, apart, Known, Holds, Took, taken-again}

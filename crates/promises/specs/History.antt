@@ -1,6 +1,5 @@
 -- What happened to the unsequenced window along a run, as data: a log of events, the newest first.
 use Prim.Native.Nat.{ℕ, _+_, _<_}
-use mathlib.Core.Bool.{Bool}
 use mathlib.Core.List.{List, [], _∷_}
 use lib.Dec.{eqb}
 use Rattle.numbers.specs.Pick.{pick}
