@@ -1,2 +1,3 @@
 pub mod Calling
 pub mod Settled
+pub mod Refusals
