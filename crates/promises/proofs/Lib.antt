@@ -7,3 +7,4 @@ pub mod Stepping
 pub mod Traces
 pub mod Sounding
 pub mod Waiting
+pub mod Reporting
