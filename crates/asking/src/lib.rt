@@ -1,19 +1,15 @@
-// Ops 10 and 11 of a script (SCRIPT.md): the arrival that a frame asks for. The frame was seen to fit.
+// Ops 1 to 14 of a script (SCRIPT.md): the call of the link that a frame asks for. The frame was seen to fit.
 ghost use mathlib.Core.Path.{_≡_};
-ghost use Rattle.peer.specs.Outcome.{Came};
-ghost use Rattle.arriving.specs.Arrivals.{answerOf};
-ghost use Rattle.asking.specs.Asking.{arrivalOf, asks};
+ghost use Rattle.asking.specs.Asking.{arrivalOf, pieceOf, queueOf, inward, callOf};
 use arriving::Arrival;
-use arriving::Arrived;
+use command::fields::Command;
+use link::calls::Call;
 use numbers::counters::Group;
 use numbers::counters::Reliable;
-use peer::record::Peer;
-use peer::settings::Settings;
 use script::frames;
 use script::frames::Frame;
-
-// The op of an unsequenced arrival; another is a reliable one's.
-const UNSEQUENCED: u32 = 10;
+use sendstep::heads::Queue;
+use stamps::pieces::Piece;
 
 fn arrival(f: Frame, length: u32, place: u32) -> Arrival
     ensures { λ r. ⌜ r ≡ arrivalOf f length place ⌝ }
@@ -28,20 +24,85 @@ fn arrival(f: Frame, length: u32, place: u32) -> Arrival
     }
 }
 
-pub fn arrive(
-    f: Frame,
-    datagram: &[u8],
-    settings: Settings,
-    peer: Peer,
-    store: &mut [u8],
-) -> Arrived
-    ensures { λ r. ⌜ Came answerOf (asks f settings (now (datagram .entry)) (record { peer = peer; store = now (store .entry) })) (r .reply) (record { peer = r .peer; store = now (store .exit) }) ⌝ }
+fn piece(f: Frame, command: Command) -> Piece
+    ensures { λ r. ⌜ r ≡ pieceOf f command ⌝ }
 {
-    if f.op == UNSEQUENCED {
-        let group = Group(frames::short(f.n3));
-        let a = arrival(f, f.n4, f.n5);
-        return unsequenced::arrive(peer, settings, store, datagram, a, group);
+    Piece {
+        command,
+        packet: f.n4 == 1,
+        offset: f.n5,
+        length: frames::short(f.n6),
     }
-    let a = arrival(f, f.n3, f.n4);
-    reliable::arrive(peer, settings, store, datagram, a)
+}
+
+fn queue(list: u32) -> Queue
+    ensures { λ r. ⌜ r ≡ queueOf list ⌝ }
+{
+    if list == 0 {
+        return Queue::Outgoing;
+    }
+    Queue::Reliable
+}
+
+// Ops 8 to 14; another one stands for 14.
+fn second(f: Frame) -> Call
+    ensures { λ r. ⌜ r ≡ inward f ⌝ }
+{
+    let op = f.op;
+    match op {
+        8 => {
+            let number = Reliable(frames::short(f.n1));
+            Call::Acknowledgement {
+                channel: frames::byte(f.n0),
+                number,
+                sent: frames::short(f.n2),
+                clock: f.n3,
+            }
+        }
+        9 => Call::TimeoutCheck { clock: f.n0 },
+        10 => {
+            let group = Group(frames::short(f.n3));
+            let arrival = arrival(f, f.n4, f.n5);
+            Call::UnsequencedArrival { arrival, group }
+        }
+        11 => {
+            let arrival = arrival(f, f.n3, f.n4);
+            Call::ReliableArrival { arrival }
+        }
+        12 => Call::Dispatch {
+            channel: frames::byte(f.n0),
+        },
+        13 => Call::Receive,
+        _ => Call::Throttle { sample: f.n0 },
+    }
+}
+
+// The command is op 6's.
+pub fn call(f: Frame, command: Command) -> Call
+    ensures { λ r. ⌜ r ≡ callOf f command ⌝ }
+{
+    let op = f.op;
+    match op {
+        1 => Call::Reset,
+        2 => Call::Begin {
+            mtu: f.n0,
+            channels: f.n1,
+        },
+        3 => Call::SetState { state: f.n0 },
+        4 => Call::Ping,
+        5 => Call::Send {
+            channel: frames::byte(f.n0),
+            length: f.n1,
+            flags: f.n2,
+        },
+        6 => {
+            let piece = piece(f, command);
+            Call::Setup { piece }
+        }
+        7 => {
+            let queue = queue(f.n0);
+            Call::SendStep { queue, time: f.n1 }
+        }
+        _ => second(f),
+    }
 }

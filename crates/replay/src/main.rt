@@ -1,13 +1,10 @@
 // Reads a script of frames and writes one line for each, as SCRIPT.md says.
-mod answers;
-mod arrivals;
 mod calls;
 mod fits;
-mod receives;
 mod record;
+mod replies;
 mod setters;
 mod settings;
-mod steps;
 mod store;
 
 use peer::record::Peer;
@@ -44,15 +41,8 @@ fn asked(input: &[u8], store: &[u8]) -> Frame {
 // The record after an op; a call writes its reply.
 fn changed(f: Frame, input: &[u8], bench: Bench, peer: Peer, store: &mut [u8]) -> Peer {
     let op = f.op;
-    let settings = bench.settings;
     match op {
-        1..=6 | 12 => calls::call(f, input, settings, peer),
-        7 => steps::call(f, settings, peer),
-        8 => answers::acknowledge(f, settings, peer),
-        9 => answers::check(f, settings, peer),
-        10 | 11 => arrivals::call(f, input, bench, peer, store),
-        13 => receives::call(settings, peer),
-        14 => answers::throttle(f, settings, peer),
+        1..=14 => calls::call(f, input, bench, peer, store),
         20 => setters::number(f.n0, f.n1, peer),
         21..=24 => setters::part(f, input, peer),
         _ => peer,

@@ -1,0 +1,303 @@
+-- Demand 1's table as a law: a call answers 0 or a number that it may (`answers-may`), and after every number but 0, 8 and 10 record and store
+-- are as they were (`refused-unchanged`). The argument: a gate's refusals are read off its tests and leave what they found, what is behind
+-- the gates is done, and only an arrival without room (8) and an acknowledgement that removed nothing (10) are refused there.
+use Prim.Native.Nat.{ℕ}
+use mathlib.Core.Path.{_≡_, refl, ap}
+use mathlib.Core.Bool.{Bool, true, false}
+use mathlib.Core.List.{List}
+use lib.Dec.{eqb, leb, ltb}
+use lib.ListN.{length}
+use Rattle.numbers.specs.Pick.{pick}
+use Rattle.numbers.specs.Answers.{numberOf, refused}
+use Rattle.numbers.specs.Limits.{mostFragments}
+use Rattle.numbers.specs.Modulo.{sum}
+use Rattle.numbers.specs.declared.clock.Trip.{Trip}
+use Rattle.numbers.specs.declared.clock.Trip.the-variants.{PassedOver, Taken}
+use Rattle.numbers.specs.declared.counters.Group.{Group}
+use Rattle.numbers.specs.declared.counters.Reliable.{Reliable}
+use Rattle.numbers.specs.declared.refusals.Refusal.{Refusal}
+use Rattle.numbers.specs.declared.refusals.Refusal.the-variants.{NotReceiving, LengthTooLarge, NotStored, BadCommand, NotRemoved, OutOfRange}
+use Rattle.runs.specs.Runs.{first}
+use Rattle.runs.specs.declared.First.{First}
+use Rattle.runs.specs.declared.First.the-variants.{Slot, Empty}
+use Rattle.slots.specs.Lists.{outItems, inItems}
+use Rattle.parts.specs.Damage.{usedOut}
+use Rattle.parts.specs.declared.groups.Lists.{Lists}
+use Rattle.command.specs.Rows.{namesFields}
+use Rattle.stamps.specs.declared.pieces.Piece.{Piece}
+use Rattle.peer.specs.Damage.{sound}
+use Rattle.peer.specs.Settings.{fitSettings}
+use Rattle.peer.specs.Outcome.{State, Outcome, unchanged}
+use Rattle.peer.specs.Gate.{fits, gateOf, then, behind, gated}
+use Rattle.peer.specs.States.{isConnected, acknowledgingConnect, disconnecting, disconnectLater, lastState}
+use Rattle.peer.specs.declared.settings.Settings.{Settings}
+use Rattle.peer.specs.declared.record.Peer.{Peer}
+use Rattle.peer.specs.declared.gate.Lent.{Lent}
+use Rattle.peer.specs.declared.gate.Lent.the-variants.{Nothing, Store}
+use Rattle.peer.specs.declared.gate.Gate.{Gate}
+use Rattle.peer.specs.declared.gate.Gate.the-variants.{Open, Shut}
+use Rattle.opening.specs.Calls.{resets, beginFits, begins, setsState}
+use Rattle.setup.specs.Calls.{onChannel, setupGate, setsUp}
+use Rattle.setup.specs.Queueing.{room}
+use Rattle.plans.specs.Refusals.{sendGate, queueGate}
+use Rattle.sending.specs.Calls.{fragment, commands, sends}
+use Rattle.ping.specs.Calls.{pingGate, pings}
+use Rattle.sendstep.specs.Steps.{listOf}
+use Rattle.sendstep.specs.Calls as stepping
+use Rattle.sendstep.specs.declared.heads.Queue.{Queue}
+use Rattle.removal.specs.Removal.{spotOf, slotAt, heldBy, listsWithout, isSome, commandAt}
+use Rattle.acknowledge.specs.Calls as acknowledging
+use Rattle.acknowledge.specs.declared.Reply.{Reply}
+use Rattle.acknowledge.specs.declared.Reply.the-variants as vr
+use Rattle.timeouts.specs.Calls as checking
+use Rattle.arriving.specs.Arrivals.{answerOf, names, isReceiving, isWhole, arrivalGate, replyOf}
+use Rattle.arriving.specs.declared.Arrival.{Arrival}
+use Rattle.arriving.specs.declared.Fate.{Fate}
+use Rattle.arriving.specs.declared.Fate.the-variants as fate
+use Rattle.unsequenced.specs.Calls.{sendUnsequenced, judgedOn, unsequencedAfter, arrivesUnsequenced}
+use Rattle.reliable.specs.Calls.{sendReliable, fateOn, reliableAfter, arrivesReliable}
+use Rattle.dispatch.specs.Calls.{dispatchGate, dispatches}
+use Rattle.receive.specs.Calls as receiving
+use Rattle.throttle.specs.declared.Throttle.{Throttle}
+use Rattle.averages.specs.Interval.{throttleOf}
+use Rattle.throttling.specs.Calls as throttling
+use Rattle.throttling.specs.declared.Reply.the-variants as turn
+use Rattle.link.specs.Steps.{beside, step}
+use Rattle.link.specs.Refusals.{may}
+use Rattle.link.specs.declared.calls.Call.{Call}
+use Rattle.link.specs.declared.calls.Call.the-variants as call
+
+-- what both laws say of an outcome of call k on x
+record Fair {A : Type 0} (k : Call) (x : A) (o : Outcome A) : Type 0 where
+  pub number : (o .answer .number ≡ 0 → ⊥) → may k (o .answer .number) ≡ true
+  pub kept : (o .answer .number ≡ 0 → ⊥) → (o .answer .number ≡ 8 → ⊥) → (o .answer .number ≡ 10 → ⊥) → o .after ≡ x
+
+picked : {A : Type 0} (P : A → Type 0) (b : Bool) (x y : A) → P x → P y → P (pick b x y)
+picked P true x y a c = a
+picked P false x y a c = c
+
+-- the refusals of a gate are the call's
+abbrev Fits : Call → Gate → Type 0
+Fits k Open = Unit {0}
+Fits k (Shut why) = may k (numberOf why) ≡ true
+
+module _ {A : Type 0} (k : Call) (x : A) where
+  done : (o : Outcome A) → o .answer .number ≡ 0 → Fair k x o
+  done o z = record { number = λ n. absurd (n z); kept = λ n e t. absurd (n z) }
+
+  shut : (why : Refusal) → may k (numberOf why) ≡ true → Fair k x (unchanged why x)
+  shut why m = record { number = λ n. m; kept = λ n e t. refl }
+
+  -- 8 and 10 may leave something else
+  late : (why : Refusal) (y : A) → may k (numberOf why) ≡ true → ((numberOf why ≡ 8 → ⊥) → (numberOf why ≡ 10 → ⊥) → ⊥)
+      → Fair k x (record { answer = refused why; after = y })
+  late why y m which = record { number = λ n. m; kept = λ n e t. absurd (which e t) }
+
+  behind-fair : (rest : Outcome A) (g : Gate) → Fits k g → Fair k x rest → Fair k x (behind g x rest)
+  behind-fair rest Open m f = f
+  behind-fair rest (Shut why) m f = shut why m
+
+  gated-fair : (s : Settings) (lent : Lent) (p : Peer) (rest : Outcome A) → may k 11 ≡ true → may k 13 ≡ true → Fair k x rest
+      → Fair k x (gated s lent p x rest)
+  gated-fair s lent p rest m n f =
+      behind-fair rest (gateOf (fits s lent) (sound p)) (picked (Fits k) (fits s lent) _ _ (picked (Fits k) (sound p) _ _ tt n) m) f
+
+beside-fair : (k : Call) (x : State) (o : Outcome Peer) → Fair k (x .peer) o → Fair k x (beside x o)
+beside-fair k x o f =
+    record { number = f .number; kept = λ n e t. ap (λ (p : Peer). record { peer = p; store = x .store }) (f .kept n e t) }
+
+-- ---- the calls on the record alone
+module _ (s : Settings) (p : Peer) where
+  reset-fair : Fair call.Reset p (resets s p)
+  reset-fair = picked (Fair call.Reset p) (fitSettings s) _ _ (done _ p _ refl) (shut _ p OutOfRange refl)
+
+  begin-fair : (mtu count : ℕ) → Fair (call.Begin mtu count) p (begins s mtu count p)
+  begin-fair mtu count =
+      let k = call.Begin mtu count in
+      gated-fair k p s Nothing p _ refl refl
+      (picked (Fair k p) (beginFits mtu count (p .standing .count)) _ _ (done k p _ refl) (shut k p OutOfRange refl))
+
+  state-fair : (state : ℕ) → Fair (call.SetState state) p (setsState s state p)
+  state-fair state =
+      let k = call.SetState state in
+      gated-fair k p s Nothing p _ refl refl (picked (Fair k p) (leb state lastState) _ _ (done k p _ refl) (shut k p OutOfRange refl))
+
+  ping-fair : Fair call.Ping p (pings s p)
+  ping-fair =
+      let k = call.Ping in
+      gated-fair k p s Nothing p _ refl refl
+      (behind-fair k p _ (pingGate (p .standing) (room p)) (picked (Fits k) (isConnected (p .standing)) _ _ (picked (Fits k) (leb 1 (room p)) _ _ tt refl) refl) (done k p _ refl))
+
+  send-fair : (channel size flags : ℕ) → Fair (call.Send channel size flags) p (sends s channel size flags p)
+  send-fair channel size flags =
+      let k = call.Send channel size flags in
+      let xs = commands (fragment s p) channel size flags p in
+      gated-fair k p s Nothing p _ refl refl
+      (behind-fair k p _ (sendGate s channel size (p .standing))
+      (picked (Fits k) (isConnected (p .standing)) _ _
+      (picked (Fits k) (ltb channel (p .standing .count)) _ _ (picked (Fits k) (leb size (s .packet)) _ _ tt refl) refl) refl)
+      (behind-fair k p _ (queueGate (length xs) (room p))
+      (picked (Fits k) (leb (length xs) mostFragments) _ _ (picked (Fits k) (leb (length xs) (room p)) _ _ tt refl) refl)
+      (done k p _ refl)))
+
+  setup-fair : (x : Piece) → Fair (call.Setup x) p (setsUp s x p)
+  setup-fair x =
+      let k = call.Setup x in
+      gated-fair k p s Nothing p _ refl refl
+      (behind-fair k p _ (setupGate x (p .standing .count) (room p))
+      (picked (Fits k) (onChannel (x .command .channel) (p .standing .count)) _ _
+      (picked (Fits k) (leb 1 (room p)) _ _ (picked (Fits k) (namesFields (x .command)) _ _ tt refl) refl) refl)
+      (done k p _ refl))
+
+  step-fair : (q : Queue) (time : ℕ) → Fair (call.SendStep q time) p (stepping.steps s q time p)
+  step-fair q time = gated-fair k p s Nothing p _ refl refl (by-first (first (outItems (listOf q (p .lists)))))
+    where
+      k : Call
+      k = call.SendStep q time
+
+      by-first : (f : First) → Fair k p (stepping.stepsFrom f q time p)
+      by-first Empty = done k p _ refl
+      by-first (Slot n) = done k p _ refl
+
+  acknowledgement-fair : (channel : ℕ) (number : Reliable) (sent clock : ℕ)
+      → Fair (call.Acknowledgement channel number sent clock) p (acknowledging.acknowledges s channel (number .0) sent clock p)
+  acknowledgement-fair channel number sent clock =
+      gated-fair k p s Nothing p _ refl refl (by-trip (acknowledging.heardIn (p .standing .state) clock sent))
+    where
+      k : Call
+      k = call.Acknowledgement channel number sent clock
+
+      Heard : Peer → Reply → Type 0
+      Heard y r = Fair k p (record { answer = acknowledging.answerOf r; after = y })
+
+      removed : (y : Peer) (command wanted : ℕ) (event : Reply) → Heard y event → Heard y (acknowledging.removedOr command wanted event)
+      removed y command wanted event h =
+          picked (Heard y) (eqb command wanted) event (vr.Refused NotRemoved) h (late k p NotRemoved y refl (λ e t. t refl))
+
+      event : (y : Peer) (state command : ℕ) (left : Lists) → Heard y (acknowledging.eventIn state command left)
+      event y state command left =
+          picked (Heard y) (eqb state acknowledgingConnect) _ _ (removed y command acknowledging.verifyConnect vr.Connect (done k p _ refl))
+          (picked (Heard y) (eqb state disconnecting) _ _ (removed y command acknowledging.disconnect vr.Disconnect (done k p _ refl))
+          (picked (Heard y) (eqb state disconnectLater) _ _
+          (picked (Heard y) (acknowledging.isEmpty (usedOut left)) _ _ (done k p _ refl) (done k p _ refl)) (done k p _ refl)))
+
+      by-trip : (t : Trip) → Fair k p (acknowledging.acknowledgesBy t channel (number .0) clock p)
+      by-trip PassedOver = done k p _ refl
+      by-trip (Taken sample) =
+          let spot = spotOf (p .outgoing) (number .0) channel (p .lists) in
+          let slot = slotAt spot (p .lists) in
+          event (acknowledging.heardAt spot sample clock p .after) (p .standing .state) (commandAt (isSome slot) (heldBy (p .outgoing) slot))
+          (listsWithout spot (p .lists))
+
+  check-fair : (clock : ℕ) → Fair (call.TimeoutCheck clock) p (checking.checks s clock p)
+  check-fair clock = gated-fair k p s Nothing p _ refl refl (done k p _ (by-walk (checking.walkOf clock p .walk .over)))
+    where
+      k : Call
+      k = call.TimeoutCheck clock
+
+      by-walk : (over : Bool) → checking.answerOf (checking.replyBy over) .number ≡ 0
+      by-walk true = refl
+      by-walk false = refl
+
+  dispatch-fair : (channel : ℕ) → Fair (call.Dispatch channel) p (dispatches s channel p)
+  dispatch-fair channel =
+      let k = call.Dispatch channel in
+      gated-fair k p s Nothing p _ refl refl
+      (behind-fair k p _ (dispatchGate channel (p .standing)) (picked (Fits k) (ltb channel (p .standing .count)) _ _ tt refl) (done k p _ refl))
+
+  receive-fair : Fair call.Receive p (receiving.receives s p)
+  receive-fair = gated-fair call.Receive p s Nothing p _ refl refl (by-first (first (inItems (p .lists .dispatched))))
+    where
+      by-first : (f : First) → Fair call.Receive p (receiving.receivesFrom f p)
+      by-first Empty = done _ p _ refl
+      by-first (Slot n) = done _ p _ refl
+
+  throttle-fair : (sample : ℕ) → Fair (call.Throttle sample) p (throttling.throttles s sample p)
+  throttle-fair sample =
+      gated-fair k p s Nothing p _ refl refl
+      (done k p _ (by-tests (leb (t .last) (t .variance)) (leb sample (t .last)) (ltb (sum 32 (t .last) (sum 32 (t .variance) (t .variance))) sample)))
+    where
+      k : Call
+      k = call.Throttle sample
+
+      t : Throttle
+      t = throttleOf (p .throttling) (p .trips)
+
+      by-tests : (a b c : Bool) → throttling.answerOf (pick a turn.Held (pick b turn.Raised (pick c turn.Lowered turn.Held))) .number ≡ 0
+      by-tests true b c = refl
+      by-tests false true c = refl
+      by-tests false false true = refl
+      by-tests false false false = refl
+
+-- ---- the arrivals
+module _ (s : Settings) (a : Arrival) (datagram : List ℕ) (x : State) where
+  abbrev p : Peer
+  p = x .peer
+
+  -- 9, 6, 7 are the gate's
+  arrival-fits : (k : Call) (command : ℕ) → may k 9 ≡ true → may k 6 ≡ true → may k 7 ≡ true
+      → Fits k (arrivalGate command a s (p .standing) (length datagram))
+  arrival-fits k command nine six seven = go (names (a .byte) command) (isReceiving (a .channel) (p .standing)) (isWhole a s (length datagram))
+    where
+      go : (b c d : Bool)
+          → Fits k (then (pick b Open (Shut BadCommand)) (then (pick c Open (Shut NotReceiving)) (pick d Open (Shut LengthTooLarge))))
+      go true true true = tt
+      go true true false = seven
+      go true false d = six
+      go false c d = nine
+
+  unsequenced-fair : (group : Group) → Fair (call.UnsequencedArrival a group) x (arrivesUnsequenced s a group datagram x)
+  unsequenced-fair group =
+      gated-fair k x s (Store (length (x .store))) p _ refl refl
+      (behind-fair k x _ (arrivalGate sendUnsequenced a s (p .standing) (length datagram)) (arrival-fits k sendUnsequenced refl refl refl) (by-fate (judgedOn s group p .fate)))
+    where
+      k : Call
+      k = call.UnsequencedArrival a group
+
+      by-fate : (f : Fate)
+          → Fair k x (record { answer = answerOf (replyOf f); after = unsequencedAfter f (judgedOn s group p .groups) a datagram x })
+      by-fate fate.Passed = done k x _ refl
+      by-fate fate.NoRoom = late k x NotStored _ refl (λ e t. e refl)
+      by-fate (fate.Stored n) = done k x _ refl
+
+  reliable-fair : Fair (call.ReliableArrival a) x (arrivesReliable s a datagram x)
+  reliable-fair =
+      gated-fair k x s (Store (length (x .store))) p _ refl refl
+      (behind-fair k x _ (arrivalGate sendReliable a s (p .standing) (length datagram)) (arrival-fits k sendReliable refl refl refl) (by-fate (fateOn s a p)))
+    where
+      k : Call
+      k = call.ReliableArrival a
+
+      by-fate : (f : Fate) → Fair k x (record { answer = answerOf (replyOf f); after = reliableAfter f a datagram x })
+      by-fate fate.Passed = done k x _ refl
+      by-fate fate.NoRoom = late k x NotStored _ refl (λ e t. e refl)
+      by-fate (fate.Stored n) = done k x _ refl
+
+-- ---- every call
+step-is-fair : (s : Settings) (k : Call) (datagram : List ℕ) (x : State) → Fair k x (step s k datagram x)
+step-is-fair s call.Reset datagram x = beside-fair _ x _ (reset-fair s (x .peer))
+step-is-fair s (call.Begin mtu channels) datagram x = beside-fair _ x _ (begin-fair s (x .peer) mtu channels)
+step-is-fair s (call.SetState state) datagram x = beside-fair _ x _ (state-fair s (x .peer) state)
+step-is-fair s call.Ping datagram x = beside-fair _ x _ (ping-fair s (x .peer))
+step-is-fair s (call.Send channel size flags) datagram x = beside-fair _ x _ (send-fair s (x .peer) channel size flags)
+step-is-fair s (call.Setup piece) datagram x = beside-fair _ x _ (setup-fair s (x .peer) piece)
+step-is-fair s (call.SendStep queue time) datagram x = beside-fair _ x _ (step-fair s (x .peer) queue time)
+step-is-fair s (call.Acknowledgement channel number sent clock) datagram x =
+    beside-fair _ x _ (acknowledgement-fair s (x .peer) channel number sent clock)
+step-is-fair s (call.TimeoutCheck clock) datagram x = beside-fair _ x _ (check-fair s (x .peer) clock)
+step-is-fair s (call.UnsequencedArrival a group) datagram x = unsequenced-fair s a datagram x group
+step-is-fair s (call.ReliableArrival a) datagram x = reliable-fair s a datagram x
+step-is-fair s (call.Dispatch channel) datagram x = beside-fair _ x _ (dispatch-fair s (x .peer) channel)
+step-is-fair s call.Receive datagram x = beside-fair _ x _ (receive-fair s (x .peer))
+step-is-fair s (call.Throttle sample) datagram x = beside-fair _ x _ (throttle-fair s (x .peer) sample)
+
+module _ (s : Settings) (k : Call) (datagram : List ℕ) (x : State) where
+  -- the number that the step answers
+  abbrev number : ℕ
+  number = step s k datagram x .answer .number
+
+  pub answers-may : (number ≡ 0 → ⊥) → may k number ≡ true
+  answers-may = step-is-fair s k datagram x .number
+
+  pub refused-unchanged : (number ≡ 0 → ⊥) → (number ≡ 8 → ⊥) → (number ≡ 10 → ⊥) → step s k datagram x .after ≡ x
+  refused-unchanged = step-is-fair s k datagram x .kept

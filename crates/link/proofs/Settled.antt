@@ -1,0 +1,86 @@
+-- The link's contract settles its result: two results, reply, record and store, that it allows for one input are the same.
+-- The argument: record and store are the rule's; both replies are of the call's kind, and each kind's own law tells its replies apart.
+use Prim.Native.Nat.{ℕ}
+use mathlib.Core.Path.{_≡_, ap, sym, _∙_}
+use mathlib.Core.List.{List}
+use native.Mathlib.Omega.{arith}
+use Rattle.peer.specs.Outcome.{State, Came}
+use Rattle.peer.specs.declared.settings.Settings.{Settings}
+use Rattle.peer.proofs.Settled as calls
+use Rattle.sendstep.proofs.Settled as stepping
+use Rattle.acknowledge.proofs.Settled as acknowledging
+use Rattle.timeouts.proofs.Settled as checking
+use Rattle.arriving.proofs.Settled as arriving
+use Rattle.receive.proofs.Settled as receiving
+use Rattle.throttling.proofs.Settled as throttling
+use Rattle.link.specs.Steps.{answerOf, step, kindIn, NamedIn, Own}
+use Rattle.link.specs.declared.calls.Call.{Call}
+use Rattle.link.specs.declared.calls.Reply.{Reply}
+use Rattle.link.specs.declared.calls.Reply.the-variants as vr
+use Rattle.link.specs.declared.Linked.{Linked}
+
+pub replies-apart : (a b : Reply) → kindIn a ≡ kindIn b → NamedIn a → NamedIn b → answerOf a ≡ answerOf b → a ≡ b
+replies-apart (vr.Called r) (vr.Called q) k m n e = ap vr.Called (calls.replies-apart r q e)
+replies-apart (vr.Called r) (vr.Stepped q) k m n e = absurd (omega arith)
+replies-apart (vr.Called r) (vr.Acknowledged q) k m n e = absurd (omega arith)
+replies-apart (vr.Called r) (vr.Checked q) k m n e = absurd (omega arith)
+replies-apart (vr.Called r) (vr.Arrived q) k m n e = absurd (omega arith)
+replies-apart (vr.Called r) (vr.Received q) k m n e = absurd (omega arith)
+replies-apart (vr.Called r) (vr.Throttled q) k m n e = absurd (omega arith)
+replies-apart (vr.Stepped r) (vr.Called q) k m n e = absurd (omega arith)
+replies-apart (vr.Stepped r) (vr.Stepped q) k m n e = ap vr.Stepped (stepping.replies-apart r q m n e)
+replies-apart (vr.Stepped r) (vr.Acknowledged q) k m n e = absurd (omega arith)
+replies-apart (vr.Stepped r) (vr.Checked q) k m n e = absurd (omega arith)
+replies-apart (vr.Stepped r) (vr.Arrived q) k m n e = absurd (omega arith)
+replies-apart (vr.Stepped r) (vr.Received q) k m n e = absurd (omega arith)
+replies-apart (vr.Stepped r) (vr.Throttled q) k m n e = absurd (omega arith)
+replies-apart (vr.Acknowledged r) (vr.Called q) k m n e = absurd (omega arith)
+replies-apart (vr.Acknowledged r) (vr.Stepped q) k m n e = absurd (omega arith)
+replies-apart (vr.Acknowledged r) (vr.Acknowledged q) k m n e = ap vr.Acknowledged (acknowledging.replies-apart r q e)
+replies-apart (vr.Acknowledged r) (vr.Checked q) k m n e = absurd (omega arith)
+replies-apart (vr.Acknowledged r) (vr.Arrived q) k m n e = absurd (omega arith)
+replies-apart (vr.Acknowledged r) (vr.Received q) k m n e = absurd (omega arith)
+replies-apart (vr.Acknowledged r) (vr.Throttled q) k m n e = absurd (omega arith)
+replies-apart (vr.Checked r) (vr.Called q) k m n e = absurd (omega arith)
+replies-apart (vr.Checked r) (vr.Stepped q) k m n e = absurd (omega arith)
+replies-apart (vr.Checked r) (vr.Acknowledged q) k m n e = absurd (omega arith)
+replies-apart (vr.Checked r) (vr.Checked q) k m n e = ap vr.Checked (checking.replies-apart r q e)
+replies-apart (vr.Checked r) (vr.Arrived q) k m n e = absurd (omega arith)
+replies-apart (vr.Checked r) (vr.Received q) k m n e = absurd (omega arith)
+replies-apart (vr.Checked r) (vr.Throttled q) k m n e = absurd (omega arith)
+replies-apart (vr.Arrived r) (vr.Called q) k m n e = absurd (omega arith)
+replies-apart (vr.Arrived r) (vr.Stepped q) k m n e = absurd (omega arith)
+replies-apart (vr.Arrived r) (vr.Acknowledged q) k m n e = absurd (omega arith)
+replies-apart (vr.Arrived r) (vr.Checked q) k m n e = absurd (omega arith)
+replies-apart (vr.Arrived r) (vr.Arrived q) k m n e = ap vr.Arrived (arriving.replies-apart r q e)
+replies-apart (vr.Arrived r) (vr.Received q) k m n e = absurd (omega arith)
+replies-apart (vr.Arrived r) (vr.Throttled q) k m n e = absurd (omega arith)
+replies-apart (vr.Received r) (vr.Called q) k m n e = absurd (omega arith)
+replies-apart (vr.Received r) (vr.Stepped q) k m n e = absurd (omega arith)
+replies-apart (vr.Received r) (vr.Acknowledged q) k m n e = absurd (omega arith)
+replies-apart (vr.Received r) (vr.Checked q) k m n e = absurd (omega arith)
+replies-apart (vr.Received r) (vr.Arrived q) k m n e = absurd (omega arith)
+replies-apart (vr.Received r) (vr.Received q) k m n e = ap vr.Received (receiving.replies-apart r q e)
+replies-apart (vr.Received r) (vr.Throttled q) k m n e = absurd (omega arith)
+replies-apart (vr.Throttled r) (vr.Called q) k m n e = absurd (omega arith)
+replies-apart (vr.Throttled r) (vr.Stepped q) k m n e = absurd (omega arith)
+replies-apart (vr.Throttled r) (vr.Acknowledged q) k m n e = absurd (omega arith)
+replies-apart (vr.Throttled r) (vr.Checked q) k m n e = absurd (omega arith)
+replies-apart (vr.Throttled r) (vr.Arrived q) k m n e = absurd (omega arith)
+replies-apart (vr.Throttled r) (vr.Received q) k m n e = absurd (omega arith)
+replies-apart (vr.Throttled r) (vr.Throttled q) k m n e = ap vr.Throttled (throttling.replies-apart r q e)
+
+module _ (s : Settings) (k : Call) (datagram : List ℕ) (x : State) (a b : Linked) (t u : List ℕ)
+    (c : Came answerOf (step s k datagram x) (a .reply) (record { peer = a .peer; store = t })) (m : Own k (a .reply))
+    (d : Came answerOf (step s k datagram x) (b .reply) (record { peer = b .peer; store = u })) (n : Own k (b .reply)) where
+  states : _≡_ {A = State} (record { peer = a .peer; store = t }) (record { peer = b .peer; store = u })
+  states = c .after ∙ sym (d .after)
+
+  pub link-settled : a ≡ b
+  link-settled =
+      ap (λ (r : Reply). record { peer = a .peer; reply = r })
+      (replies-apart (a .reply) (b .reply) (m .kind ∙ sym (n .kind)) (m .named) (n .named) (c .answer ∙ sym (d .answer)))
+      ∙ ap (λ (y : State). record { peer = y .peer; reply = b .reply }) states
+
+  pub store-settled : t ≡ u
+  store-settled = ap (λ (y : State). y .store) states

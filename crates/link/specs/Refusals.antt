@@ -1,0 +1,27 @@
+-- Document 01's table, "What a call replies": which numbers but 0 a call may answer. Every call may answer 11, and every one but reset 13; an
+-- arrival answers 9 where its byte names another command (DESIGN.md, point 5).
+use Prim.Native.Nat.{ℕ}
+use mathlib.Core.Bool.{Bool}
+use mathlib.Core.List.{List, [], _∷_}
+use Rattle.runs.specs.Runs.{has}
+use Rattle.link.specs.declared.calls.Call.{Call}
+use Rattle.link.specs.declared.calls.Call.the-variants as call
+
+abbrev pub refusalsOf : Call → List ℕ
+refusalsOf call.Reset = 11 ∷ []
+refusalsOf (call.Begin mtu channels) = 11 ∷ 13 ∷ []
+refusalsOf (call.SetState state) = 11 ∷ 13 ∷ []
+refusalsOf call.Ping = 1 ∷ 5 ∷ 11 ∷ 13 ∷ []
+refusalsOf (call.Send channel length flags) = 1 ∷ 2 ∷ 3 ∷ 4 ∷ 5 ∷ 11 ∷ 13 ∷ []
+refusalsOf (call.Setup piece) = 2 ∷ 5 ∷ 9 ∷ 11 ∷ 13 ∷ []
+refusalsOf (call.SendStep queue time) = 11 ∷ 13 ∷ []
+refusalsOf (call.Acknowledgement channel number sent clock) = 10 ∷ 11 ∷ 13 ∷ []
+refusalsOf (call.TimeoutCheck clock) = 11 ∷ 13 ∷ []
+refusalsOf (call.UnsequencedArrival arrival group) = 6 ∷ 7 ∷ 8 ∷ 9 ∷ 11 ∷ 13 ∷ []
+refusalsOf (call.ReliableArrival arrival) = 6 ∷ 7 ∷ 8 ∷ 9 ∷ 11 ∷ 13 ∷ []
+refusalsOf (call.Dispatch channel) = 2 ∷ 11 ∷ 13 ∷ []
+refusalsOf call.Receive = 11 ∷ 13 ∷ []
+refusalsOf (call.Throttle sample) = 11 ∷ 13 ∷ []
+
+abbrev pub may : Call → ℕ → Bool
+may k number = has (refusalsOf k) number

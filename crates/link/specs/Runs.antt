@@ -1,0 +1,77 @@
+-- Runs of calls: each with its settings and its datagram, one after another on one record and one store.
+use Prim.Native.Nat.{ℕ, _*_}
+use mathlib.Core.Bool.{Bool}
+use mathlib.Core.List.{List, [], _∷_, _++_}
+use lib.Dec.{eqb}
+use lib.ListN.{getD, take, drop}
+use Rattle.numbers.specs.Pick.{pick, both}
+use Rattle.numbers.specs.Answers.{Answer}
+use Rattle.parts.specs.Sizes.{cell}
+use Rattle.peer.specs.Outcome.{State, Outcome}
+use Rattle.peer.specs.Fresh.{freshPeer}
+use Rattle.peer.specs.declared.settings.Settings.{Settings}
+use Rattle.peer.specs.declared.defaults.Kept.{Kept}
+use Rattle.link.specs.Steps.{step}
+use Rattle.link.specs.declared.calls.Call.{Call}
+use Rattle.link.specs.declared.calls.Call.the-variants as call
+
+pub record Asked : Type 0 where
+  pub settings : Settings
+  pub call : Call
+  pub datagram : List ℕ
+
+abbrev pub made : Asked → State → Outcome State
+made a x = step (a .settings) (a .call) (a .datagram) x
+
+-- a packet that comes out: its channel, and the bytes of its cell
+pub record Packet : Type 0 where
+  pub channel : ℕ
+  pub bytes : List ℕ
+
+-- number 0, and 1 for the first value: a receive hands out a packet, an arrival was stored
+abbrev pub saysOne : Answer → Bool
+saysOne a = both (eqb (a .number) 0) (eqb (getD (a .values) 0 0) 1)
+
+-- what a receive that answers so hands out of the store: 1, channel, cell, length
+abbrev pub handed : Answer → List ℕ → List Packet
+handed a store =
+    let v = a .values in
+    pick (saysOne a) (record { channel = getD v 1 0; bytes = take (getD v 3 0) (drop (getD v 2 0 * cell) store) } ∷ []) []
+
+abbrev pub packetsOf : Call → Answer → List ℕ → List Packet
+packetsOf call.Receive a store = handed a store
+packetsOf call.Reset a store = []
+packetsOf (call.Begin mtu channels) a store = []
+packetsOf (call.SetState state) a store = []
+packetsOf call.Ping a store = []
+packetsOf (call.Send channel length flags) a store = []
+packetsOf (call.Setup piece) a store = []
+packetsOf (call.SendStep queue time) a store = []
+packetsOf (call.Acknowledgement channel number sent clock) a store = []
+packetsOf (call.TimeoutCheck clock) a store = []
+packetsOf (call.UnsequencedArrival arrival group) a store = []
+packetsOf (call.ReliableArrival arrival) a store = []
+packetsOf (call.Dispatch channel) a store = []
+packetsOf (call.Throttle sample) a store = []
+
+-- what a run of calls answers, the packets that come out, and the end
+pub record Ran : Type 0 where
+  pub answers : List Answer
+  pub packets : List Packet
+  pub end : State
+
+abbrev pub ended : State → Ran
+ended x = record { answers = []; packets = []; end = x }
+
+-- a step, then the rest of the run
+abbrev pub before : Asked → State → Outcome State → Ran → Ran
+before a x o rest =
+    record { answers = o .answer ∷ rest .answers; packets = packetsOf (a .call) (o .answer) (x .store) ++ rest .packets; end = rest .end }
+
+unfoldable pub run : List Asked → State → Ran
+run [] x = ended x
+run (a ∷ rest) x = let o = made a x in before a x o (run rest (o .after))
+
+-- a peer as after a reset, whatever the reset kept, with any bytes in the store
+abbrev pub resetState : ℕ → Kept → List ℕ → State
+resetState mtu kept store = record { peer = freshPeer mtu kept; store = store }

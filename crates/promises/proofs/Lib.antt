@@ -1,0 +1,10 @@
+pub mod Answers
+pub mod Picks
+pub mod Windows
+pub mod Effects
+pub mod Landing
+pub mod Stepping
+pub mod Traces
+pub mod Sounding
+pub mod Waiting
+pub mod Reporting

@@ -1,0 +1,453 @@
+-- A reliable report counts once and none is skipped: on each channel, what joins dispatched since begin bears the numbers 1, 2, 3 and so on.
+-- The argument: along a run a channel's last number is the last of its log; what a dispatch takes follows it number by number, as no slot has
+-- fragments; reset and begin start both anew, and no other call changes a channel's last number.
+use Prim.Native.Nat.{ℕ, zero, suc, _<_}
+use mathlib.Core.Path.{_≡_, refl, ap, sym, subst, _∙_}
+use mathlib.Core.Bool.{Bool, true, false}
+use mathlib.Core.List.{List, [], _∷_, _++_, map, append-nil}
+use lib.Dec.{leb, eqb}
+use lib.ListN.{length, take, drop, getD, set, replicate, List·getD-map}
+use lib.Seq.{drop-length, drop-append-seam, map-set-same, getD-set-same, getD-set-other}
+use native.Mathlib.Omega.{arith}
+use borrow.Author.Tests.{eqb-true, eqb-false, ne-eqb}
+use Rattle.numbers.specs.Pick.{pick}
+use Rattle.numbers.specs.Answers.{numberOf}
+use Rattle.numbers.specs.Counters as counters
+use Rattle.numbers.specs.declared.counters.Group.{Group}
+use Rattle.numbers.specs.declared.counters.Reliable.{Reliable}
+use Rattle.numbers.specs.declared.refusals.Refusal.{Refusal}
+use Rattle.numbers.specs.declared.refusals.Refusal.the-variants.{OutOfRange}
+use Rattle.numbers.proofs.BoolLaws.{both-right}
+use Rattle.numbers.proofs.Settled.{refused-not-done}
+use Rattle.slots.specs.Lists.{outgoing, incoming, outItems, inItems}
+use Rattle.runs.specs.Runs.{first}
+use Rattle.runs.specs.Free.{lowest}
+use Rattle.runs.specs.declared.Free.{Free}
+use Rattle.runs.specs.declared.Free.the-variants.{Lowest, Full}
+use Rattle.runs.specs.declared.First.{First}
+use Rattle.runs.specs.declared.First.the-variants.{Slot, Empty}
+use Rattle.parts.specs.Damage.{usedOut}
+use Rattle.parts.specs.Sizes.{channels}
+use Rattle.parts.specs.Fresh.{noChannel, noIncoming}
+use Rattle.parts.specs.declared.groups.Channel.{Channel}
+use Rattle.parts.specs.declared.groups.Incoming.{Incoming}
+use Rattle.peer.specs.Damage.{sound}
+use Rattle.peer.specs.Gate.{fits, gateOf, behind}
+use Rattle.peer.specs.Sounds.{Whole}
+use Rattle.peer.specs.Settings.{fitSettings}
+use Rattle.peer.specs.States.{lastState}
+use Rattle.peer.specs.Fresh.{freshPeer}
+use Rattle.peer.specs.Outcome.{State, Outcome, finished, unchanged}
+use Rattle.peer.specs.declared.settings.Settings.{Settings}
+use Rattle.peer.specs.declared.record.Peer.{Peer}
+use Rattle.peer.specs.declared.defaults.Kept.{Kept}
+use Rattle.peer.specs.declared.gate.Lent.the-variants as lent
+use Rattle.peer.specs.declared.gate.Gate.{Gate}
+use Rattle.peer.proofs.Gates.{sound-open, behind-has}
+use Rattle.peer.proofs.Ranges.{count-high}
+use Rattle.opening.specs.Calls.{kept, beginFits, begun, beginsSound, begins, stated, setsStateSound, setsState, resets}
+use Rattle.stamps.specs.declared.pieces.Piece.{Piece}
+use Rattle.setup.specs.Queueing.{room, queuedIn, queuedAt, queued, queuedAll}
+use Rattle.setup.specs.Calls.{setupGate, setsUpSound, setsUp}
+use Rattle.plans.specs.Refusals.{sendGate, queueGate}
+use Rattle.sending.specs.Calls.{fragment, commands, queuesAll, sendsSound, sends}
+use Rattle.ping.specs.Calls.{pingPiece, pingGate, pingsSound, pings}
+use Rattle.sendstep.specs.Steps.{listOf, sentAs}
+use Rattle.sendstep.specs.Calls.{stepsFrom, stepsSound, steps}
+use Rattle.sendstep.specs.declared.heads.Queue.{Queue}
+use Rattle.throttling.specs.Calls.{throttles}
+use Rattle.acknowledge.specs.Calls.{acknowledges}
+use Rattle.timeouts.specs.Calls.{checks}
+use Rattle.answered.specs.Untouched.{Untouched}
+use Rattle.answered.proofs.Untouched.{acknowledge-untouched, check-untouched, throttle-untouched}
+use Rattle.dispatching.specs.Dispatching.{follows, numberAfter, readyCount, readyLast}
+use Rattle.dispatch.specs.Calls.{dispatchGate, dispatchedOn, dispatchesSound, dispatches}
+use Rattle.dispatch.proofs.Calling.{chosen, ready, gone, dispatched-has}
+use Rattle.dispatch.proofs.Sound.{below-count}
+use Rattle.dispatch.proofs.Moving.{dispatch-keeps, dispatch-order}
+use Rattle.receive.specs.Calls.{receives}
+use Rattle.receive.proofs.Taking.{receive-keeps}
+use Rattle.arriving.specs.Arrivals.{arrivedSlot}
+use Rattle.arriving.specs.declared.Arrival.{Arrival}
+use Rattle.arriving.specs.declared.Fate.the-variants as fate
+use Rattle.arriving.proofs.Admitted.{Admitted}
+use Rattle.storing.specs.Storing.{freeSlot}
+use Rattle.unsequenced.specs.Calls.{arrivesUnsequenced}
+use Rattle.reliable.specs.Calls.{reliableAfter, arrivesReliable}
+use Rattle.arrived.proofs.Unsequenced.{unsequenced-has}
+use Rattle.arrived.proofs.Reliable.{reliable-has, held-free, between, between-whole, between-sound, left-dispatched}
+use Rattle.link.specs.Steps.{step}
+use Rattle.link.specs.Runs.{Asked, made, resetState}
+use Rattle.link.specs.declared.calls.Call.{Call}
+use Rattle.link.specs.declared.calls.Call.the-variants as call
+use Rattle.promises.specs.Reports.{isAnew, isOn, numbersJoined, reported, reports, series, CountsOnce}
+use Rattle.promises.proofs.Picks.{picked}
+use Rattle.promises.proofs.Sounding.{fresh-whole, call-sounds}
+
+abbrev gate : Settings → Peer → Gate
+gate s p = gateOf (fits s lent.Nothing) (sound p)
+
+-- ---- numbers one after another
+-- each is the step of the one before, the first that of n
+abbrev Rises : ℕ → List ℕ → Type 0
+Rises n [] = Unit {0}
+Rises n (x ∷ xs) = (x ≡ counters.step n) × Rises x xs
+
+-- the last of them, n where there is none
+abbrev lastFrom : ℕ → List ℕ → ℕ
+lastFrom n [] = n
+lastFrom n (x ∷ xs) = lastFrom x xs
+
+rises-on : (n : ℕ) (xs ys : List ℕ) → Rises n xs → Rises (lastFrom n xs) ys → Rises n (xs ++ ys)
+rises-on n [] ys r t = t
+rises-on n (x ∷ xs) ys r t = (r .0, rises-on x xs ys (r .1) t)
+
+last-on : (n : ℕ) (xs ys : List ℕ) → lastFrom n (xs ++ ys) ≡ lastFrom (lastFrom n xs) ys
+last-on n [] ys = refl
+last-on n (x ∷ xs) ys = last-on x xs ys
+
+rises-series : (n : ℕ) (xs : List ℕ) → Rises n xs → xs ≡ series n (length xs)
+unfolding series
+rises-series n [] r = refl
+rises-series n (x ∷ xs) r =
+    ap (λ (ys : List ℕ). x ∷ ys) (rises-series x xs (r .1)) ∙ ap (λ (m : ℕ). m ∷ series m (length xs)) (r .0)
+
+-- ---- lists: a part of each element, where one is replaced by another with the same part; a list of one element alone
+part-set : {A B : Type 0} (f : A → B) (l : List A) (i : ℕ) (y d : A) (k : ℕ) → f y ≡ f (getD l i d) → f (getD (set l i y) k d) ≡ f (getD l k d)
+part-set {A} {B} f l i y d k e =
+    sym (List·getD-map f (set l i y) k d) ∙ ap (λ (m : List B). getD m k (f d)) (map-set-same f l i y d e) ∙ List·getD-map f l k d
+
+same-all : {A : Type 0} (n k : ℕ) (d : A) → getD (replicate n d) k d ≡ d
+same-all zero k d = refl
+same-all (suc n) zero d = refl
+same-all (suc n) (suc k) d = same-all n k d
+
+-- ---- what is ready, where no slot has fragments
+abbrev numberOn : Channel → Reliable
+numberOn c = c .«incoming_reliable»
+
+abbrev numbersOf : List Incoming → List ℕ → List ℕ
+numbersOf slots ss = map (λ (s : ℕ). getD slots s noIncoming .number .0) ss
+
+abbrev Plain : List Incoming → Type 0
+Plain slots = (k : ℕ) → getD slots k noIncoming .fragments ≡ 0
+
+fresh-plain : (n : ℕ) → Plain (replicate n noIncoming)
+unfolding noIncoming
+fresh-plain n k = ap (λ (i : Incoming). i .fragments) (same-all n k noIncoming)
+
+plain-set : (slots : List Incoming) (n : ℕ) (i : Incoming) → i .fragments ≡ 0 → Plain slots → Plain (set slots n i)
+plain-set slots n i z p k = part-set (λ (j : Incoming). j .fragments) slots n i noIncoming k (z ∙ sym (p n)) ∙ p k
+
+after-plain : (i : Incoming) → i .fragments ≡ 0 → numberAfter i ≡ i .number .0
+after-plain i z = rw z
+
+module _ (slots : List Incoming) (p : Plain slots) where
+  abbrev at : ℕ → Incoming
+  at s = getD slots s noIncoming
+
+  -- the first of a list goes, and then what is so of the rest; or it stays, and none goes
+  ready-rises : (ss : List ℕ) (n : ℕ) → Rises n (numbersOf slots (take (readyCount slots ss n) ss))
+  unfolding readyCount
+  ready-rises [] n = tt
+  ready-rises (s ∷ ss) n = go (follows n (at s)) refl (ready-rises ss (at s .number .0))
+    where
+      go : (b : Bool) → follows n (at s) ≡ b → Rises (at s .number .0) (numbersOf slots (take (readyCount slots ss (at s .number .0)) ss))
+          → Rises n (numbersOf slots (take (pick b (suc (readyCount slots ss (numberAfter (at s)))) 0) (s ∷ ss)))
+      go true e r = (
+        eqb-true (at s .number .0) (counters.step n) (both-right (eqb (at s .remaining) 0) (eqb (at s .number .0) (counters.step n)) e),
+        rw (after-plain (at s) (p s)) r,
+      )
+      go false e r = tt
+
+  ready-last : (ss : List ℕ) (n : ℕ) → readyLast slots ss n ≡ lastFrom n (numbersOf slots (take (readyCount slots ss n) ss))
+  unfolding readyCount readyLast
+  ready-last [] n = refl
+  ready-last (s ∷ ss) n = go (follows n (at s)) (ready-last ss (at s .number .0))
+    where
+      go : (b : Bool)
+          → readyLast slots ss (at s .number .0) ≡ lastFrom (at s .number .0) (numbersOf slots (take (readyCount slots ss (at s .number .0)) ss))
+          → pick b (readyLast slots ss (numberAfter (at s))) n
+          ≡ lastFrom n (numbersOf slots (take (pick b (suc (readyCount slots ss (numberAfter (at s)))) 0) (s ∷ ss)))
+      go true r = rw (after-plain (at s) (p s)) r
+      go false r = refl
+
+-- ---- what stands along a run, on one channel
+module _ (channel : ℕ) where
+  abbrev lastOn : Peer → ℕ
+  lastOn p = numberOn (getD (p .channels) channel noChannel) .0
+
+  record Counted (p : Peer) (log : List ℕ) : Type 0 where
+    pub rises : Rises 0 log
+    pub last : lastOn p ≡ lastFrom 0 log
+    pub plain : Plain (p .incoming)
+
+  -- what a call leaves as it was, if it reports nothing on the channel
+  record Still (p q : Peer) : Type 0 where
+    pub last : numberOn (getD (q .channels) channel noChannel) ≡ numberOn (getD (p .channels) channel noChannel)
+    pub slots : q .incoming ≡ p .incoming
+
+  still : (p : Peer) → Still p p
+  still p = record { last = refl; slots = refl }
+
+  still-counted : (p q : Peer) (log : List ℕ) → Still p q → Counted p log → Counted q log
+  still-counted p q log s c =
+      record {
+        rises = c .rises;
+        last = ap (λ (n : Reliable). n .0) (s .last) ∙ c .last;
+        plain = λ k. ap (λ (slots : List Incoming). getD slots k noIncoming .fragments) (s .slots) ∙ c .plain k;
+      }
+
+  -- the numbers that joined
+  abbrev joined : Peer → Peer → List ℕ
+  joined p q = numbersOf (q .incoming) (drop (length (inItems (p .lists .dispatched))) (inItems (q .lists .dispatched)))
+
+  none-joined : (p : Peer) (log : List ℕ) → Counted p log → Counted p (log ++ joined p p)
+  none-joined p log c = rw (drop-length (inItems (p .lists .dispatched)), append-nil log) c
+
+  -- ---- a dispatch on the channel
+  module _ (p : Peer) (log : List ℕ) (whole : Whole p) (good : sound p ≡ true) (on : channel < p .standing .count) (c : Counted p log) where
+    abbrev more : List ℕ
+    more = numbersOf (p .incoming) (take (ready channel p) (inItems (chosen channel p .held)))
+
+    now-last : lastOn (dispatchedOn channel p) ≡ lastFrom (lastOn p) more
+    now-last =
+        dispatched-has channel p (λ (q : Peer). lastOn q ≡ lastFrom (lastOn p) more) (λ z. rw z)
+        (ap (λ (d : Channel). numberOn d .0)
+        (getD-set-same (p .channels) channel (gone channel p .channel) noChannel (omega (arith, on, count-high p good, whole .channels)))
+        ∙ ready-last (p .incoming) (c .plain) (inItems (chosen channel p .held)) (lastOn p))
+
+    is-more : joined p (dispatchedOn channel p) ≡ more
+    is-more =
+        ap (λ (ss : List ℕ). numbersOf (p .incoming) (drop (length (inItems (p .lists .dispatched))) ss))
+        (dispatch-order channel p whole good on .joined)
+        ∙ ap (numbersOf (p .incoming)) (drop-append-seam (inItems (p .lists .dispatched)) _)
+
+    dispatched-counted : Counted (dispatchedOn channel p) (log ++ joined p (dispatchedOn channel p))
+    dispatched-counted =
+        let rises = ready-rises (p .incoming) (c .plain) (inItems (chosen channel p .held)) (lastOn p) in
+        rw is-more
+        (record {
+          rises = rises-on 0 log more (c .rises) (subst (λ (n : ℕ). Rises n more) (c .last) rises);
+          last = now-last ∙ ap (λ (n : ℕ). lastFrom n more) (c .last) ∙ sym (last-on 0 log more);
+          plain = c .plain;
+        })
+
+  own-dispatch : (s : Settings) (p : Peer) (log : List ℕ) → Whole p → Counted p log
+      → Counted (dispatches s channel p .after) (log ++ joined p (dispatches s channel p .after))
+  own-dispatch s p log w c =
+      behind-has (gate s p) p (dispatchesSound channel p) Done shut
+      (λ e. behind-has (dispatchGate channel (p .standing)) p (finished (dispatchedOn channel p)) Done shut
+      (λ own. dispatched-counted p log w (sound-open (fits s lent.Nothing) (sound p) e) (below-count channel (p .standing) own) c))
+    where
+      Done : Outcome Peer → Type 0
+      Done o = Counted (o .after) (log ++ joined p (o .after))
+
+      shut : (why : Refusal) → Done (unchanged why p)
+      shut why = none-joined p log c
+
+  dispatch-counted : (s : Settings) (on : ℕ) (p : Peer) (log : List ℕ) → Whole p → Counted p log
+      → let q = dispatches s on p .after in Counted q (pick (eqb on channel) (log ++ joined p q) log)
+  dispatch-counted s on p log w c = go (eqb on channel) refl
+    where
+      go : (b : Bool) → eqb on channel ≡ b → let q = dispatches s on p .after in Counted q (pick b (log ++ joined p q) log)
+      go true e =
+          subst (λ (n : ℕ). Counted (dispatches s n p .after) (log ++ joined p (dispatches s n p .after))) (sym (eqb-true on channel e))
+          (own-dispatch s p log w c)
+      go false e =
+          let k = dispatch-keeps on p s in
+          still-counted p (dispatches s on p .after) log
+          (record { last = ap numberOn (k .others channel (λ i. eqb-false on channel e (sym i))); slots = k .incoming }) c
+
+  -- ---- arrivals: a slot is written, with no fragments; a reliable one that is stored is a dispatch on the record that holds it
+  module _ (s : Settings) (a : Arrival) (datagram : List ℕ) (x : State) (log : List ℕ) (w : Whole (x .peer)) (c : Counted (x .peer) log) where
+    unsequenced-counted : (group : Group) → Counted (arrivesUnsequenced s a group datagram x .after .peer) log
+    unsequenced-counted group =
+        unsequenced-has s a group datagram x (λ (o : Outcome State). Counted (o .after .peer) log)
+        (λ why. c)
+        (λ good e. record { rises = c .rises; last = c .last; plain = c .plain })
+        (λ good e. record { rises = c .rises; last = c .last; plain = c .plain })
+        (λ n good long may e.
+        record { rises = c .rises; last = c .last; plain = plain-set (x .peer .incoming) n (arrivedSlot a) refl (c .plain) })
+
+    abbrev After : State → Type 0
+    After y = Counted (y .peer) (pick (eqb (a .channel) channel) (log ++ joined (x .peer) (y .peer)) log)
+
+    not-arrived : After x
+    not-arrived = go (eqb (a .channel) channel)
+      where
+        go : (b : Bool) → Counted (x .peer) (pick b (log ++ joined (x .peer) (x .peer)) log)
+        go true = none-joined (x .peer) log c
+        go false = c
+
+    held : (n : ℕ) → sound (x .peer) ≡ true → Admitted a (x .peer .standing) (length datagram)
+        → freeSlot (x .peer .lists) (x .peer .channels) (x .peer .standing .count) ≡ Lowest n
+        → After (reliableAfter (fate.Stored n) a datagram x)
+    held n good may free = go (eqb (a .channel) channel) refl
+      where
+        q : Peer
+        q = between a datagram x n w good may free
+
+        held-counted : Counted q log
+        held-counted =
+            record {
+              rises = c .rises;
+              last =
+                  ap (λ (r : Reliable). r .0) (part-set numberOn (x .peer .channels) (a .channel) _ noChannel channel refl) ∙ c .last;
+              plain = plain-set (x .peer .incoming) n (arrivedSlot a) refl (c .plain);
+            }
+
+        go : (b : Bool) → eqb (a .channel) channel ≡ b
+            → let y = reliableAfter (fate.Stored n) a datagram x .peer in Counted y (pick b (log ++ joined (x .peer) y) log)
+        go true e =
+            let is : a .channel ≡ channel = eqb-true (a .channel) channel e in
+            subst (λ (y : Peer). Counted y (log ++ joined (x .peer) y))
+            (ap (λ (i : ℕ). dispatchedOn i q) (sym is) ∙ sym (left-dispatched a datagram x n w good may free))
+            (dispatched-counted q log (between-whole a datagram x n w good may free) (between-sound a datagram x n w good may free)
+            (subst (λ (i : ℕ). i < x .peer .standing .count) is (may .on)) held-counted)
+        go false e =
+            record {
+              rises = c .rises;
+              last =
+                  ap (λ (d : Channel). numberOn d .0)
+                  (getD-set-other (x .peer .channels) (a .channel) channel _ noChannel (λ i. eqb-false (a .channel) channel e (sym i)))
+                  ∙ c .last;
+              plain = plain-set (x .peer .incoming) n (arrivedSlot a) refl (c .plain);
+            }
+
+    reliable-counted : After (arrivesReliable s a datagram x .after)
+    reliable-counted =
+        reliable-has s a datagram x (λ (o : Outcome State). After (o .after)) (λ why. not-arrived) (λ good e. not-arrived)
+        (λ n good long may e. held n good may (held-free s a datagram x n e))
+
+  -- ---- calls that report nothing and leave the channel's last number and the slots
+  behind-still : (p : Peer) (g : Gate) (rest : Outcome Peer) → Still p (rest .after) → Still p (behind g p rest .after)
+  behind-still p g rest s = behind-has g p rest (λ (o : Outcome Peer). Still p (o .after)) (λ why. still p) (λ e. s)
+
+  state-still : (s : Settings) (state : ℕ) (p : Peer) → Still p (setsState s state p .after)
+  state-still s state p = behind-still p (gate s p) (setsStateSound state p) (go (leb state lastState))
+    where
+      go : (b : Bool) → Still p (pick b (finished (stated state p)) (unchanged OutOfRange p) .after)
+      go true = record { last = refl; slots = refl }
+      go false = still p
+
+  -- setting up counts a channel's outgoing numbers alone
+  queued-still : (x : Piece) (p : Peer) → Still p (queued x p)
+  unfolding queued queuedAt
+  queued-still x p = go (lowest outgoing (usedOut (p .lists)))
+    where
+      go : (f : Free) → Still p (queuedIn f x p)
+      go (Lowest n) = record { last = part-set numberOn (p .channels) (x .command .channel) _ noChannel channel refl; slots = refl }
+      go Full = still p
+
+  all-still : (xs : List Piece) (p : Peer) → Still p (queuedAll xs p)
+  unfolding queuedAll
+  all-still [] p = still p
+  all-still (x ∷ xs) p =
+      let s = queued-still x p in
+      let t = all-still xs (queued x p) in
+      record { last = t .last ∙ s .last; slots = t .slots ∙ s .slots }
+
+  setup-still : (s : Settings) (x : Piece) (p : Peer) → Still p (setsUp s x p .after)
+  setup-still s x p =
+      behind-still p (gate s p) (setsUpSound x p)
+      (behind-still p (setupGate x (p .standing .count) (room p)) (finished (queued x p)) (queued-still x p))
+
+  send-still : (s : Settings) (on long flags : ℕ) (p : Peer) → Still p (sends s on long flags p .after)
+  send-still s on long flags p =
+      let xs = commands (fragment s p) on long flags p in
+      behind-still p (gate s p) (sendsSound s on long flags p)
+      (behind-still p (sendGate s on long (p .standing)) (queuesAll xs p)
+      (behind-still p (queueGate (length xs) (room p)) (finished (queuedAll xs p)) (all-still xs p)))
+
+  ping-still : (s : Settings) (p : Peer) → Still p (pings s p .after)
+  ping-still s p =
+      behind-still p (gate s p) (pingsSound p)
+      (behind-still p (pingGate (p .standing) (room p)) (finished (queued pingPiece p)) (queued-still pingPiece p))
+
+  step-still : (s : Settings) (q : Queue) (time : ℕ) (p : Peer) → Still p (steps s q time p .after)
+  unfolding sentAs
+  step-still s q time p = behind-still p (gate s p) (stepsSound q time p) (go (first (outItems (listOf q (p .lists)))))
+    where
+      go : (f : First) → Still p (stepsFrom f q time p .after)
+      go Empty = still p
+      go (Slot n) = record { last = refl; slots = refl }
+
+  left-still : (p q : Peer) → q .channels ≡ p .channels → q .incoming ≡ p .incoming → Still p q
+  left-still p q e i = record { last = ap (λ (cs : List Channel). numberOn (getD cs channel noChannel)) e; slots = i }
+
+  untouched-still : (p q : Peer) → Untouched p q → Still p q
+  untouched-still p q u = left-still p q (u .channels) (u .incoming)
+
+  receive-still : (s : Settings) (p : Peer) → Still p (receives s p .after)
+  receive-still s p = let k = receive-keeps s p in left-still p (receives s p .after) (k .channels) (k .incoming)
+
+  -- ---- reset and begin: done, both start anew; refused, nothing changes
+  anew-last : numberOn (getD (replicate channels noChannel) channel noChannel) .0 ≡ 0
+  unfolding noChannel
+  anew-last = ap (λ (c : Channel). numberOn c .0) (same-all channels channel noChannel)
+
+  fresh-counted : (mtu : ℕ) (k : Kept) → Counted (freshPeer mtu k) []
+  unfolding freshPeer
+  fresh-counted mtu k = record { rises = tt; last = anew-last; plain = fresh-plain incoming }
+
+  -- the log of a call that may begin the channels anew, by its answer
+  abbrev Anew : List ℕ → Outcome Peer → Type 0
+  Anew log o = Counted (o .after) (pick (eqb (o .answer .number) 0) [] log)
+
+  refused-counted : (p : Peer) (log : List ℕ) → Counted p log → (why : Refusal) → Anew log (unchanged why p)
+  refused-counted p log c why = rw (ne-eqb (numberOf why) 0 (refused-not-done why)) c
+
+  reset-counted : (s : Settings) (p : Peer) (log : List ℕ) → Counted p log → Anew log (resets s p)
+  reset-counted s p log c =
+      picked (Anew log) (fitSettings s) (finished (freshPeer (s .mtu) (kept p))) (unchanged OutOfRange p) (fresh-counted (s .mtu) (kept p)) c
+
+  begin-counted : (s : Settings) (mtu count : ℕ) (p : Peer) (log : List ℕ) → Counted p log → Anew log (begins s mtu count p)
+  begin-counted s mtu count p log c =
+      behind-has (gate s p) p (beginsSound mtu count p) (Anew log) (refused-counted p log c)
+      (λ e. picked (Anew log) (beginFits mtu count (p .standing .count)) (finished (begun mtu count p)) (unchanged OutOfRange p)
+      (record { rises = tt; last = anew-last; plain = c .plain }) c)
+
+  -- ---- each call, and a run
+  call-counted : (a : Call) (s : Settings) (datagram : List ℕ) (x : State) (log : List ℕ) → Whole (x .peer) → Counted (x .peer) log
+      → let o = step s a datagram x in
+      Counted (o .after .peer) (pick (isAnew a (o .answer)) [] (pick (isOn channel a) (log ++ numbersJoined x (o .after)) log))
+  call-counted call.Reset s datagram x log w c = reset-counted s (x .peer) log c
+  call-counted (call.Begin mtu count) s datagram x log w c = begin-counted s mtu count (x .peer) log c
+  call-counted (call.SetState state) s datagram x log w c =
+      still-counted (x .peer) (setsState s state (x .peer) .after) log (state-still s state (x .peer)) c
+  call-counted call.Ping s datagram x log w c = still-counted (x .peer) (pings s (x .peer) .after) log (ping-still s (x .peer)) c
+  call-counted (call.Send on long flags) s datagram x log w c =
+      still-counted (x .peer) (sends s on long flags (x .peer) .after) log (send-still s on long flags (x .peer)) c
+  call-counted (call.Setup piece) s datagram x log w c =
+      still-counted (x .peer) (setsUp s piece (x .peer) .after) log (setup-still s piece (x .peer)) c
+  call-counted (call.SendStep queue time) s datagram x log w c =
+      still-counted (x .peer) (steps s queue time (x .peer) .after) log (step-still s queue time (x .peer)) c
+  call-counted (call.Acknowledgement on number sent clock) s datagram x log w c =
+      let q = acknowledges s on (number .0) sent clock (x .peer) .after in
+      still-counted (x .peer) q log (untouched-still (x .peer) q (acknowledge-untouched s on (number .0) sent clock (x .peer))) c
+  call-counted (call.TimeoutCheck clock) s datagram x log w c =
+      let q = checks s clock (x .peer) .after in
+      still-counted (x .peer) q log (untouched-still (x .peer) q (check-untouched s clock (x .peer))) c
+  call-counted (call.UnsequencedArrival a group) s datagram x log w c = unsequenced-counted s a datagram x log w c group
+  call-counted (call.ReliableArrival a) s datagram x log w c = reliable-counted s a datagram x log w c
+  call-counted (call.Dispatch on) s datagram x log w c = dispatch-counted s on (x .peer) log w c
+  call-counted call.Receive s datagram x log w c =
+      still-counted (x .peer) (receives s (x .peer) .after) log (receive-still s (x .peer)) c
+  call-counted (call.Throttle sample) s datagram x log w c =
+      let q = throttles s sample (x .peer) .after in
+      still-counted (x .peer) q log (untouched-still (x .peer) q (throttle-untouched s sample (x .peer))) c
+
+  run-rises : (calls : List Asked) (x : State) (log : List ℕ) → Whole (x .peer) → Counted (x .peer) log → Rises 0 (reports channel calls x log)
+  unfolding reports
+  run-rises [] x log w c = c .rises
+  run-rises (a ∷ rest) x log w c =
+      run-rises rest (made a x .after) (reported channel a x log)
+      (call-sounds (a .settings) (a .call) (a .datagram) (x .store) .whole (x .peer) w)
+      (call-counted (a .call) (a .settings) (a .datagram) x log w c)
+
+pub counts-once : CountsOnce
+counts-once mtu kept store calls channel =
+    let x = resetState mtu kept store in
+    rises-series 0 (reports channel calls x [])
+    (run-rises channel calls x [] (fresh-whole mtu kept) (fresh-counted channel mtu kept))

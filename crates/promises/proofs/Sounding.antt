@@ -1,0 +1,100 @@
+-- A reset record, and any run from it, stays sound. The argument: every call keeps a sound record sound, each by its own law.
+use Prim.Native.Nat.{ℕ}
+use mathlib.Core.Path.{_≡_, refl, ap, sym, _∙_}
+use mathlib.Core.Bool.{Bool, true}
+use mathlib.Core.List.{List, [], _∷_}
+use lib.ListN.{length-replicate}
+use Rattle.numbers.specs.Pick.{pick}
+use Rattle.numbers.specs.declared.refusals.Refusal.the-variants.{OutOfRange}
+use Rattle.slots.specs.Lists.{outgoing, incoming}
+use Rattle.parts.specs.Sizes.{channels}
+use Rattle.parts.specs.Fresh.{noChannel, noOutgoing, noIncoming}
+use Rattle.peer.specs.Damage.{sound}
+use Rattle.peer.specs.Sounds.{Whole, Sounds}
+use Rattle.peer.specs.Settings.{fitSettings}
+use Rattle.peer.specs.Fresh.{freshPeer}
+use Rattle.peer.specs.Outcome.{State, Outcome, finished, unchanged, onPeer}
+use Rattle.peer.specs.declared.settings.Settings.{Settings}
+use Rattle.peer.specs.declared.record.Peer.{Peer}
+use Rattle.peer.specs.declared.defaults.Kept.{Kept}
+use Rattle.opening.specs.Calls.{kept}
+use Rattle.opening.proofs.Sound.{reset-sounds, begin-sounds, state-sounds}
+use Rattle.setup.proofs.Sound.{setup-sounds}
+use Rattle.sending.proofs.Sound.{send-sounds}
+use Rattle.ping.proofs.Sound.{ping-sounds}
+use Rattle.sendstep.proofs.Sound.{step-sounds}
+use Rattle.throttling.proofs.Sound.{throttle-sounds}
+use Rattle.answered.proofs.Acknowledged.{acknowledge-sounds}
+use Rattle.answered.proofs.Checked.{check-sounds}
+use Rattle.arrived.proofs.Unsequenced.{unsequenced-sounds}
+use Rattle.arrived.proofs.Reliable.{reliable-sounds}
+use Rattle.dispatch.proofs.Sound.{dispatch-sounds}
+use Rattle.receive.proofs.Sound.{receive-sounds}
+use Rattle.link.specs.Steps.{step}
+use Rattle.link.specs.Runs.{Asked, made, run, resetState}
+use Rattle.link.specs.declared.calls.Call.{Call}
+use Rattle.link.specs.declared.calls.Call.the-variants as call
+use Rattle.promises.specs.Standing.{StaysSound}
+
+-- a call of the link on a record, beside a store
+abbrev on : Settings → Call → List ℕ → List ℕ → Peer → Outcome Peer
+on s c datagram store p = onPeer (step s c datagram (record { peer = p; store = store }))
+
+pub call-sounds : (s : Settings) (c : Call) (datagram store : List ℕ) → Sounds (on s c datagram store)
+call-sounds s call.Reset datagram store = reset-sounds s
+call-sounds s (call.Begin mtu channels) datagram store = begin-sounds s mtu channels
+call-sounds s (call.SetState state) datagram store = state-sounds s state
+call-sounds s call.Ping datagram store = ping-sounds s
+call-sounds s (call.Send channel length flags) datagram store = send-sounds s channel length flags
+call-sounds s (call.Setup piece) datagram store = setup-sounds s piece
+call-sounds s (call.SendStep queue time) datagram store = step-sounds s queue time
+call-sounds s (call.Acknowledgement channel number sent clock) datagram store = acknowledge-sounds s channel (number .0) sent clock
+call-sounds s (call.TimeoutCheck clock) datagram store = check-sounds s clock
+call-sounds s (call.UnsequencedArrival a group) datagram store = unsequenced-sounds s a group datagram store
+call-sounds s (call.ReliableArrival a) datagram store = reliable-sounds s a datagram store
+call-sounds s (call.Dispatch channel) datagram store = dispatch-sounds s channel
+call-sounds s call.Receive datagram store = receive-sounds s
+call-sounds s (call.Throttle sample) datagram store = throttle-sounds s sample
+
+-- sound and whole, along a run
+pub record Standing (x : State) : Type 0 where
+  pub whole : Whole (x .peer)
+  pub good : sound (x .peer) ≡ true
+
+pub made-stands : (a : Asked) (x : State) → Standing x → Standing (made a x .after)
+made-stands a x k =
+    let c = call-sounds (a .settings) (a .call) (a .datagram) (x .store) in
+    record { whole = c .whole (x .peer) (k .whole); good = c .keeps (x .peer) (k .whole) (k .good) }
+
+pub run-stands : (calls : List Asked) (x : State) → Standing x → Standing (run calls x .end)
+unfolding run
+run-stands [] x k = k
+run-stands (a ∷ rest) x k = run-stands rest (made a x .after) (made-stands a x k)
+
+-- ---- from a reset
+pub fresh-whole : (mtu : ℕ) (k : Kept) → Whole (freshPeer mtu k)
+unfolding freshPeer
+fresh-whole mtu k =
+    record {
+      channels = length-replicate channels noChannel;
+      outgoing = length-replicate outgoing noOutgoing;
+      incoming = length-replicate incoming noIncoming;
+    }
+
+same-kept : (mtu : ℕ) (k : Kept) → kept (freshPeer mtu k) ≡ k
+unfolding freshPeer
+same-kept mtu k = refl
+
+fresh-good : (s : Settings) (k : Kept) → fitSettings s ≡ true → sound (freshPeer (s .mtu) k) ≡ true
+fresh-good s k e =
+    let p = freshPeer (s .mtu) k in
+    let r = reset-sounds s .done p (fresh-whole (s .mtu) k) (ap (λ (b : Bool). pick b (finished (freshPeer (s .mtu) (kept p))) (unchanged OutOfRange p) .answer .number) e) in
+    ap (λ (j : Kept). sound (freshPeer (s .mtu) j)) (sym (same-kept (s .mtu) k))
+    ∙ ap (λ (b : Bool). sound (pick b (finished (freshPeer (s .mtu) (kept p))) (unchanged OutOfRange p) .after)) (sym e)
+    ∙ r
+
+pub reset-stands : (s : Settings) (k : Kept) (store : List ℕ) → fitSettings s ≡ true → Standing (resetState (s .mtu) k store)
+reset-stands s k store e = record { whole = fresh-whole (s .mtu) k; good = fresh-good s k e }
+
+pub stays-sound : StaysSound
+stays-sound s k store calls e = run-stands calls (resetState (s .mtu) k store) (reset-stands s k store e) .good

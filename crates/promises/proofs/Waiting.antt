@@ -1,0 +1,115 @@
+-- From a reset, the waiting total is the lengths stored less the lengths received.
+-- The argument: an arrival that is stored adds its length once, a receive takes off the length that it replies, a reset begins anew, and no other call
+-- changes the total.
+use Prim.Native.Nat.{ℕ, _+_}
+use mathlib.Core.Path.{_≡_, refl, ap, _∙_}
+use mathlib.Core.Bool.{Bool, true, false}
+use mathlib.Core.List.{List, [], _∷_}
+use native.Mathlib.Omega.{arith}
+use lib.ListN.{getD}
+use Rattle.numbers.specs.Pick.{pick}
+use Rattle.numbers.specs.Answers.{Answer}
+use Rattle.numbers.specs.declared.refusals.Refusal.the-variants.{OutOfRange}
+use Rattle.peer.specs.Sounds.{Whole}
+use Rattle.peer.specs.Settings.{fitSettings}
+use Rattle.peer.specs.Fresh.{freshPeer}
+use Rattle.peer.specs.Outcome.{State, Outcome, finished, unchanged}
+use Rattle.peer.specs.declared.settings.Settings.{Settings}
+use Rattle.peer.specs.declared.record.Peer.{Peer}
+use Rattle.peer.specs.declared.defaults.Kept.{Kept}
+use Rattle.opening.specs.Calls.{kept, resets, begins, setsState}
+use Rattle.setup.specs.Calls.{setsUp}
+use Rattle.sending.specs.Calls.{sends}
+use Rattle.ping.specs.Calls.{pings}
+use Rattle.sendstep.specs.Calls.{steps}
+use Rattle.throttling.specs.Calls.{throttles}
+use Rattle.acknowledge.specs.Calls.{acknowledges}
+use Rattle.timeouts.specs.Calls.{checks}
+use Rattle.dispatch.specs.Calls.{dispatches}
+use Rattle.arriving.specs.declared.Arrival.{Arrival}
+use Rattle.arrived.specs.Stores.{Arrives, leaves, stores as takes}
+use Rattle.arrived.proofs.Stores.{unsequenced-stores, reliable-stores}
+use Rattle.unsequenced.specs.Calls.{arrivesUnsequenced}
+use Rattle.reliable.specs.Calls.{arrivesReliable}
+use Rattle.receive.specs.Calls.{receives}
+use Rattle.steady.specs.Steady.{Lowers, stays, lowers}
+use Rattle.steady.proofs.Steady.{begin-steady, state-steady, setup-steady, send-steady, ping-steady, step-steady, acknowledge-steady, check-steady, throttle-steady, dispatch-steady, receive-lowers}
+use Rattle.link.specs.Steps.{step, beside}
+use Rattle.link.specs.Runs.{Asked, made, saysOne, run, resetState}
+use Rattle.link.specs.declared.calls.Call.{Call}
+use Rattle.link.specs.declared.calls.Call.the-variants as call
+use Rattle.promises.specs.Standing.{Tally, nothing, stores, counts, tallied, Waits}
+use Rattle.promises.proofs.Sounding.{fresh-whole, call-sounds}
+use Rattle.promises.proofs.Answers.{Says, unsequenced-says, reliable-says, one-stored, one-not, receive-none}
+
+abbrev Holds : Peer → Tally → Type 0
+Holds p t = p .waiting .total + t .received ≡ t .stored
+
+same-holds : (p q : Peer) (t : Tally) → q .waiting .total ≡ p .waiting .total → Holds p t → Holds q t
+same-holds p q t e h = ap (λ (n : ℕ). n + t .received) e ∙ h
+
+reset-holds : (s : Settings) (x : State) (t : Tally) → Holds (x .peer) t
+    → let o = beside x (resets s (x .peer)) in Holds (o .after .peer) (counts call.Reset (o .answer) t)
+unfolding freshPeer
+reset-holds s x t h = go (fitSettings s)
+  where
+    go : (b : Bool) → let o = beside x (pick b (finished (freshPeer (s .mtu) (kept (x .peer)))) (unchanged OutOfRange (x .peer))) in
+        Holds (o .after .peer) (counts call.Reset (o .answer) t)
+    go true = refl
+    go false = h
+
+-- an arrival: stored, or not
+arrival-holds : (a : Arrival) (datagram : List ℕ) (x : State) (o : Outcome State) (t : Tally) → Arrives a datagram x o → Says (o .answer)
+    → Holds (x .peer) t → Holds (o .after .peer) (stores (a .length) (o .answer) t)
+arrival-holds a datagram x o t (leaves l not) says h = rw (one-not (o .answer) says not) (same-holds (x .peer) (o .after .peer) t (l .total) h)
+arrival-holds a datagram x o t (takes k is) says h = rw (one-stored (o .answer) is) (omega (arith, k .total, h))
+
+-- a receive: a packet, or nothing
+receive-holds : (s : Settings) (x : State) (t : Tally) → Holds (x .peer) t
+    → let o = beside x (receives s (x .peer)) in Holds (o .after .peer) (counts call.Receive (o .answer) t)
+receive-holds s x t h = go (receive-lowers s (x .peer))
+  where
+    go : Lowers (x .peer) (receives s (x .peer))
+        → let o = beside x (receives s (x .peer)) in Holds (o .after .peer) (counts call.Receive (o .answer) t)
+    go (stays e not) =
+        rw (receive-none s (x .peer) not) (same-holds (x .peer) (receives s (x .peer) .after) t e h)
+    go (lowers channel cell long is e) =
+        let one : saysOne (receives s (x .peer) .answer) ≡ true = ap saysOne is in
+        let n : getD (receives s (x .peer) .answer .values) 3 0 ≡ long = ap (λ (a : Answer). getD (a .values) 3 0) is in
+        rw one (omega (arith, e, h, n))
+
+call-holds : (c : Call) (s : Settings) (datagram : List ℕ) (x : State) (t : Tally) → Whole (x .peer) → Holds (x .peer) t
+    → let o = step s c datagram x in Holds (o .after .peer) (counts c (o .answer) t)
+call-holds call.Reset s datagram x t w h = reset-holds s x t h
+call-holds (call.Begin mtu channels) s datagram x t w h = same-holds (x .peer) (begins s mtu channels (x .peer) .after) t (begin-steady s mtu channels (x .peer) .total) h
+call-holds (call.SetState state) s datagram x t w h = same-holds (x .peer) (setsState s state (x .peer) .after) t (state-steady s state (x .peer) .total) h
+call-holds call.Ping s datagram x t w h = same-holds (x .peer) (pings s (x .peer) .after) t (ping-steady s (x .peer) .total) h
+call-holds (call.Send channel length flags) s datagram x t w h = same-holds (x .peer) (sends s channel length flags (x .peer) .after) t (send-steady s channel length flags (x .peer) .total) h
+call-holds (call.Setup piece) s datagram x t w h = same-holds (x .peer) (setsUp s piece (x .peer) .after) t (setup-steady s piece (x .peer) .total) h
+call-holds (call.SendStep queue time) s datagram x t w h = same-holds (x .peer) (steps s queue time (x .peer) .after) t (step-steady s queue time (x .peer) .total) h
+call-holds (call.Acknowledgement channel number sent clock) s datagram x t w h =
+    same-holds (x .peer) (acknowledges s channel (number .0) sent clock (x .peer) .after) t (acknowledge-steady s channel (number .0) sent clock (x .peer) .total) h
+call-holds (call.TimeoutCheck clock) s datagram x t w h = same-holds (x .peer) (checks s clock (x .peer) .after) t (check-steady s clock (x .peer) .total) h
+call-holds (call.UnsequencedArrival a group) s datagram x t w h =
+    arrival-holds a datagram x (arrivesUnsequenced s a group datagram x) t (unsequenced-stores s a group datagram x w) (unsequenced-says s a datagram x group) h
+call-holds (call.ReliableArrival a) s datagram x t w h =
+    arrival-holds a datagram x (arrivesReliable s a datagram x) t (reliable-stores s a datagram x w) (reliable-says s a datagram x) h
+call-holds (call.Dispatch channel) s datagram x t w h = same-holds (x .peer) (dispatches s channel (x .peer) .after) t (dispatch-steady s channel (x .peer) .total) h
+call-holds call.Receive s datagram x t w h = receive-holds s x t h
+call-holds (call.Throttle sample) s datagram x t w h = same-holds (x .peer) (throttles s sample (x .peer) .after) t (throttle-steady s sample (x .peer) .total) h
+
+run-holds : (calls : List Asked) (x : State) (t : Tally) → Whole (x .peer) → Holds (x .peer) t
+    → Holds (run calls x .end .peer) (tallied calls x t)
+unfolding run tallied
+run-holds [] x t w h = h
+run-holds (a ∷ rest) x t w h =
+    run-holds rest (made a x .after) (counts (a .call) (made a x .answer) t)
+    (call-sounds (a .settings) (a .call) (a .datagram) (x .store) .whole (x .peer) w)
+    (call-holds (a .call) (a .settings) (a .datagram) x t w h)
+
+fresh-holds : (mtu : ℕ) (k : Kept) → Holds (freshPeer mtu k) nothing
+unfolding freshPeer
+fresh-holds mtu k = refl
+
+pub waits : Waits
+waits mtu kept store calls = run-holds calls (resetState mtu kept store) nothing (fresh-whole mtu kept) (fresh-holds mtu kept)

@@ -1,0 +1,5 @@
+pub mod History
+pub mod Repeats
+pub mod Standing
+pub mod Packets
+pub mod Reports

@@ -1,0 +1,115 @@
+-- What comes out is what went in: a receive hands out the payload of an arrival that was stored, each of them once, in the order in which they joined
+-- dispatched.
+use Prim.Native.Nat.{ℕ, _+_, _*_}
+use mathlib.Core.Path.{_≡_}
+use mathlib.Core.Bool.{Bool, false}
+use mathlib.Core.List.{List, [], _∷_, _++_, map}
+use lib.Dec.{eqb}
+use lib.ListN.{length, getD, take, drop}
+use Rattle.numbers.specs.Pick.{pick}
+use Rattle.numbers.specs.Answers.{Answer}
+use Rattle.slots.specs.Lists.{inItems}
+use Rattle.parts.specs.Sizes.{cell}
+use Rattle.parts.specs.Fresh.{noIncoming}
+use Rattle.parts.specs.Damage.{below, usedIn}
+use Rattle.peer.specs.Outcome.{State, Outcome}
+use Rattle.peer.specs.declared.defaults.Kept.{Kept}
+use Rattle.arriving.specs.declared.Arrival.{Arrival}
+use Rattle.link.specs.Runs.{Asked, made, saysOne, Packet, packetsOf, run, resetState}
+use Rattle.link.specs.declared.calls.Call.{Call}
+use Rattle.link.specs.declared.calls.Call.the-variants as call
+
+-- the packet in an incoming slot: its channel, and the bytes of its cell
+abbrev pub packetAt : State → ℕ → Packet
+packetAt x s =
+    let i = getD (x .peer .incoming) s noIncoming in record { channel = i .channel; bytes = take (i .length) (drop (s * cell) (x .store)) }
+
+-- the packets in dispatched, in their order
+abbrev pub ready : State → List Packet
+ready x = map (packetAt x) (inItems (x .peer .lists .dispatched))
+
+-- all that are there: those in dispatched and those that the channels hold
+abbrev pub present : State → List Packet
+present x = map (packetAt x) (usedIn (x .peer .lists) (below (x .peer .channels) (x .peer .standing .count)))
+
+-- the payload of an arrival
+abbrev pub payload : Arrival → List ℕ → Packet
+payload a datagram = record { channel = a .channel; bytes = take (a .length) (drop (a .place) datagram) }
+
+-- what a call that answers so puts in: an arrival that was stored its payload, any other nothing
+abbrev pub putIn : Call → Answer → List ℕ → List Packet
+putIn (call.UnsequencedArrival a group) w datagram = pick (saysOne w) (payload a datagram ∷ []) []
+putIn (call.ReliableArrival a) w datagram = pick (saysOne w) (payload a datagram ∷ []) []
+putIn call.Reset w datagram = []
+putIn (call.Begin mtu channels) w datagram = []
+putIn (call.SetState state) w datagram = []
+putIn call.Ping w datagram = []
+putIn (call.Send channel length flags) w datagram = []
+putIn (call.Setup piece) w datagram = []
+putIn (call.SendStep queue time) w datagram = []
+putIn (call.Acknowledgement channel number sent clock) w datagram = []
+putIn (call.TimeoutCheck clock) w datagram = []
+putIn (call.Dispatch channel) w datagram = []
+putIn call.Receive w datagram = []
+putIn (call.Throttle sample) w datagram = []
+
+-- since the latest reset, each in its order: the payloads stored, the packets that joined dispatched, the packets received
+pub record Ledger : Type 0 where
+  pub stored : List Packet
+  pub joined : List Packet
+  pub received : List Packet
+
+abbrev pub blank : Ledger
+blank = record { stored = []; joined = []; received = [] }
+
+-- what stands in dispatched past as many as stood there before
+abbrev pub newly : State → State → List Packet
+newly x y = drop (length (ready x)) (ready y)
+
+abbrev pub entered : Asked → State → Outcome State → Ledger → Ledger
+entered a x o l =
+    record {
+      stored = l .stored ++ putIn (a .call) (o .answer) (a .datagram);
+      joined = l .joined ++ newly x (o .after);
+      received = l .received ++ packetsOf (a .call) (o .answer) (x .store);
+    }
+
+-- a reset that is done begins a new ledger
+abbrev pub isReset : Call → Answer → Bool
+isReset call.Reset w = eqb (w .number) 0
+isReset (call.Begin mtu channels) w = false
+isReset (call.SetState state) w = false
+isReset call.Ping w = false
+isReset (call.Send channel length flags) w = false
+isReset (call.Setup piece) w = false
+isReset (call.SendStep queue time) w = false
+isReset (call.Acknowledgement channel number sent clock) w = false
+isReset (call.TimeoutCheck clock) w = false
+isReset (call.UnsequencedArrival a group) w = false
+isReset (call.ReliableArrival a) w = false
+isReset (call.Dispatch channel) w = false
+isReset call.Receive w = false
+isReset (call.Throttle sample) w = false
+
+abbrev pub writes : Asked → State → Ledger → Ledger
+writes a x l = let o = made a x in pick (isReset (a .call) (o .answer)) blank (entered a x o l)
+
+unfoldable pub ledger : List Asked → State → Ledger → Ledger
+ledger [] x l = l
+ledger (a ∷ rest) x l = ledger rest (made a x .after) (writes a x l)
+
+-- how many packets pass a test
+unfoldable pub count : (Packet → Bool) → List Packet → ℕ
+count f [] = 0
+count f (k ∷ ks) = pick (f k) 1 0 + count f ks
+
+pub record InAndOut (l : Ledger) (y : State) : Type 0 where
+  -- whatever is asked of packets: those received and those still there are the stored ones, each once
+  pub once : (f : Packet → Bool) → count f (l .received) + count f (present y) ≡ count f (l .stored)
+  -- they come out in the order in which they joined dispatched
+  pub order : l .received ++ ready y ≡ l .joined
+
+abbrev pub ComesOut : Type 0
+ComesOut =
+    (mtu : ℕ) (kept : Kept) (store : List ℕ) (calls : List Asked) → let x = resetState mtu kept store in
+    InAndOut (ledger calls x blank) (run calls x .end)

@@ -1,0 +1,1 @@
+// The promises about runs of calls: theorems alone.

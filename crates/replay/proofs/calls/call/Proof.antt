@@ -1,0 +1,58 @@
+-- `call` is safe and ends: the part that is lent is within the store.
+use mathlib.Core.Path.{sym}
+use lib.Seq.{length-take-le}
+use borrow.Author.Needs.{needs}
+use Rattle.replay.proofs.calls.call.Statement.{statement}
+use Rattle.replay.proofs.calls.call.Tie as tie
+
+cast-n : tie.Need-cast-n
+cast-n c = search needs
+
+returns : tie.Need-returns
+returns c = search needs
+
+command-requires : tie.Need-command-requires
+command-requires c κs = search needs
+
+call-requires : tie.Need-call-requires
+call-requires c κs = search needs
+
+slice-relend-prefix-call : tie.Need-slice-relend-prefix-call
+slice-relend-prefix-call c = search needs
+
+slice-aggregate-call : tie.Need-slice-aggregate-call
+slice-aggregate-call c =
+    let i = c .before .before .before in
+    let a = i .before .before .before .before .args in
+    sym (length-take-le (a .bench .store) (a .store .now) (i .if1 .left))
+
+bytes-requires : tie.Need-bytes-requires
+bytes-requires c κs = search needs
+
+call-requires-2 : tie.Need-call-requires-2
+call-requires-2 c κs = search needs
+
+tell-requires : tie.Need-tell-requires
+tell-requires c κs = search needs
+
+same-length : tie.Need-same-length
+same-length c = search needs
+
+returns-2 : tie.Need-returns-2
+returns-2 c = search needs
+
+pub call-spec : {M : Type 1} → statement M
+call-spec =
+    tie.close
+    (tie.spec
+    cast-n
+    returns
+    command-requires
+    call-requires
+    slice-relend-prefix-call
+    slice-aggregate-call
+    bytes-requires
+    call-requires-2
+    tell-requires
+    same-length
+    returns-2)

@@ -1,0 +1,101 @@
+// A reply as a line: document 01's number, then the values of SCRIPT.md's table.
+use link::calls::Reply;
+use parts::groups::Outgoing;
+use script::line;
+use script::row::Row;
+
+pub(crate) fn tell(reply: Reply) {
+    match reply {
+        Reply::Called(r) => called(r),
+        Reply::Stepped(r) => stepped(r),
+        Reply::Acknowledged(r) => acknowledged(r),
+        Reply::Checked(r) => checked(r),
+        Reply::Arrived(r) => arrived(r),
+        Reply::Received(r) => received(r),
+        Reply::Throttled(r) => throttled(r),
+    }
+}
+
+fn called(reply: peer::calls::Reply) {
+    match reply {
+        peer::calls::Reply::Done => line::value(0),
+        peer::calls::Reply::Refused(why) => line::value(why.number()),
+    }
+}
+
+// 0 nothing to send, or 1 and the head's numbers.
+fn stepped(reply: sendstep::calls::Reply) {
+    match reply {
+        sendstep::calls::Reply::Refused(why) => line::value(why.number()),
+        sendstep::calls::Reply::Nothing => line::pair(0, 0),
+        sendstep::calls::Reply::Head(o) => head(o),
+    }
+}
+
+fn head(o: Outgoing) {
+    line::pair(0, 1);
+    let row = Row {
+        hash: 0,
+        is_shown: true,
+    };
+    rows::outgoing_slot(row, o);
+}
+
+// 0 passed over, 1 done, 2 connect, 3 disconnect, 4 disconnect now.
+fn acknowledged(reply: acknowledge::Reply) {
+    match reply {
+        acknowledge::Reply::Refused(why) => line::value(why.number()),
+        acknowledge::Reply::Passed => line::pair(0, 0),
+        acknowledge::Reply::Done => line::pair(0, 1),
+        acknowledge::Reply::Connect => line::pair(0, 2),
+        acknowledge::Reply::Disconnect => line::pair(0, 3),
+        acknowledge::Reply::DisconnectNow => line::pair(0, 4),
+    }
+}
+
+// 1 done, 3 disconnect.
+fn checked(reply: timeouts::Reply) {
+    match reply {
+        timeouts::Reply::Refused(why) => line::value(why.number()),
+        timeouts::Reply::Done => line::pair(0, 1),
+        timeouts::Reply::Disconnect => line::pair(0, 3),
+    }
+}
+
+// 0 passed over, 1 stored.
+fn arrived(reply: arriving::Reply) {
+    match reply {
+        arriving::Reply::Refused(why) => line::value(why.number()),
+        arriving::Reply::Passed => line::pair(0, 0),
+        arriving::Reply::Stored => line::pair(0, 1),
+    }
+}
+
+// 0 nothing there, or 1, channel, cell and length.
+fn received(reply: receive::Reply) {
+    match reply {
+        receive::Reply::Refused(why) => line::value(why.number()),
+        receive::Reply::Nothing => line::pair(0, 0),
+        receive::Reply::Packet {
+            channel,
+            cell,
+            length,
+        } => packet(channel, cell, length),
+    }
+}
+
+fn packet(channel: u8, cell: u16, length: u32) {
+    line::pair(0, 1);
+    line::pair(channel as u32, cell as u32);
+    line::value(length);
+}
+
+// 0 held, 1 raised, 2 lowered.
+fn throttled(reply: throttling::Reply) {
+    match reply {
+        throttling::Reply::Refused(why) => line::value(why.number()),
+        throttling::Reply::Held => line::pair(0, 0),
+        throttling::Reply::Raised => line::pair(0, 1),
+        throttling::Reply::Lowered => line::pair(0, 2),
+    }
+}
