@@ -23,6 +23,18 @@ impl Frame {
         out
     }
 
+    /// The first frame of these bytes, and the bytes after it.
+    #[cfg(test)]
+    pub fn decode(bytes: &[u8]) -> Option<(Self, &[u8])> {
+        let (&[op, count], rest) = bytes.split_first_chunk::<2>()?;
+        let (numbers, rest) = rest.split_at_checked(4 * usize::from(count))?;
+        let (length, rest) = rest.split_first_chunk::<2>()?;
+        let (bytes, rest) = rest.split_at_checked(u16::from_be_bytes(*length).into())?;
+        let numbers = numbers.chunks_exact(4);
+        let numbers = numbers.map(|four| u32::from_be_bytes(four.try_into().expect("four bytes")));
+        Some((Frame { op, numbers: numbers.collect(), bytes: bytes.to_vec() }, rest))
+    }
+
     /// The op and these values.
     pub fn line(&self, values: &[u32]) -> String {
         let mut line = self.op.to_string();

@@ -15,8 +15,10 @@ mod packing;
 mod queueing;
 mod random;
 mod records;
+mod repeats;
 mod script;
 mod sending;
+mod talking;
 
 use std::{env, fs, io, process::ExitCode};
 
@@ -38,6 +40,11 @@ fn main() -> ExitCode {
         ["acknowledging", seed, count, script, lines] => {
             write_acknowledging(seed, count, script, lines)
         }
+        ["talking", seed, count, script, lines] => write_talking(seed, count, script, lines),
+        ["repeats", seed, count, script, plain, inserted, lines] => {
+            write_repeats(seed, count, [script, plain, inserted, lines])
+        }
+        ["without", inserted, got] => leave_out(inserted, got),
         ["every", set, script, lines] => write_every(set, script, lines),
         ["packing", seed, count] => pack(seed, count),
         ["reliable", seed, count] => queue(seed, count),
@@ -65,6 +72,10 @@ fn usage() -> String {
   compare sending SEED COUNT SCRIPT_FILE LINES_FILE
   compare arriving SEED COUNT SCRIPT_FILE LINES_FILE
   compare acknowledging SEED COUNT SCRIPT_FILE LINES_FILE
+  compare talking SEED COUNT SCRIPT_FILE LINES_FILE
+  compare repeats SEED COUNT SCRIPT_FILE PLAIN_FILE INSERTED_FILE LINES_FILE
+      PLAIN: the script without the inserted frames; INSERTED: the numbers of their lines
+  compare without INSERTED GOT
   compare every SET SCRIPT_FILE LINES_FILE
       SET: {}, {}, {}
   compare packing SEED COUNT
@@ -124,6 +135,26 @@ fn write_acknowledging(
     written(script, lines, |output| acknowledging::write(output, seed, count))
 }
 
+/// Two peers that talk.
+fn write_talking(seed: &str, count: &str, script: &str, lines: &str) -> Result<ExitCode, String> {
+    let (seed, count) = (number(seed)?, number(count)?);
+    written(script, lines, |output| talking::write(output, seed, count))
+}
+
+/// Runs with inserted repeats, and the same without them.
+fn write_repeats(seed: &str, count: &str, files: [&str; 4]) -> Result<ExitCode, String> {
+    let (seed, count) = (number(seed)?, number(count)?);
+    let [script, plain, inserted, lines] = files;
+    let (plain, inserted) = (create(plain)?, create(inserted)?);
+    written(script, lines, |output| repeats::write(output, plain, inserted, seed, count))
+}
+
+/// Prints the lines that are left without the inserted ones.
+fn leave_out(inserted: &str, got: &str) -> Result<ExitCode, String> {
+    print!("{}", lines::without(&read(inserted)?, &read(got)?)?);
+    Ok(ExitCode::SUCCESS)
+}
+
 fn write_every(set: &str, script: &str, lines: &str) -> Result<ExitCode, String> {
     let write = sets::named(set).or_else(|| arriving::named(set));
     let write = write.or_else(|| acknowledging::named(set));
@@ -151,7 +182,7 @@ fn notify(seed: &str, count: &str) -> Result<ExitCode, String> {
 
 /// What the repository stores for replay: each kind of damage, random records, the rules of sending, some
 /// sequences of sending and of dispatch and receive, then every other op, then arrivals, then acknowledgement, timeouts
-/// and throttle, and last a cut frame.
+/// and throttle, then two peers that talk, then repeats, and last a cut frame.
 fn write_vectors(script: &str, lines: &str) -> Result<ExitCode, String> {
     let plan = script::Plan { seed: 1, count: 3_000, choice: script::Choice::named(None)? };
     written(script, lines, |output| {
@@ -162,7 +193,11 @@ fn write_vectors(script: &str, lines: &str) -> Result<ExitCode, String> {
         taken::write(output, 7, 250)?;
         plan.write_with(output, |output| {
             arriving::write_arrivals(output, 9, 400)?;
-            acknowledging::write_stored(output, 11, 150)
+            acknowledging::write_stored(output, 11, 150)?;
+            // Both moods, from a reset.
+            talking::write(output, 5, 700)?;
+            talking::write(output, 32, 700)?;
+            repeats::write_stored(output, 15, 220)
         })
     })
 }

@@ -106,18 +106,18 @@ fn frame(words: &str) -> Frame {
 #[cfg(test)]
 mod tests {
     use super::*;
-    use crate::acknowledging;
+    use crate::{acknowledging, repeats};
 
     #[test]
     fn every_rule_replies_as_it_says() {
-        for text in [TEXT, acknowledging::RULES] {
+        for text in [TEXT, acknowledging::RULES, repeats::RULES] {
             write_text(&mut Output::new(io::sink(), io::sink()), text).unwrap();
         }
     }
 
     #[test]
     fn every_rule_has_a_name_of_its_own() {
-        let texts = [TEXT, acknowledging::RULES];
+        let texts = [TEXT, acknowledging::RULES, repeats::RULES];
         let rules = texts.into_iter().flat_map(rules);
         let mut names: Vec<&str> = rules.map(|rule| rule.name).collect();
         let all = names.len();
