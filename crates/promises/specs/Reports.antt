@@ -11,9 +11,9 @@ use Rattle.numbers.specs.Answers.{Answer}
 use Rattle.numbers.specs.Counters.{step}
 use Rattle.slots.specs.Lists.{inItems}
 use Rattle.parts.specs.Fresh.{noIncoming}
-use Rattle.peer.specs.Outcome.{State, Outcome}
+use Rattle.peer.specs.Outcome.{State}
 use Rattle.peer.specs.declared.defaults.Kept.{Kept}
-use Rattle.link.specs.Runs.{Asked, made, run, resetState}
+use Rattle.link.specs.Runs.{Asked, made, resetState}
 use Rattle.link.specs.declared.calls.Call.{Call}
 use Rattle.link.specs.declared.calls.Call.the-variants as call
 
