@@ -1,13 +1,16 @@
 -- Demand 1's table as a law: a call answers 0 or a number that it may (`answers-may`), and after every number but 0, 8 and 10 record and store
--- are as they were (`refused-unchanged`). The argument: a gate's refusals are read off its tests and leave what they found, what is behind
+-- are as they were (`refused-unchanged`); 13 only of a record that is not sound (`sound-undamaged`). The argument: a gate's refusals are read off its tests and leave what they found, what is behind
 -- the gates is done, and only an arrival without room (8) and an acknowledgement that removed nothing (10) are refused there.
 use Prim.Native.Nat.{ℕ}
-use mathlib.Core.Path.{_≡_, refl, ap}
-use mathlib.Core.Bool.{Bool, true, false}
+use mathlib.Core.Path.{_≡_, refl, ap, sym, _∙_}
+use mathlib.Core.Bool.{Bool, true, false, not}
 use mathlib.Core.List.{List}
+use native.Mathlib.Omega.{arith}
 use lib.Dec.{eqb, leb, ltb}
 use lib.ListN.{length}
-use Rattle.numbers.specs.Pick.{pick}
+use borrow.Author.Tests.{eqb-false, not-true}
+use Rattle.numbers.specs.Pick.{pick, both}
+use Rattle.numbers.proofs.BoolLaws.{both-left, both-right}
 use Rattle.numbers.specs.Answers.{numberOf, refused}
 use Rattle.numbers.specs.Limits.{mostFragments}
 use Rattle.numbers.specs.Modulo.{sum}
@@ -67,68 +70,90 @@ use Rattle.link.specs.Refusals.{may}
 use Rattle.link.specs.declared.calls.Call.{Call}
 use Rattle.link.specs.declared.calls.Call.the-variants as call
 
--- what both laws say of an outcome of call k on x
-record Fair {A : Type 0} (k : Call) (x : A) (o : Outcome A) : Type 0 where
+-- own refusals: those that a call may answer behind its gate
+abbrev own : Call → ℕ → Bool
+own k n = both (may k n) (not (eqb n 13))
+
+own-may : (k : Call) (n : ℕ) → own k n ≡ true → may k n ≡ true
+own-may k n m = both-left (may k n) (not (eqb n 13)) m
+
+own-not : (k : Call) (n : ℕ) → own k n ≡ true → n ≡ 13 → ⊥
+own-not k n m e = eqb-false n 13 (not-true (eqb n 13) (both-right (may k n) (not (eqb n 13)) m)) e
+
+-- what the laws say of an outcome of call k on x; good says whether its record is sound
+record Fair {A : Type 0} (k : Call) (good : Bool) (x : A) (o : Outcome A) : Type 0 where
   pub number : (o .answer .number ≡ 0 → ⊥) → may k (o .answer .number) ≡ true
   pub kept : (o .answer .number ≡ 0 → ⊥) → (o .answer .number ≡ 8 → ⊥) → (o .answer .number ≡ 10 → ⊥) → o .after ≡ x
+  pub whole : good ≡ true → o .answer .number ≡ 13 → ⊥
 
 picked : {A : Type 0} (P : A → Type 0) (b : Bool) (x y : A) → P x → P y → P (pick b x y)
 picked P true x y a c = a
 picked P false x y a c = c
 
--- the refusals of a gate are the call's
+-- the refusals of a call's own gate
 abbrev Fits : Call → Gate → Type 0
 Fits k Open = Unit {0}
-Fits k (Shut why) = may k (numberOf why) ≡ true
+Fits k (Shut why) = own k (numberOf why) ≡ true
 
-module _ {A : Type 0} (k : Call) (x : A) where
-  done : (o : Outcome A) → o .answer .number ≡ 0 → Fair k x o
-  done o z = record { number = λ n. absurd (n z); kept = λ n e t. absurd (n z) }
+module _ {A : Type 0} {good : Bool} (k : Call) (x : A) where
+  done : (o : Outcome A) → o .answer .number ≡ 0 → Fair k good x o
+  done o z = record { number = λ n. absurd (n z); kept = λ n e t. absurd (n z); whole = λ g e. omega (arith, z, e) }
 
-  shut : (why : Refusal) → may k (numberOf why) ≡ true → Fair k x (unchanged why x)
-  shut why m = record { number = λ n. m; kept = λ n e t. refl }
+  shut : (why : Refusal) → own k (numberOf why) ≡ true → Fair k good x (unchanged why x)
+  shut why m = record { number = λ n. own-may k (numberOf why) m; kept = λ n e t. refl; whole = λ g. own-not k (numberOf why) m }
 
   -- 8 and 10 may leave something else
-  late : (why : Refusal) (y : A) → may k (numberOf why) ≡ true → ((numberOf why ≡ 8 → ⊥) → (numberOf why ≡ 10 → ⊥) → ⊥)
-      → Fair k x (record { answer = refused why; after = y })
-  late why y m which = record { number = λ n. m; kept = λ n e t. absurd (which e t) }
+  late : (why : Refusal) (y : A) → own k (numberOf why) ≡ true → ((numberOf why ≡ 8 → ⊥) → (numberOf why ≡ 10 → ⊥) → ⊥)
+      → Fair k good x (record { answer = refused why; after = y })
+  late why y m which =
+      record { number = λ n. own-may k (numberOf why) m; kept = λ n e t. absurd (which e t); whole = λ g. own-not k (numberOf why) m }
 
-  behind-fair : (rest : Outcome A) (g : Gate) → Fits k g → Fair k x rest → Fair k x (behind g x rest)
+  behind-fair : (rest : Outcome A) (g : Gate) → Fits k g → Fair k good x rest → Fair k good x (behind g x rest)
   behind-fair rest Open m f = f
   behind-fair rest (Shut why) m f = shut why m
 
-  gated-fair : (s : Settings) (lent : Lent) (p : Peer) (rest : Outcome A) → may k 11 ≡ true → may k 13 ≡ true → Fair k x rest
-      → Fair k x (gated s lent p x rest)
-  gated-fair s lent p rest m n f =
-      behind-fair rest (gateOf (fits s lent) (sound p)) (picked (Fits k) (fits s lent) _ _ (picked (Fits k) (sound p) _ _ tt n) m) f
+-- the gate of every call: 11, and 13 only where the record is not sound
+gated-fair : {A : Type 0} (k : Call) (x : A) (s : Settings) (lent : Lent) (p : Peer) (rest : Outcome A) → own k 11 ≡ true → may k 13 ≡ true
+    → Fair k (sound p) x rest → Fair k (sound p) x (gated s lent p x rest)
+gated-fair k x s lent p rest m n f = go (fits s lent) (sound p) refl
+  where
+    go : (a b : Bool) → sound p ≡ b → Fair k (sound p) x (behind (gateOf a b) x rest)
+    go true true e = f
+    go true false e =
+        record {
+          number = λ z. n;
+          kept = λ z u t. refl;
+          whole = λ g w. let z : false ≡ true = sym e ∙ g in let y : _≡_ {A = ℕ} 0 1 = cc in omega arith;
+        }
+    go false b e = shut k x OutOfRange m
 
-beside-fair : (k : Call) (x : State) (o : Outcome Peer) → Fair k (x .peer) o → Fair k x (beside x o)
+beside-fair : (k : Call) (x : State) (o : Outcome Peer) → Fair k (sound (x .peer)) (x .peer) o → Fair k (sound (x .peer)) x (beside x o)
 beside-fair k x o f =
-    record { number = f .number; kept = λ n e t. ap (λ (p : Peer). record { peer = p; store = x .store }) (f .kept n e t) }
+    record { number = f .number; kept = λ n e t. ap (λ (p : Peer). record { peer = p; store = x .store }) (f .kept n e t); whole = f .whole }
 
 -- ---- the calls on the record alone
 module _ (s : Settings) (p : Peer) where
-  reset-fair : Fair call.Reset p (resets s p)
-  reset-fair = picked (Fair call.Reset p) (fitSettings s) _ _ (done _ p _ refl) (shut _ p OutOfRange refl)
+  reset-fair : Fair call.Reset (sound p) p (resets s p)
+  reset-fair = picked (Fair call.Reset (sound p) p) (fitSettings s) _ _ (done _ p _ refl) (shut _ p OutOfRange refl)
 
-  begin-fair : (mtu count : ℕ) → Fair (call.Begin mtu count) p (begins s mtu count p)
+  begin-fair : (mtu count : ℕ) → Fair (call.Begin mtu count) (sound p) p (begins s mtu count p)
   begin-fair mtu count =
       let k = call.Begin mtu count in
       gated-fair k p s Nothing p _ refl refl
-      (picked (Fair k p) (beginFits mtu count (p .standing .count)) _ _ (done k p _ refl) (shut k p OutOfRange refl))
+      (picked (Fair k (sound p) p) (beginFits mtu count (p .standing .count)) _ _ (done k p _ refl) (shut k p OutOfRange refl))
 
-  state-fair : (state : ℕ) → Fair (call.SetState state) p (setsState s state p)
+  state-fair : (state : ℕ) → Fair (call.SetState state) (sound p) p (setsState s state p)
   state-fair state =
       let k = call.SetState state in
-      gated-fair k p s Nothing p _ refl refl (picked (Fair k p) (leb state lastState) _ _ (done k p _ refl) (shut k p OutOfRange refl))
+      gated-fair k p s Nothing p _ refl refl (picked (Fair k (sound p) p) (leb state lastState) _ _ (done k p _ refl) (shut k p OutOfRange refl))
 
-  ping-fair : Fair call.Ping p (pings s p)
+  ping-fair : Fair call.Ping (sound p) p (pings s p)
   ping-fair =
       let k = call.Ping in
       gated-fair k p s Nothing p _ refl refl
       (behind-fair k p _ (pingGate (p .standing) (room p)) (picked (Fits k) (isConnected (p .standing)) _ _ (picked (Fits k) (leb 1 (room p)) _ _ tt refl) refl) (done k p _ refl))
 
-  send-fair : (channel size flags : ℕ) → Fair (call.Send channel size flags) p (sends s channel size flags p)
+  send-fair : (channel size flags : ℕ) → Fair (call.Send channel size flags) (sound p) p (sends s channel size flags p)
   send-fair channel size flags =
       let k = call.Send channel size flags in
       let xs = commands (fragment s p) channel size flags p in
@@ -140,7 +165,7 @@ module _ (s : Settings) (p : Peer) where
       (picked (Fits k) (leb (length xs) mostFragments) _ _ (picked (Fits k) (leb (length xs) (room p)) _ _ tt refl) refl)
       (done k p _ refl)))
 
-  setup-fair : (x : Piece) → Fair (call.Setup x) p (setsUp s x p)
+  setup-fair : (x : Piece) → Fair (call.Setup x) (sound p) p (setsUp s x p)
   setup-fair x =
       let k = call.Setup x in
       gated-fair k p s Nothing p _ refl refl
@@ -149,18 +174,18 @@ module _ (s : Settings) (p : Peer) where
       (picked (Fits k) (leb 1 (room p)) _ _ (picked (Fits k) (namesFields (x .command)) _ _ tt refl) refl) refl)
       (done k p _ refl))
 
-  step-fair : (q : Queue) (time : ℕ) → Fair (call.SendStep q time) p (stepping.steps s q time p)
+  step-fair : (q : Queue) (time : ℕ) → Fair (call.SendStep q time) (sound p) p (stepping.steps s q time p)
   step-fair q time = gated-fair k p s Nothing p _ refl refl (by-first (first (outItems (listOf q (p .lists)))))
     where
       k : Call
       k = call.SendStep q time
 
-      by-first : (f : First) → Fair k p (stepping.stepsFrom f q time p)
+      by-first : (f : First) → Fair k (sound p) p (stepping.stepsFrom f q time p)
       by-first Empty = done k p _ refl
       by-first (Slot n) = done k p _ refl
 
   acknowledgement-fair : (channel : ℕ) (number : Reliable) (sent clock : ℕ)
-      → Fair (call.Acknowledgement channel number sent clock) p (acknowledging.acknowledges s channel (number .0) sent clock p)
+      → Fair (call.Acknowledgement channel number sent clock) (sound p) p (acknowledging.acknowledges s channel (number .0) sent clock p)
   acknowledgement-fair channel number sent clock =
       gated-fair k p s Nothing p _ refl refl (by-trip (acknowledging.heardIn (p .standing .state) clock sent))
     where
@@ -168,7 +193,7 @@ module _ (s : Settings) (p : Peer) where
       k = call.Acknowledgement channel number sent clock
 
       Heard : Peer → Reply → Type 0
-      Heard y r = Fair k p (record { answer = acknowledging.answerOf r; after = y })
+      Heard y r = Fair k (sound p) p (record { answer = acknowledging.answerOf r; after = y })
 
       removed : (y : Peer) (command wanted : ℕ) (event : Reply) → Heard y event → Heard y (acknowledging.removedOr command wanted event)
       removed y command wanted event h =
@@ -181,7 +206,7 @@ module _ (s : Settings) (p : Peer) where
           (picked (Heard y) (eqb state disconnectLater) _ _
           (picked (Heard y) (acknowledging.isEmpty (usedOut left)) _ _ (done k p _ refl) (done k p _ refl)) (done k p _ refl)))
 
-      by-trip : (t : Trip) → Fair k p (acknowledging.acknowledgesBy t channel (number .0) clock p)
+      by-trip : (t : Trip) → Fair k (sound p) p (acknowledging.acknowledgesBy t channel (number .0) clock p)
       by-trip PassedOver = done k p _ refl
       by-trip (Taken sample) =
           let spot = spotOf (p .outgoing) (number .0) channel (p .lists) in
@@ -189,7 +214,7 @@ module _ (s : Settings) (p : Peer) where
           event (acknowledging.heardAt spot sample clock p .after) (p .standing .state) (commandAt (isSome slot) (heldBy (p .outgoing) slot))
           (listsWithout spot (p .lists))
 
-  check-fair : (clock : ℕ) → Fair (call.TimeoutCheck clock) p (checking.checks s clock p)
+  check-fair : (clock : ℕ) → Fair (call.TimeoutCheck clock) (sound p) p (checking.checks s clock p)
   check-fair clock = gated-fair k p s Nothing p _ refl refl (done k p _ (by-walk (checking.walkOf clock p .walk .over)))
     where
       k : Call
@@ -199,20 +224,20 @@ module _ (s : Settings) (p : Peer) where
       by-walk true = refl
       by-walk false = refl
 
-  dispatch-fair : (channel : ℕ) → Fair (call.Dispatch channel) p (dispatches s channel p)
+  dispatch-fair : (channel : ℕ) → Fair (call.Dispatch channel) (sound p) p (dispatches s channel p)
   dispatch-fair channel =
       let k = call.Dispatch channel in
       gated-fair k p s Nothing p _ refl refl
       (behind-fair k p _ (dispatchGate channel (p .standing)) (picked (Fits k) (ltb channel (p .standing .count)) _ _ tt refl) (done k p _ refl))
 
-  receive-fair : Fair call.Receive p (receiving.receives s p)
+  receive-fair : Fair call.Receive (sound p) p (receiving.receives s p)
   receive-fair = gated-fair call.Receive p s Nothing p _ refl refl (by-first (first (inItems (p .lists .dispatched))))
     where
-      by-first : (f : First) → Fair call.Receive p (receiving.receivesFrom f p)
+      by-first : (f : First) → Fair call.Receive (sound p) p (receiving.receivesFrom f p)
       by-first Empty = done _ p _ refl
       by-first (Slot n) = done _ p _ refl
 
-  throttle-fair : (sample : ℕ) → Fair (call.Throttle sample) p (throttling.throttles s sample p)
+  throttle-fair : (sample : ℕ) → Fair (call.Throttle sample) (sound p) p (throttling.throttles s sample p)
   throttle-fair sample =
       gated-fair k p s Nothing p _ refl refl
       (done k p _ (by-tests (leb (t .last) (t .variance)) (leb sample (t .last)) (ltb (sum 32 (t .last) (sum 32 (t .variance) (t .variance))) sample)))
@@ -235,7 +260,7 @@ module _ (s : Settings) (a : Arrival) (datagram : List ℕ) (x : State) where
   p = x .peer
 
   -- 9, 6, 7 are the gate's
-  arrival-fits : (k : Call) (command : ℕ) → may k 9 ≡ true → may k 6 ≡ true → may k 7 ≡ true
+  arrival-fits : (k : Call) (command : ℕ) → own k 9 ≡ true → own k 6 ≡ true → own k 7 ≡ true
       → Fits k (arrivalGate command a s (p .standing) (length datagram))
   arrival-fits k command nine six seven = go (names (a .byte) command) (isReceiving (a .channel) (p .standing)) (isWhole a s (length datagram))
     where
@@ -246,7 +271,7 @@ module _ (s : Settings) (a : Arrival) (datagram : List ℕ) (x : State) where
       go true false d = six
       go false c d = nine
 
-  unsequenced-fair : (group : Group) → Fair (call.UnsequencedArrival a group) x (arrivesUnsequenced s a group datagram x)
+  unsequenced-fair : (group : Group) → Fair (call.UnsequencedArrival a group) (sound p) x (arrivesUnsequenced s a group datagram x)
   unsequenced-fair group =
       gated-fair k x s (Store (length (x .store))) p _ refl refl
       (behind-fair k x _ (arrivalGate sendUnsequenced a s (p .standing) (length datagram)) (arrival-fits k sendUnsequenced refl refl refl) (by-fate (judgedOn s group p .fate)))
@@ -255,12 +280,12 @@ module _ (s : Settings) (a : Arrival) (datagram : List ℕ) (x : State) where
       k = call.UnsequencedArrival a group
 
       by-fate : (f : Fate)
-          → Fair k x (record { answer = answerOf (replyOf f); after = unsequencedAfter f (judgedOn s group p .groups) a datagram x })
+          → Fair k (sound p) x (record { answer = answerOf (replyOf f); after = unsequencedAfter f (judgedOn s group p .groups) a datagram x })
       by-fate fate.Passed = done k x _ refl
       by-fate fate.NoRoom = late k x NotStored _ refl (λ e t. e refl)
       by-fate (fate.Stored n) = done k x _ refl
 
-  reliable-fair : Fair (call.ReliableArrival a) x (arrivesReliable s a datagram x)
+  reliable-fair : Fair (call.ReliableArrival a) (sound p) x (arrivesReliable s a datagram x)
   reliable-fair =
       gated-fair k x s (Store (length (x .store))) p _ refl refl
       (behind-fair k x _ (arrivalGate sendReliable a s (p .standing) (length datagram)) (arrival-fits k sendReliable refl refl refl) (by-fate (fateOn s a p)))
@@ -268,13 +293,13 @@ module _ (s : Settings) (a : Arrival) (datagram : List ℕ) (x : State) where
       k : Call
       k = call.ReliableArrival a
 
-      by-fate : (f : Fate) → Fair k x (record { answer = answerOf (replyOf f); after = reliableAfter f a datagram x })
+      by-fate : (f : Fate) → Fair k (sound p) x (record { answer = answerOf (replyOf f); after = reliableAfter f a datagram x })
       by-fate fate.Passed = done k x _ refl
       by-fate fate.NoRoom = late k x NotStored _ refl (λ e t. e refl)
       by-fate (fate.Stored n) = done k x _ refl
 
 -- ---- every call
-step-is-fair : (s : Settings) (k : Call) (datagram : List ℕ) (x : State) → Fair k x (step s k datagram x)
+step-is-fair : (s : Settings) (k : Call) (datagram : List ℕ) (x : State) → Fair k (sound (x .peer)) x (step s k datagram x)
 step-is-fair s call.Reset datagram x = beside-fair _ x _ (reset-fair s (x .peer))
 step-is-fair s (call.Begin mtu channels) datagram x = beside-fair _ x _ (begin-fair s (x .peer) mtu channels)
 step-is-fair s (call.SetState state) datagram x = beside-fair _ x _ (state-fair s (x .peer) state)
@@ -301,3 +326,7 @@ module _ (s : Settings) (k : Call) (datagram : List ℕ) (x : State) where
 
   pub refused-unchanged : (number ≡ 0 → ⊥) → (number ≡ 8 → ⊥) → (number ≡ 10 → ⊥) → step s k datagram x .after ≡ x
   refused-unchanged = step-is-fair s k datagram x .kept
+
+  -- a sound record is never answered 13
+  pub sound-undamaged : sound (x .peer) ≡ true → number ≡ 13 → ⊥
+  sound-undamaged = step-is-fair s k datagram x .whole
