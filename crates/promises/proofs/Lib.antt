@@ -7,3 +7,7 @@ pub mod Stepping
 pub mod Traces
 pub mod Sounding
 pub mod Waiting
+pub mod Presence
+pub mod Quiet
+pub mod Passing
+pub mod Comings
