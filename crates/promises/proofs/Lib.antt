@@ -8,3 +8,8 @@ pub mod Traces
 pub mod Sounding
 pub mod Waiting
 pub mod Reporting
+pub mod Presence
+pub mod Quiet
+pub mod Passing
+pub mod Comings
+pub mod Examples

@@ -1,4 +1,5 @@
--- A reset record, and any run from it, stays sound. The argument: every call keeps a sound record sound, each by its own law.
+-- A reset record, and any run from it, stays sound, and 13 is never answered. The argument: every call keeps a sound record sound, each by its own law,
+-- and answers 13 only of one that is not.
 use Prim.Native.Nat.{ℕ}
 use mathlib.Core.Path.{_≡_, refl, ap, sym, _∙_}
 use mathlib.Core.Bool.{Bool, true}
@@ -34,7 +35,8 @@ use Rattle.link.specs.Steps.{step}
 use Rattle.link.specs.Runs.{Asked, made, run, resetState}
 use Rattle.link.specs.declared.calls.Call.{Call}
 use Rattle.link.specs.declared.calls.Call.the-variants as call
-use Rattle.promises.specs.Standing.{StaysSound}
+use Rattle.link.proofs.Refusals.{sound-undamaged}
+use Rattle.promises.specs.Standing.{StaysSound, Undamaged, NeverDamaged}
 
 -- a call of the link on a record, beside a store
 abbrev on : Settings → Call → List ℕ → List ℕ → Peer → Outcome Peer
@@ -98,3 +100,12 @@ reset-stands s k store e = record { whole = fresh-whole (s .mtu) k; good = fresh
 
 pub stays-sound : StaysSound
 stays-sound s k store calls e = run-stands calls (resetState (s .mtu) k store) (reset-stands s k store e) .good
+
+run-undamaged : (calls : List Asked) (x : State) → Standing x → Undamaged (run calls x .answers)
+unfolding run
+run-undamaged [] x k = tt
+run-undamaged (a ∷ rest) x k =
+    (sound-undamaged (a .settings) (a .call) (a .datagram) x (k .good), run-undamaged rest (made a x .after) (made-stands a x k))
+
+pub never-damaged : NeverDamaged
+never-damaged s k store calls e = run-undamaged calls (resetState (s .mtu) k store) (reset-stands s k store e)

@@ -22,6 +22,16 @@ StaysSound =
     (s : Settings) (kept : Kept) (store : List ℕ) (calls : List Asked) → fitSettings s ≡ true
     → sound (run calls (resetState (s .mtu) kept store) .end .peer) ≡ true
 
+-- and 13 is never answered in it
+abbrev pub Undamaged : List Answer → Type 0
+Undamaged [] = Unit {0}
+Undamaged (a ∷ rest) = (a .number ≡ 13 → ⊥) × Undamaged rest
+
+abbrev pub NeverDamaged : Type 0
+NeverDamaged =
+    (s : Settings) (kept : Kept) (store : List ℕ) (calls : List Asked) → fitSettings s ≡ true
+    → Undamaged (run calls (resetState (s .mtu) kept store) .answers)
+
 -- the lengths stored and the lengths received since the latest reset
 pub record Tally : Type 0 where
   pub stored : ℕ

@@ -1,0 +1,95 @@
+-- What comes out is what went in, each packet once, in the order in which they joined dispatched.
+-- The argument: every call lets packets pass as Presence says, whatever it answers; a run is one call after another, and a reset that is done begins
+-- with nothing.
+use Prim.Native.Nat.{ℕ}
+use mathlib.Core.Path.{refl, ap, sym, _∙_}
+use mathlib.Core.Bool.{Bool, true, false}
+use mathlib.Core.List.{List, [], _∷_, _++_, append-assoc}
+use native.Mathlib.Omega.{arith}
+use Rattle.numbers.specs.Pick.{pick}
+use Rattle.numbers.specs.declared.refusals.Refusal.the-variants.{OutOfRange}
+use Rattle.parts.specs.Fresh.{noLists}
+use Rattle.parts.specs.Damage.{held}
+use Rattle.peer.specs.Settings.{fitSettings}
+use Rattle.peer.specs.Fresh.{freshPeer}
+use Rattle.peer.specs.Outcome.{State, finished, unchanged}
+use Rattle.peer.specs.Sounds.{Whole}
+use Rattle.peer.specs.declared.settings.Settings.{Settings}
+use Rattle.peer.specs.declared.defaults.Kept.{Kept}
+use Rattle.opening.specs.Calls.{kept, begins, setsState}
+use Rattle.setup.specs.Calls.{setsUp}
+use Rattle.sending.specs.Calls.{sends}
+use Rattle.ping.specs.Calls.{pings}
+use Rattle.sendstep.specs.Calls.{steps}
+use Rattle.throttling.specs.Calls.{throttles}
+use Rattle.acknowledge.specs.Calls.{acknowledges}
+use Rattle.timeouts.specs.Calls.{checks}
+use Rattle.link.specs.Steps.{step, beside}
+use Rattle.link.specs.Runs.{Asked, made, Packet, packetsOf, run, resetState}
+use Rattle.link.specs.declared.calls.Call.{Call}
+use Rattle.link.specs.declared.calls.Call.the-variants as call
+use Rattle.promises.specs.Packets.{ready, putIn, Ledger, blank, newly, isReset, writes, ledger, count, InAndOut, ComesOut}
+use Rattle.promises.proofs.Sounding.{fresh-whole, call-sounds}
+use Rattle.promises.proofs.Presence.{count-append, Passes, still, still-passes}
+use Rattle.promises.proofs.Quiet.{begin-still, state-still, setup-still, send-still, ping-still, step-still, acknowledge-still, check-still, throttle-still}
+use Rattle.promises.proofs.Passing.{dispatch-passes, receive-passes, unsequenced-passes, reliable-passes}
+
+-- ---- the ledger
+abbrev with : Ledger → State → State → List Packet → List Packet → Ledger
+with l x y put out = record { stored = l .stored ++ put; joined = l .joined ++ newly x y; received = l .received ++ out }
+
+passed : {x y : State} {put out : List Packet} (l : Ledger) → InAndOut l x → Passes x y put out → InAndOut (with l x y put out) y
+passed {x} {y} {put} {out} l h k =
+    record {
+      once = λ f. omega (arith, h .once f, k .once f, count-append f (l .received) out, count-append f (l .stored) put);
+      order =
+          append-assoc (l .received) out (ready y) ∙ ap (λ (ks : List Packet). l .received ++ ks) (k .order)
+          ∙ sym (append-assoc (l .received) (ready x) (newly x y)) ∙ ap (λ (ks : List Packet). ks ++ newly x y) (h .order);
+    }
+
+-- nothing is there after a reset
+fresh-holds : (mtu : ℕ) (k : Kept) (store : List ℕ) → InAndOut blank (resetState mtu k store)
+unfolding freshPeer noLists held count
+fresh-holds mtu k store = record { once = λ f. refl; order = refl }
+
+abbrev Holds : Settings → Call → List ℕ → State → Ledger → Type 0
+Holds s c datagram x l =
+    let o = step s c datagram x in
+    InAndOut (pick (isReset c (o .answer)) blank (with l x (o .after) (putIn c (o .answer) datagram) (packetsOf c (o .answer) (x .store)))) (o .after)
+
+reset-holds : (s : Settings) (datagram : List ℕ) (x : State) (l : Ledger) → InAndOut l x → Holds s call.Reset datagram x l
+reset-holds s datagram x l h = go (fitSettings s)
+  where
+    go : (b : Bool) → let o = beside x (pick b (finished (freshPeer (s .mtu) (kept (x .peer)))) (unchanged OutOfRange (x .peer))) in
+        InAndOut (pick (isReset call.Reset (o .answer)) blank (with l x (o .after) [] [])) (o .after)
+    go true = fresh-holds (s .mtu) (kept (x .peer)) (x .store)
+    go false = passed l h (still-passes x (x .peer) (still (x .peer)))
+
+call-holds : (c : Call) (s : Settings) (datagram : List ℕ) (x : State) (l : Ledger) → Whole (x .peer) → InAndOut l x → Holds s c datagram x l
+call-holds call.Reset s datagram x l w h = reset-holds s datagram x l h
+call-holds (call.Begin mtu channels) s datagram x l w h = passed l h (still-passes x (begins s mtu channels (x .peer) .after) (begin-still s mtu channels (x .peer)))
+call-holds (call.SetState state) s datagram x l w h = passed l h (still-passes x (setsState s state (x .peer) .after) (state-still s state (x .peer)))
+call-holds call.Ping s datagram x l w h = passed l h (still-passes x (pings s (x .peer) .after) (ping-still s (x .peer)))
+call-holds (call.Send channel length flags) s datagram x l w h =
+    passed l h (still-passes x (sends s channel length flags (x .peer) .after) (send-still s channel length flags (x .peer)))
+call-holds (call.Setup piece) s datagram x l w h = passed l h (still-passes x (setsUp s piece (x .peer) .after) (setup-still s piece (x .peer)))
+call-holds (call.SendStep queue time) s datagram x l w h = passed l h (still-passes x (steps s queue time (x .peer) .after) (step-still s queue time (x .peer)))
+call-holds (call.Acknowledgement channel number sent clock) s datagram x l w h =
+    passed l h (still-passes x (acknowledges s channel (number .0) sent clock (x .peer) .after) (acknowledge-still s channel (number .0) sent clock (x .peer)))
+call-holds (call.TimeoutCheck clock) s datagram x l w h = passed l h (still-passes x (checks s clock (x .peer) .after) (check-still s clock (x .peer)))
+call-holds (call.UnsequencedArrival a group) s datagram x l w h = passed l h (unsequenced-passes s a group datagram x w)
+call-holds (call.ReliableArrival a) s datagram x l w h = passed l h (reliable-passes s a datagram x w)
+call-holds (call.Dispatch channel) s datagram x l w h = passed l h (dispatch-passes s channel x w)
+call-holds call.Receive s datagram x l w h = passed l h (receive-passes s x)
+call-holds (call.Throttle sample) s datagram x l w h = passed l h (still-passes x (throttles s sample (x .peer) .after) (throttle-still s sample (x .peer)))
+
+run-holds : (calls : List Asked) (x : State) (l : Ledger) → Whole (x .peer) → InAndOut l x → InAndOut (ledger calls x l) (run calls x .end)
+unfolding run ledger
+run-holds [] x l w h = h
+run-holds (a ∷ rest) x l w h =
+    run-holds rest (made a x .after) (writes a x l)
+    (call-sounds (a .settings) (a .call) (a .datagram) (x .store) .whole (x .peer) w)
+    (call-holds (a .call) (a .settings) (a .datagram) x l w h)
+
+pub comes-out : ComesOut
+comes-out mtu kept store calls = run-holds calls (resetState mtu kept store) blank (fresh-whole mtu kept) (fresh-holds mtu kept store)

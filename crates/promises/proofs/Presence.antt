@@ -1,0 +1,222 @@
+-- What one call may do to the packets that are there: take some out at dispatched's head, put one in, let some join dispatched.
+-- The argument: how many packets of some slots pass a test adds up over lists joined, so that lists which name each slot as often count the same; a
+-- slot that stays named holds what it held, since a call that stores writes a free slot and its cell alone.
+use Prim.Native.Nat.{ℕ, suc, _+_, _*_, _≤_, _<_}
+use mathlib.Core.Path.{_≡_, refl, ap, ap₂, sym, _∙_}
+use mathlib.Core.Bool.{Bool, true, false}
+use mathlib.Core.List.{List, [], _∷_, _++_, map, append-nil}
+use mathlib.Core.Logic.{_⊎_, inl, inr}
+use native.Mathlib.Omega.{arith}
+use lib.Dec.{leb, ltb}
+use lib.ListN.{length, take, drop, getD, length-take, length-drop}
+use lib.Seq.{drop-append-seam, ext-getD, getD-take, getD-drop}
+use borrow.Author.Tests.{eq-eqb, leb-true, ltb-true, ltb-false}
+use Rattle.numbers.proofs.BoolLaws.{both-left}
+use Rattle.slots.specs.Lists.{inItems}
+use Rattle.slots.proofs.Keeps.{one, times, times-append}
+use Rattle.parts.specs.Sizes.{cell}
+use Rattle.parts.specs.Fresh.{noIncoming}
+use Rattle.parts.specs.Damage.{below, held, inFit, usedIn}
+use Rattle.parts.specs.declared.groups.Incoming.{Incoming}
+use Rattle.peer.specs.Damage.{sound}
+use Rattle.peer.specs.Outcome.{State}
+use Rattle.peer.specs.declared.record.Peer.{Peer}
+use Rattle.peer.proofs.Clauses.{all-at}
+use Rattle.peer.proofs.InClauses.{InClauses, incoming-clauses}
+use Rattle.arriving.specs.declared.Arrival.{Arrival}
+use Rattle.arrived.specs.Stores.{Stores}
+use Rattle.arrived.proofs.Pools.{free-unnamed}
+use Rattle.link.specs.Runs.{Packet}
+use Rattle.promises.specs.Packets.{packetAt, ready, present, payload, newly, count}
+
+-- the slots that a record's lists name
+abbrev pub named : Peer → List ℕ
+named p = usedIn (p .lists) (below (p .channels) (p .standing .count))
+
+-- ---- counts add up
+abbrev pub Sums : (List ℕ → ℕ) → Type 0
+Sums g = (xs ys : List ℕ) → g (xs ++ ys) ≡ g xs + g ys
+
+map-append : (f : ℕ → Packet) (xs ys : List ℕ) → map f (xs ++ ys) ≡ map f xs ++ map f ys
+map-append f [] ys = refl
+map-append f (x ∷ xs) ys = ap (λ (ks : List Packet). f x ∷ ks) (map-append f xs ys)
+
+pub count-append : (f : Packet → Bool) (ks ls : List Packet) → count f (ks ++ ls) ≡ count f ks + count f ls
+unfolding count
+count-append f [] ls = omega arith
+count-append f (k ∷ ks) ls = omega (arith, count-append f ks ls)
+
+count-none : (f : Packet → Bool) → count f [] ≡ 0
+unfolding count
+count-none f = refl
+
+-- how many of the packets in these slots pass
+abbrev passing : (Packet → Bool) → State → List ℕ → ℕ
+passing f x xs = count f (map (packetAt x) xs)
+
+passing-adds : (f : Packet → Bool) (x : State) → Sums (passing f x)
+passing-adds f x xs ys = ap (count f) (map-append (packetAt x) xs ys) ∙ count-append f (map (packetAt x) xs) (map (packetAt x) ys)
+
+-- what is the same in every slot of a list
+map-same : (f g : ℕ → Packet) (xs : List ℕ) → ((s : ℕ) → 0 < times xs s → f s ≡ g s) → map f xs ≡ map g xs
+map-same f g [] h = refl
+map-same f g (x ∷ xs) h = ap₂ (λ (k : Packet) (ks : List Packet). k ∷ ks) (h x first) (map-same f g xs (λ s p. h s (omega (arith, p))))
+  where
+    first : 0 < one x x + times xs x
+    first = rw (eq-eqb x x refl) (omega arith)
+
+-- ---- one call: `put` went in, `out` came out
+pub record Passes (x y : State) (put out : List Packet) : Type 0 where
+  pub once : (f : Packet → Bool) → count f out + count f (present y) ≡ count f put + count f (present x)
+  pub order : out ++ ready y ≡ ready x ++ newly x y
+
+-- what joined is what is new
+grown : (x y : State) (js : List Packet) → ready y ≡ ready x ++ js → ready y ≡ ready x ++ newly x y
+grown x y js e =
+    e ∙ ap (λ (ks : List Packet). ready x ++ ks) (sym (ap (drop (length (ready x))) e ∙ drop-append-seam (ready x) js))
+
+-- ---- a call that leaves the slots named, and those in dispatched
+pub record Still (p q : Peer) : Type 0 where
+  pub slots : q .incoming ≡ p .incoming
+  pub items : inItems (q .lists .dispatched) ≡ inItems (p .lists .dispatched)
+  pub names : named q ≡ named p
+
+pub still : (p : Peer) → Still p p
+still p = record { slots = refl; items = refl; names = refl }
+
+-- the packet in a slot, by the parts that it is read from
+abbrev partsAt : List ℕ → List Incoming → ℕ → Packet
+partsAt store is s = let i = getD is s noIncoming in record { channel = i .channel; bytes = take (i .length) (drop (s * cell) store) }
+
+parts-same : (store : List ℕ) {is js : List Incoming} {xs ys : List ℕ} → is ≡ js → xs ≡ ys → map (partsAt store is) xs ≡ map (partsAt store js) ys
+parts-same store d e = ap₂ (λ (is : List Incoming) (xs : List ℕ). map (partsAt store is) xs) d e
+
+pub still-passes : (x : State) (q : Peer) → Still (x .peer) q → Passes x (record { peer = q; store = x .store }) [] []
+still-passes x q k =
+    record {
+      once = λ f. ap (λ (ks : List Packet). count f [] + count f ks) (parts-same (x .store) (k .slots) (k .names));
+      order =
+          grown x (record { peer = q; store = x .store }) []
+          (parts-same (x .store) (k .slots) (k .items) ∙ sym (append-nil (ready x)));
+    }
+
+-- ---- a call that names the same slots, some of them now in dispatched
+pub joins-passes : (x : State) (q : Peer) (js : List ℕ) → q .incoming ≡ x .peer .incoming
+    → inItems (q .lists .dispatched) ≡ inItems (x .peer .lists .dispatched) ++ js
+    → ((g : List ℕ → ℕ) → Sums g → g (named q) ≡ g (named (x .peer)))
+    → Passes x (record { peer = q; store = x .store }) [] []
+joins-passes x q js slots items same =
+    record {
+      once =
+          λ f. ap (λ (ks : List Packet). count f [] + count f ks) (parts-same (x .store) {xs = named q} slots refl)
+          ∙ ap (λ (n : ℕ). count f [] + n) (same (passing f x) (passing-adds f x));
+      order =
+          grown x (record { peer = q; store = x .store }) (map (packetAt x) js)
+          (parts-same (x .store) slots items ∙ map-append (packetAt x) (inItems (x .peer .lists .dispatched)) js);
+    }
+
+-- ---- a call that takes the head of dispatched
+past : (ks : List Packet) → drop (suc (length ks)) ks ≡ []
+past [] = refl
+past (k ∷ ks) = past ks
+
+module _ (x : State) (q : Peer) (n : ℕ) (rest others : List ℕ) (slots : q .incoming ≡ x .peer .incoming)
+    (before : inItems (x .peer .lists .dispatched) ≡ n ∷ rest) (after : inItems (q .lists .dispatched) ≡ rest)
+    (used : named (x .peer) ≡ n ∷ others) (left : named q ≡ others) where
+  abbrev y : State
+  y = record { peer = q; store = x .store }
+
+  ready-was : ready x ≡ packetAt x n ∷ map (packetAt x) rest
+  ready-was = ap (map (packetAt x)) before
+
+  ready-is : ready y ≡ map (packetAt x) rest
+  ready-is = parts-same (x .store) slots after
+
+  none-new : newly x y ≡ []
+  none-new = ap₂ (λ (ks ls : List Packet). drop (length ks) ls) ready-was ready-is ∙ past (map (packetAt x) rest)
+
+  pub takes-passes : Passes x y [] (packetAt x n ∷ [])
+  takes-passes =
+      record {
+        once = λ f.
+            omega (
+              arith,
+              count-none f,
+              ap (count f) (parts-same (x .store) slots left),
+              ap (passing f x) used,
+              passing-adds f x (n ∷ []) others,
+            );
+        order =
+            ap (λ (ks : List Packet). packetAt x n ∷ ks) ready-is ∙ sym ready-was ∙ sym (append-nil (ready x))
+            ∙ ap (λ (ks : List Packet). ready x ++ ks) (sym none-new);
+      }
+
+-- ---- an arrival that is stored
+take-same : (n at : ℕ) (d e : List ℕ) → length d ≡ length e → ((i : ℕ) → at ≤ i → i < at + n → getD d i 0 ≡ getD e i 0)
+    → take n (drop at d) ≡ take n (drop at e)
+take-same n at d e long same =
+    ext-getD 0 (take n (drop at d)) (take n (drop at e)) (simp (length-take, length-drop, long))
+    (λ i h.
+    let low : i < n = omega (arith, h, length-take n (drop at d)) in
+    getD-take n (drop at d) i 0 low ∙ getD-drop at d i 0 ∙ same (at + i) (omega arith) (omega arith)
+    ∙ sym (getD-take n (drop at e) i 0 low ∙ getD-drop at e i 0))
+
+module _ (a : Arrival) (datagram : List ℕ) (x y : State) (k : Stores a datagram x y) (good : sound (x .peer) ≡ true) (short : a .length ≤ cell) where
+  abbrev p : Peer
+  p = x .peer
+
+  clauses : InClauses (p .incoming) (p .lists) (below (p .channels) (p .standing .count)) (p .standing .count) (p .waiting .total)
+  clauses = incoming-clauses p good
+
+  other : (s : ℕ) → 0 < times (named p) s → s ≡ k .slot → ⊥
+  other s h z =
+      let none = free-unnamed (p .incoming) (p .lists) (below (p .channels) (p .standing .count)) (p .standing .count) (p .waiting .total) clauses
+      (k .slot) (k .free) in
+      let here : times (named p) s ≡ 0 = rw z none in
+      omega (arith, h, here)
+
+  fits : (s : ℕ) → 0 < times (named p) s → getD (p .incoming) s noIncoming .length ≤ cell
+  fits s h =
+      let i = getD (p .incoming) s noIncoming in
+      leb-true (i .length) cell
+      (both-left (leb (i .length) cell) (ltb (i .channel) (p .standing .count)) (all-at (inFit (p .incoming) (p .standing .count)) (named p) (clauses .fit) s h))
+
+  -- what was named is as it was
+  kept : (s : ℕ) → 0 < times (named p) s → packetAt y s ≡ packetAt x s
+  kept s h =
+      let i = getD (p .incoming) s noIncoming in
+      ap (λ (j : Incoming). record { channel = j .channel; bytes = take (j .length) (drop (s * cell) (y .store)) }) (k .slots s (other s h))
+      ∙ ap (λ (bs : List ℕ). record { channel = i .channel; bytes = bs })
+      (take-same (i .length) (s * cell) (y .store) (x .store) (k .length) (λ j low high. k .bytes j (apart j low high (ltb s (k .slot)) refl)))
+    where
+      apart : (j : ℕ) → s * cell ≤ j → j < s * cell + getD (p .incoming) s noIncoming .length → (b : Bool) → ltb s (k .slot) ≡ b
+          → (j < k .slot * cell) ⊎ (k .slot * cell + a .length ≤ j)
+      apart j low high true t = inl (omega (arith, fits s h, ltb-true s (k .slot) t))
+      apart j low high false t = inr (omega (arith, ltb-false s (k .slot) t, other s h))
+
+  own : packetAt y (k .slot) ≡ payload a datagram
+  own =
+      ap (λ (j : Incoming). record { channel = j .channel; bytes = take (j .length) (drop (k .slot * cell) (y .store)) }) (k .holds)
+      ∙ ap (λ (bs : List ℕ). record { channel = a .channel; bytes = bs }) (k .payload)
+
+  pub stored-passes : (js : List ℕ) → inItems (y .peer .lists .dispatched) ≡ inItems (p .lists .dispatched) ++ js
+      → ((g : List ℕ → ℕ) → Sums g → g (named (y .peer)) ≡ g (k .slot ∷ []) + g (named p))
+      → Passes x y (payload a datagram ∷ []) []
+  stored-passes js items more =
+      let waiting = inItems (p .lists .dispatched) in
+      record {
+        once = λ f.
+            omega (
+              arith,
+              count-none f,
+              more (passing f y) (passing-adds f y),
+              ap (λ (j : Packet). count f (j ∷ [])) own,
+              ap (count f) (map-same (packetAt y) (packetAt x) (named p) kept),
+            );
+        order =
+            grown x y (map (packetAt y) js)
+            (ap (map (packetAt y)) items ∙ map-append (packetAt y) waiting js
+            ∙ ap (λ (ks : List Packet). ks ++ map (packetAt y) js)
+            (map-same (packetAt y) (packetAt x) waiting
+            (λ s h. kept s (omega (arith, h, times-append waiting (held (below (p .channels) (p .standing .count))) s)))));
+      }

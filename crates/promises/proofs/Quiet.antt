@@ -1,0 +1,188 @@
+-- The calls that leave what the incoming lists name, and what it holds: begin, set state, ping, send, setup, send step, acknowledgement, timeout check
+-- and throttle. The argument: none names the incoming slots or dispatched; of a channel setup changes two numbers alone; begin makes channels new
+-- only where none counted.
+use Prim.Native.Nat.{ℕ, zero, suc}
+use mathlib.Core.Path.{_≡_, refl, ap, ap₂, sym, _∙_}
+use mathlib.Core.Bool.{Bool, true, false}
+use mathlib.Core.List.{List, [], _∷_, _++_}
+use lib.Dec.{leb}
+use lib.ListN.{length, getD, take, set, replicate}
+use borrow.Author.Tests.{eqb-true}
+use Rattle.numbers.specs.Pick.{pick}
+use Rattle.numbers.specs.Limits.{leastMtu, mostMtu}
+use Rattle.numbers.specs.declared.clock.Trip.{Trip}
+use Rattle.numbers.specs.declared.clock.Trip.the-variants.{PassedOver, Taken}
+use Rattle.numbers.specs.declared.refusals.Refusal.the-variants.{OutOfRange}
+use Rattle.numbers.proofs.BoolLaws.{both-right}
+use Rattle.slots.specs.Lists.{outgoing, outItems, inItems}
+use Rattle.slots.specs.declared.incoming.InList.{InList}
+use Rattle.runs.specs.Runs.{first}
+use Rattle.runs.specs.Free.{lowest}
+use Rattle.runs.specs.declared.Free.{Free}
+use Rattle.runs.specs.declared.Free.the-variants.{Lowest, Full}
+use Rattle.runs.specs.declared.First.{First}
+use Rattle.runs.specs.declared.First.the-variants.{Slot, Empty}
+use Rattle.parts.specs.Sizes.{channels}
+use Rattle.parts.specs.Fresh.{noChannel}
+use Rattle.parts.specs.Damage.{below, held, usedOut}
+use Rattle.parts.specs.Updates.{withSentList, longer}
+use Rattle.parts.specs.declared.groups.Lists.{Lists}
+use Rattle.parts.specs.declared.groups.Channel.{Channel}
+use Rattle.parts.specs.declared.groups.Outgoing.{Outgoing}
+use Rattle.peer.specs.Damage.{sound}
+use Rattle.peer.specs.Outcome.{Outcome, finished, unchanged}
+use Rattle.peer.specs.States.{lastState}
+use Rattle.peer.specs.Gate.{fits, gateOf, behind, onRecord}
+use Rattle.peer.specs.declared.settings.Settings.{Settings}
+use Rattle.peer.specs.declared.record.Peer.{Peer}
+use Rattle.peer.specs.declared.gate.Lent.the-variants as lent
+use Rattle.peer.specs.declared.gate.Gate.{Gate}
+use Rattle.peer.proofs.Gates.{behind-has}
+use Rattle.opening.specs.Calls.{beginFits, begun, beginsSound, begins, stated, setsStateSound, setsState}
+use Rattle.stamps.specs.declared.pieces.Piece.{Piece}
+use Rattle.setup.specs.Queueing.{room, queuedIn, queuedAt, queued, queuedAll}
+use Rattle.setup.specs.Calls.{setupGate, setsUpSound, setsUp}
+use Rattle.setup.proofs.Joining.{joined-dispatched}
+use Rattle.plans.specs.Refusals.{sendGate, queueGate}
+use Rattle.sending.specs.Calls.{fragment, commands, queuesAll, sendsSound, sends}
+use Rattle.ping.specs.Calls.{pingPiece, pingGate, pingsSound, pings}
+use Rattle.sendstep.specs.Steps.{listOf, head, isAcknowledged, withoutHead, listsSent, sentAs}
+use Rattle.sendstep.specs.Calls.{stepsFrom, stepsSound, steps}
+use Rattle.sendstep.specs.declared.heads.Queue.{Queue}
+use Rattle.sendstep.specs.declared.heads.Queue.the-variants as queue
+use Rattle.throttling.specs.Calls.{throttlesSound, throttles}
+use Rattle.removal.specs.Removal.{spotOf}
+use Rattle.acknowledge.specs.Calls.{heardIn, acknowledgesBy, acknowledgesSound, acknowledges}
+use Rattle.timeouts.specs.Calls.{checksSound, checks}
+use Rattle.answered.proofs.Acknowledged.{same-dispatched}
+use Rattle.promises.proofs.Presence.{named, Still, still}
+
+then : {p q r : Peer} → Still p q → Still q r → Still p r
+then j k = record { slots = k .slots ∙ j .slots; items = k .items ∙ j .items; names = k .names ∙ j .names }
+
+behind-still : (p : Peer) (g : Gate) (rest : Outcome Peer) → Still p (rest .after) → Still p (behind g p rest .after)
+behind-still p g rest k = behind-has g p rest (λ (o : Outcome Peer). Still p (o .after)) (λ why. still p) (λ e. k)
+
+-- and the gate of every call
+on-still : (s : Settings) (p : Peer) (rest : Outcome Peer) → Still p (rest .after) → Still p (onRecord s p rest .after)
+on-still s p rest k = behind-still p (gateOf (fits s lent.Nothing) (sound p)) rest k
+
+-- other lists, with the same dispatched
+listed : (p : Peer) {d : InList} → d ≡ p .lists .dispatched → inItems d ++ held (below (p .channels) (p .standing .count)) ≡ named p
+listed p e = ap (λ (d : InList). inItems d ++ held (below (p .channels) (p .standing .count))) e
+
+-- ---- begin: no channel counted, and those made new hold nothing
+none-held : (n k : ℕ) → held (take k (replicate n noChannel)) ≡ []
+unfolding held noChannel
+none-held n zero = refl
+none-held zero (suc k) = refl
+none-held (suc n) (suc k) = none-held n k
+
+none-counted : (cs : List Channel) (n : ℕ) → n ≡ 0 → held (take n cs) ≡ []
+unfolding held
+none-counted cs n z = ap (λ (k : ℕ). held (take k cs)) z
+
+pub begin-still : (s : Settings) (mtu count : ℕ) (p : Peer) → Still p (begins s mtu count p .after)
+begin-still s mtu count p = on-still s p (beginsSound mtu count p) (go (beginFits mtu count (p .standing .count)) refl)
+  where
+    go : (b : Bool) → beginFits mtu count (p .standing .count) ≡ b → Still p (pick b (finished (begun mtu count p)) (unchanged OutOfRange p) .after)
+    go true e =
+        let zero-now = both-right (leb count channels) _
+        (both-right (leb 1 count) _ (both-right (leb mtu mostMtu) _ (both-right (leb leastMtu mtu) _ e))) in
+        record {
+          slots = refl;
+          items = refl;
+          names =
+              ap (λ (xs : List ℕ). inItems (p .lists .dispatched) ++ xs)
+              (none-held channels count ∙ sym (none-counted (p .channels) (p .standing .count) (eqb-true (p .standing .count) 0 zero-now)));
+        }
+    go false e = still p
+
+pub state-still : (s : Settings) (state : ℕ) (p : Peer) → Still p (setsState s state p .after)
+state-still s state p = on-still s p (setsStateSound state p) (go (leb state lastState))
+  where
+    go : (b : Bool) → Still p (pick b (finished (stated state p)) (unchanged OutOfRange p) .after)
+    go true = record { slots = refl; items = refl; names = refl }
+    go false = still p
+
+-- ---- a piece set up: its channel's list is as it was
+held-same : (c : Channel) (n : ℕ) (cs : List Channel) (i : ℕ) → c .held ≡ getD cs i noChannel .held → held (take n (set cs i c)) ≡ held (take n cs)
+unfolding held
+held-same c zero cs i e = refl
+held-same c (suc n) [] i e = refl
+held-same c (suc n) (d ∷ cs) zero e = ap (λ (m : InList). inItems m ++ held (take n cs)) e
+held-same c (suc n) (d ∷ cs) (suc i) e = ap (λ (m : List ℕ). inItems (d .held) ++ m) (held-same c n cs i e)
+
+queued-still : (x : Piece) (p : Peer) → Still p (queued x p)
+unfolding queued queuedAt
+queued-still x p = go (lowest outgoing (usedOut (p .lists)))
+  where
+    go : (f : Free) → Still p (queuedIn f x p)
+    go (Lowest n) =
+        let came = joined-dispatched (p .lists) n x in
+        record {
+          slots = refl;
+          items = ap inItems came;
+          names =
+              ap₂ (λ (d : InList) (xs : List ℕ). inItems d ++ xs) came
+              (held-same _ (p .standing .count) (p .channels) (x .command .channel) refl);
+        }
+    go Full = still p
+
+all-still : (xs : List Piece) (p : Peer) → Still p (queuedAll xs p)
+unfolding queuedAll
+all-still [] p = still p
+all-still (x ∷ xs) p = then (queued-still x p) (all-still xs (queued x p))
+
+pub setup-still : (s : Settings) (x : Piece) (p : Peer) → Still p (setsUp s x p .after)
+setup-still s x p =
+    on-still s p (setsUpSound x p) (behind-still p (setupGate x (p .standing .count) (room p)) (finished (queued x p)) (queued-still x p))
+
+pub send-still : (s : Settings) (channel long flags : ℕ) (p : Peer) → Still p (sends s channel long flags p .after)
+send-still s channel long flags p =
+    let xs = commands (fragment s p) channel long flags p in
+    on-still s p (sendsSound s channel long flags p)
+    (behind-still p (sendGate s channel long (p .standing)) (queuesAll xs p)
+    (behind-still p (queueGate (length xs) (room p)) (finished (queuedAll xs p)) (all-still xs p)))
+
+pub ping-still : (s : Settings) (p : Peer) → Still p (pings s p .after)
+ping-still s p =
+    on-still s p (pingsSound p)
+    (behind-still p (pingGate (p .standing) (room p)) (finished (queued pingPiece p)) (queued-still pingPiece p))
+
+-- ---- a send step changes outgoing lists alone
+sent-dispatched : (q : Queue) (l : Lists) (s : ℕ) (o : Outgoing) → listsSent q l s o .dispatched ≡ l .dispatched
+sent-dispatched q l s o = go q (isAcknowledged o)
+  where
+    go : (r : Queue) (b : Bool) → pick b (withSentList (withoutHead r l) (longer (l .sent) s)) (withoutHead r l) .dispatched ≡ l .dispatched
+    go queue.Outgoing true = refl
+    go queue.Outgoing false = refl
+    go queue.Reliable true = refl
+    go queue.Reliable false = refl
+
+pub step-still : (s : Settings) (q : Queue) (time : ℕ) (p : Peer) → Still p (steps s q time p .after)
+unfolding sentAs
+step-still s q time p = on-still s p (stepsSound q time p) (go (first (outItems (listOf q (p .lists)))))
+  where
+    go : (f : First) → Still p (stepsFrom f q time p .after)
+    go Empty = still p
+    go (Slot n) =
+        let came = sent-dispatched q (p .lists) n (head p n time) in
+        record { slots = refl; items = ap inItems came; names = listed p came }
+
+-- ---- and so do these
+by-still : (t : Trip) (channel number clock : ℕ) (p : Peer) → Still p (acknowledgesBy t channel number clock p .after)
+by-still PassedOver channel number clock p = still p
+by-still (Taken sample) channel number clock p =
+    let came = same-dispatched (spotOf (p .outgoing) number channel (p .lists)) (p .lists) in
+    record { slots = refl; items = ap inItems came; names = listed p came }
+
+pub acknowledge-still : (s : Settings) (channel number sent clock : ℕ) (p : Peer) → Still p (acknowledges s channel number sent clock p .after)
+acknowledge-still s channel number sent clock p =
+    on-still s p (acknowledgesSound channel number sent clock p) (by-still (heardIn (p .standing .state) clock sent) channel number clock p)
+
+pub check-still : (s : Settings) (clock : ℕ) (p : Peer) → Still p (checks s clock p .after)
+check-still s clock p = on-still s p (checksSound clock p) (record { slots = refl; items = refl; names = refl })
+
+pub throttle-still : (s : Settings) (sample : ℕ) (p : Peer) → Still p (throttles s sample p .after)
+throttle-still s sample p = on-still s p (throttlesSound sample p) (record { slots = refl; items = refl; names = refl })
