@@ -125,9 +125,9 @@ mod tests {
 
     #[test]
     fn without_what_was_inserted_the_lines_are_those_of_the_plain_script() {
-        let (lines, plain, inserted) = written(3_000);
+        let (lines, plain, inserted) = written(5_000);
         assert_eq!(lines::without(&inserted, &lines).unwrap(), plain);
-        assert!(lines.lines().count() > plain.lines().count() + 1_000);
+        assert!(lines.lines().count() > plain.lines().count() + 1_500);
     }
 
     #[test]

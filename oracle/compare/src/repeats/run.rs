@@ -44,13 +44,14 @@ impl Run {
             lines: Vec::new(),
             apart: Vec::new(),
         };
+        // This reset is not to be refused: before it, there may be anything.
         run.put(set(&Settings::START), None);
+        run.put(frame(1, vec![]), None);
         let mut next = begin(random);
-        for _ in 0..calls {
+        for _ in 1..calls {
             let asked = next.pop().unwrap_or_else(|| run.call(random));
             if asked.op == 1 {
                 next = begin(random);
-                next.pop();
             }
             run.ask(random, asked);
             while random.once_in(3) {
@@ -173,10 +174,10 @@ impl Run {
     }
 }
 
-/// The frames of a reset, a begin and state 5, the last of them first.
+/// State 5, and before it a begin: what follows a reset, the last of it first.
 fn begin(random: &mut Random) -> Vec<Frame> {
     let channels = random.pick(&[1, 2, 8]);
-    vec![frame(3, vec![CONNECTED]), frame(2, vec![1_392, channels]), frame(1, vec![])]
+    vec![frame(3, vec![CONNECTED]), frame(2, vec![1_392, channels])]
 }
 
 /// An arrival of this group, of any other kind.
