@@ -39,7 +39,7 @@ abbrev asks : Call → Asked
 asks c = record { settings = settings; call = c; datagram = [] }
 
 -- three bytes of group g
-abbrev packet : ℕ → repeats.Packet
+abbrev packet : ℕ → repeats.Insertion
 packet g =
     record {
       settings = settings;

@@ -14,19 +14,19 @@ use Rattle.link.specs.declared.calls.Call.the-variants as call
 use Rattle.promises.specs.History.{Event, Since, never, windows, since, AllInRange, movedBy, logged, history}
 
 -- an unsequenced arrival, with its settings and its datagram
-pub record Packet : Type 0 where
+pub record Insertion : Type 0 where
   pub settings : Settings
   pub arrival : Arrival
   pub group : Group
   pub datagram : List ℕ
 
-abbrev pub arrives : Packet → Asked
+abbrev pub arrives : Insertion → Asked
 arrives k = record { settings = k .settings; call = call.UnsequencedArrival (k .arrival) (k .group); datagram = k .datagram }
 
 -- a line of a run with insertions: a call of the original run, or an arrival that was inserted
 pub data Line : Type 0 where
   own : Asked → Line
-  again : Packet → Line
+  again : Insertion → Line
 
 -- the run without what was inserted
 unfoldable pub original : List Line → List Asked
@@ -77,7 +77,7 @@ NoTraceOriginal =
 -- own move
 abbrev pub FarApart : Type 0
 FarApart =
-    (mtu : ℕ) (kept : Kept) (store : List ℕ) (calls : List Asked) (k : Packet) (m : ℕ)
+    (mtu : ℕ) (kept : Kept) (store : List ℕ) (calls : List Asked) (k : Insertion) (m : ℕ)
     → let x = resetState mtu kept store in
     let y = run calls x .end in
     let a = arrives k in
