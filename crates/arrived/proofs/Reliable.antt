@@ -162,7 +162,7 @@ module _ (a : Arrival) (datagram : List ℕ) (x : State) (n : ℕ)
         adds (take place items) (drop place items),
       )
 
-  more-by : (f : List ℕ → ℕ) → ((xs ys : List ℕ) → f (xs ++ ys) ≡ f xs + f ys)
+  pub more-by : (f : List ℕ → ℕ) → ((xs ys : List ℕ) → f (xs ++ ys) ≡ f xs + f ys)
       → f (usedIn (q .lists) (set cs i new)) ≡ f (n ∷ []) + f (usedIn (q .lists) cs)
   more-by f adds =
       let items = inItems (q .lists .dispatched) in

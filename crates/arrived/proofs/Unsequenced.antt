@@ -125,7 +125,7 @@ module _ (a : Arrival) (datagram : List ℕ) (x : State) (g : Groups) (n : ℕ)
   delivered-used = ap (λ (xs : List ℕ). xs ++ held cs) joins
 
   -- any sum over what is named has one more
-  more-by : (f : List ℕ → ℕ) → ((xs ys : List ℕ) → f (xs ++ ys) ≡ f xs + f ys)
+  pub more-by : (f : List ℕ → ℕ) → ((xs ys : List ℕ) → f (xs ++ ys) ≡ f xs + f ys)
       → f (usedIn (delivered (q .lists) n) cs) ≡ f (n ∷ []) + f used
   more-by f adds =
       let items = inItems (q .lists .dispatched) in

@@ -150,7 +150,7 @@ module _ (channel : ℕ) (p : Peer) (whole : Whole p) (good : sound p ≡ true) 
     abbrev moved : Dispatched
     moved = movedOn k n old (p .lists) (p .groups)
 
-    moves : Moves (p .lists) cs channel k (moved .lists) (moved .channel)
+    pub moves : Moves (p .lists) cs channel k (moved .lists) (moved .channel)
     moves =
         record {
           here = here;

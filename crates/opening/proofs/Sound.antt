@@ -131,7 +131,7 @@ in-more slots count s e =
 
 -- channels as made new hold nothing
 module _ (slots : List Incoming) where
-  held-none : (n k : ℕ) → held (take k (replicate n noChannel)) ≡ []
+  pub held-none : (n k : ℕ) → held (take k (replicate n noChannel)) ≡ []
   unfolding held noChannel
   held-none n zero = refl
   held-none zero (suc k) = refl

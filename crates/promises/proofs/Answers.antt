@@ -32,7 +32,7 @@ use Rattle.reliable.specs.Calls.{sendReliable, fateOn, reliableSound, arrivesRe
 use Rattle.receive.specs.Calls.{packet, receivesFrom, receivesSound, receives}
 use Rattle.link.specs.Runs.{saysOne}
 
-refused-one : (why : Refusal) → saysOne (refused why) ≡ false
+pub refused-one : (why : Refusal) → saysOne (refused why) ≡ false
 refused-one why = ap (λ (b : Bool). both b (eqb (getD (refused why .values) 0 0) 1)) (ne-eqb (numberOf why) 0 (refused-not-done why))
 
 -- the answer is one of a reply's

@@ -3,24 +3,19 @@
 -- what is named, at the end of dispatched or in its channel's list.
 use Prim.Native.Nat.{ℕ, _+_, _<_}
 use mathlib.Core.Path.{_≡_, refl, ap, _∙_}
-use mathlib.Core.Bool.{true, false}
+use mathlib.Core.Bool.{true}
 use mathlib.Core.List.{List, [], _∷_, _++_}
-use native.Mathlib.Omega.{arith}
-use lib.ListN.{length, getD, take, drop, set, length-take, take-append-drop}
-use lib.Seq.{getD-take, take-set-lt}
+use lib.ListN.{length}
+use lib.Seq.{take-set-lt}
 use Rattle.numbers.specs.Pick.{pick}
-use Rattle.numbers.specs.Answers.{refused}
 use Rattle.numbers.specs.declared.counters.Group.{Group}
 use Rattle.numbers.specs.declared.refusals.Refusal.{Refusal}
-use Rattle.slots.specs.Lists.{incoming, inItems}
-use Rattle.slots.proofs.Views.{in-items-keep}
-use Rattle.runs.specs.Runs.{first, movedFrom, movedTo}
+use Rattle.slots.specs.Lists.{inItems}
+use Rattle.runs.specs.Runs.{first}
 use Rattle.runs.specs.declared.Free.{Free}
 use Rattle.runs.specs.declared.Free.the-variants.{Lowest}
-use Rattle.parts.specs.Fresh.{noChannel}
 use Rattle.parts.specs.Damage.{below, held, usedIn}
 use Rattle.parts.specs.declared.groups.Channel.{Channel}
-use Rattle.parts.specs.declared.groups.Groups.{Groups}
 use Rattle.peer.specs.Damage.{sound}
 use Rattle.peer.specs.Gate.{fits, gateOf}
 use Rattle.peer.specs.Outcome.{State, Outcome, finished, unchanged}
@@ -31,56 +26,40 @@ use Rattle.peer.specs.declared.record.Peer.{Peer}
 use Rattle.peer.specs.declared.gate.Lent.the-variants as lent
 use Rattle.peer.proofs.Gates.{sound-open, behind-has}
 use Rattle.peer.proofs.InClauses.{shorter-items, used-from}
-use Rattle.peer.proofs.Ranges.{count-high}
 use Rattle.storing.specs.Storing.{freeSlot, delivered}
 use Rattle.dispatch.specs.Calls.{dispatchGate, dispatchedOn, dispatchesSound, dispatches}
-use Rattle.dispatch.proofs.Calling.{chosen, ready as readyIn, gone, dispatched-has}
-use Rattle.dispatch.proofs.Sums.{Moves, held-set, used-same}
-use Rattle.dispatch.proofs.Sound.{below-count}
+use Rattle.dispatch.proofs.Calling.{ready as readyIn, last, gone, dispatched-has}
+use Rattle.dispatch.proofs.Sums.{used-same}
+use Rattle.dispatch.proofs.Sound.{moves, below-count}
 use Rattle.dispatch.proofs.Moving.{dispatch-order}
 use Rattle.arriving.specs.Arrivals.{stored, storedAt}
 use Rattle.arriving.specs.declared.Arrival.{Arrival}
-use Rattle.arriving.specs.declared.Reply.the-variants as reply
 use Rattle.arriving.specs.declared.Fate.the-variants as fate
-use Rattle.arriving.proofs.Admitted.{Admitted, not-refused}
-use Rattle.holding.specs.Holding.{ahead, nearer, heldWith}
+use Rattle.arriving.proofs.Admitted.{Admitted}
 use Rattle.unsequenced.specs.Calls.{regrouped, judgedOn, arrivesUnsequenced}
-use Rattle.reliable.specs.Calls.{channelOf, reliableAfter, arrivesReliable}
+use Rattle.reliable.specs.Calls.{reliableAfter, arrivesReliable}
 use Rattle.arrived.specs.Stores.{Arrives, leaves, stores, Adds}
 use Rattle.arrived.proofs.Stores.{unsequenced-stores, unsequenced-adds, reliable-stores, reliable-adds}
-use Rattle.arrived.proofs.Unsequenced.{unsequenced-has, stored-free, joins}
-use Rattle.arrived.proofs.Reliable.{reliable-has, held-free, between, between-whole, between-sound, left-dispatched, held-items}
+use Rattle.arrived.proofs.Unsequenced.{unsequenced-has, stored-free, more-by as delivered-by}
+use Rattle.arrived.proofs.Reliable.{reliable-has, held-free, between, between-whole, between-sound, left-dispatched, more-by as held-by}
 use Rattle.receive.specs.Calls.{withoutFirst, taken, receivesFrom, receivesSound, receives}
 use Rattle.link.specs.Steps.{beside}
 use Rattle.link.specs.Runs.{saysOne, handed}
 use Rattle.promises.specs.Packets.{payload}
-use Rattle.promises.proofs.Answers.{one-not}
+use Rattle.promises.proofs.Answers.{refused-one}
 use Rattle.promises.proofs.Presence.{named, Sums, Passes, still, still-passes, joins-passes, takes-passes, stored-passes}
-
-refused-none : (why : Refusal) → saysOne (refused why) ≡ false
-refused-none why = one-not (refused why) (record { reply = reply.Refused why; is = refl }) (not-refused why)
 
 -- ---- dispatch: any sum over what is named is as it was
 module _ (channel : ℕ) (p : Peer) (whole : Whole p) (good : sound p ≡ true) (h : channel < p .standing .count) where
   abbrev cs : List Channel
   cs = below (p .channels) (p .standing .count)
 
-  moves : Moves (p .lists) cs channel (readyIn channel p) (gone channel p .lists) (gone channel p .channel)
-  moves =
-      let items = inItems (p .lists .dispatched) in
-      let old = chosen channel p in
-      let old-is : getD cs channel noChannel ≡ old = getD-take (p .standing .count) (p .channels) channel noChannel h in
-      record {
-        here = omega (arith, h, count-high p good, length-take (p .standing .count) (p .channels), whole .channels);
-        from = rw old-is (in-items-keep (old .held) (movedFrom incoming (readyIn channel p) (inItems (old .held)) items));
-        to = rw old-is (in-items-keep (p .lists .dispatched) (movedTo incoming (readyIn channel p) (inItems (old .held)) items));
-      }
-
   dispatched-same : (g : List ℕ → ℕ) → Sums g → g (named (dispatchedOn channel p)) ≡ g (named p)
   dispatched-same g adds =
       dispatched-has channel p (λ (q : Peer). g (named q) ≡ g (named p)) (λ none. refl)
       (ap (λ (ds : List Channel). g (usedIn (gone channel p .lists) ds)) (take-set-lt (p .standing .count) (p .channels) channel (gone channel p .channel) h)
-      ∙ used-same g adds (p .lists) cs channel (readyIn channel p) (gone channel p .lists) (gone channel p .channel) moves)
+      ∙ used-same g adds (p .lists) cs channel (readyIn channel p) (gone channel p .lists) (gone channel p .channel)
+      (moves channel p whole good h (readyIn channel p) (last channel p)))
 
 pub dispatch-passes : (s : Settings) (channel : ℕ) (x : State) → Whole (x .peer)
     → Passes x (beside x (dispatches s channel (x .peer)) .after) [] []
@@ -101,7 +80,7 @@ pub receive-passes : (s : Settings) (x : State)
 receive-passes s x =
     behind-has (gateOf (fits s lent.Nothing) (sound (x .peer))) (x .peer) (receivesSound (x .peer))
     (λ (o : Outcome Peer). Passes x (record { peer = o .after; store = x .store }) [] (handed (o .answer) (x .store)))
-    (λ why. rw (refused-none why) (still-passes x (x .peer) (still (x .peer))))
+    (λ why. rw (refused-one why) (still-passes x (x .peer) (still (x .peer))))
     (λ e. go (inItems (x .peer .lists .dispatched)) refl)
   where
     go : (xs : List ℕ) → inItems (x .peer .lists .dispatched) ≡ xs
@@ -119,7 +98,7 @@ Comes a datagram x o =
     Arrives a datagram x o → Adds (x .peer) (o .after .peer) → Passes x (o .after) (pick (saysOne (o .answer)) (payload a datagram ∷ []) []) []
 
 -- one more slot is named
-More : State → State → ℕ → Type 0
+abbrev More : State → State → ℕ → Type 0
 More x y n = (g : List ℕ → ℕ) → Sums g → g (named (y .peer)) ≡ g (n ∷ []) + g (named (x .peer))
 
 same-slot : {f : Free} (n k : ℕ) → f ≡ Lowest n → f ≡ Lowest k → n ≡ k
@@ -127,12 +106,11 @@ same-slot n k d e = cc
 
 module _ (a : Arrival) (datagram : List ℕ) (x : State) where
   refused-comes : (why : Refusal) → Comes a datagram x (unchanged why x)
-  refused-comes why k js = rw (refused-none why) (still-passes x (x .peer) (still (x .peer)))
+  refused-comes why k js = rw (refused-one why) (still-passes x (x .peer) (still (x .peer)))
 
   module _ (n : ℕ) (y : State) (good : sound (x .peer) ≡ true) (may : Admitted a (x .peer .standing) (length datagram))
       (free : freeSlot (x .peer .lists) (x .peer .channels) (x .peer .standing .count) ≡ Lowest n) (more : More x y n) where
     stored-comes : Comes a datagram x (record { answer = stored; after = y })
-    unfolding More
     stored-comes (leaves l not) js = absurd (not refl)
     stored-comes (stores k is) js =
         stored-passes a datagram x y k good (may .short) (js .joined) (js .is)
@@ -140,64 +118,15 @@ module _ (a : Arrival) (datagram : List ℕ) (x : State) where
 
   module _ (n : ℕ) (whole : Whole (x .peer)) (good : sound (x .peer) ≡ true) (may : Admitted a (x .peer .standing) (length datagram))
       (free : freeSlot (x .peer .lists) (x .peer .channels) (x .peer .standing .count) ≡ Lowest n) where
-    abbrev now : List Channel
-    now = below (x .peer .channels) (x .peer .standing .count)
-
-    -- at the end of dispatched
-    delivered-more : (gs : Groups) → More x (storedAt n a datagram x (delivered (x .peer .lists) n) gs (x .peer .channels)) n
-    unfolding More
-    delivered-more gs g adds =
-        let items = inItems (x .peer .lists .dispatched) in
-        omega (
-          arith,
-          ap (λ (xs : List ℕ). g (xs ++ held now)) (joins a datagram x gs n whole good may free),
-          adds (items ++ (n ∷ [])) (held now),
-          adds items (n ∷ []),
-          adds items (held now),
-        )
-
     -- in its channel's list, and some of that list then in dispatched
-    list-more : (g : List ℕ → ℕ) → Sums g
-        → g (inItems (heldWith (x .peer .incoming) (channelOf a (x .peer)) (a .number .0) n .held)) ≡ g (n ∷ []) + g (inItems (channelOf a (x .peer) .held))
-    list-more g adds =
-        let old = channelOf a (x .peer) in
-        let last = old .«incoming_reliable» .0 in
-        let xs = inItems (old .held) in
-        let i = nearer (x .peer .incoming) xs last (ahead last (a .number .0)) in
-        omega (
-          arith,
-          ap g (held-items a datagram x n whole good may free),
-          adds (take i xs) (n ∷ drop i xs),
-          adds (n ∷ []) (drop i xs),
-          ap g (take-append-drop i xs),
-          adds (take i xs) (drop i xs),
-        )
-
-    between-more : (g : List ℕ → ℕ) → Sums g → g (named (between a datagram x n whole good may free)) ≡ g (n ∷ []) + g (named (x .peer))
-    between-more g adds =
-        let p = x .peer in
-        let items = inItems (p .lists .dispatched) in
-        let new = heldWith (p .incoming) (channelOf a p) (a .number .0) n in
-        let here : a .channel < length now =
-        omega (arith, may .on, count-high p good, whole .channels, length-take (p .standing .count) (p .channels)) in
-        let old-is : getD now (a .channel) noChannel ≡ channelOf a p = getD-take (p .standing .count) (p .channels) (a .channel) noChannel (may .on) in
-        omega (
-          arith,
-          ap (λ (ds : List Channel). g (usedIn (p .lists) ds)) (take-set-lt (p .standing .count) (p .channels) (a .channel) new (may .on)),
-          adds items (held (set now (a .channel) new)),
-          adds items (held now),
-          held-set g adds now (a .channel) new noChannel here,
-          ap (λ (c : Channel). g (inItems (c .held))) old-is,
-          list-more g adds,
-        )
-
     held-more : More x (reliableAfter (fate.Stored n) a datagram x) n
-    unfolding More
     held-more g adds =
         let q = between a datagram x n whole good may free in
         ap (λ (r : Peer). g (named r)) (left-dispatched a datagram x n whole good may free)
         ∙ dispatched-same (a .channel) q (between-whole a datagram x n whole good may free) (between-sound a datagram x n whole good may free) (may .on) g adds
-        ∙ between-more g adds
+        ∙ ap (λ (ds : List Channel). g (usedIn (x .peer .lists) ds))
+        (take-set-lt (x .peer .standing .count) (x .peer .channels) (a .channel) _ (may .on))
+        ∙ held-by a datagram x n whole good may free g adds
 
 pub unsequenced-passes : (s : Settings) (a : Arrival) (group : Group) (datagram : List ℕ) (x : State) → Whole (x .peer)
     → let o = arrivesUnsequenced s a group datagram x in Passes x (o .after) (pick (saysOne (o .answer)) (payload a datagram ∷ []) []) []
@@ -208,7 +137,7 @@ unsequenced-passes s a group datagram x whole =
     (λ n good long may e.
     let free = stored-free s a group datagram x n e in
     stored-comes a datagram x n (storedAt n a datagram x (delivered (x .peer .lists) n) gs (x .peer .channels)) good may free
-    (delivered-more a datagram x n whole good may free gs))
+    (delivered-by a datagram x gs n whole good may free))
     (unsequenced-stores s a group datagram x whole) (unsequenced-adds s a group datagram x whole)
 
 pub reliable-passes : (s : Settings) (a : Arrival) (datagram : List ℕ) (x : State) → Whole (x .peer)

@@ -4,7 +4,7 @@
 use Prim.Native.Nat.{ℕ, suc, _+_, _*_, _≤_, _<_}
 use mathlib.Core.Path.{_≡_, refl, ap, ap₂, sym, _∙_}
 use mathlib.Core.Bool.{Bool, true, false}
-use mathlib.Core.List.{List, [], _∷_, _++_, map, append-nil}
+use mathlib.Core.List.{List, [], _∷_, _++_, map, map-append, append-nil}
 use mathlib.Core.Logic.{_⊎_, inl, inr}
 use native.Mathlib.Omega.{arith}
 use lib.Dec.{leb, ltb}
@@ -36,10 +36,6 @@ named p = usedIn (p .lists) (below (p .channels) (p .standing .count))
 -- ---- counts add up
 abbrev pub Sums : (List ℕ → ℕ) → Type 0
 Sums g = (xs ys : List ℕ) → g (xs ++ ys) ≡ g xs + g ys
-
-map-append : (f : ℕ → Packet) (xs ys : List ℕ) → map f (xs ++ ys) ≡ map f xs ++ map f ys
-map-append f [] ys = refl
-map-append f (x ∷ xs) ys = ap (λ (ks : List Packet). f x ∷ ks) (map-append f xs ys)
 
 pub count-append : (f : Packet → Bool) (ks ls : List Packet) → count f (ks ++ ls) ≡ count f ks + count f ls
 unfolding count

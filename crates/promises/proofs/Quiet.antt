@@ -1,12 +1,12 @@
 -- The calls that leave what the incoming lists name, and what it holds: begin, set state, ping, send, setup, send step, acknowledgement, timeout check
 -- and throttle. The argument: none names the incoming slots or dispatched; of a channel setup changes two numbers alone; begin makes channels new
 -- only where none counted.
-use Prim.Native.Nat.{ℕ, zero, suc}
-use mathlib.Core.Path.{_≡_, refl, ap, ap₂, sym, _∙_}
+use Prim.Native.Nat.{ℕ}
+use mathlib.Core.Path.{_≡_, refl, ap, sym, _∙_}
 use mathlib.Core.Bool.{Bool, true, false}
 use mathlib.Core.List.{List, [], _∷_, _++_}
 use lib.Dec.{leb}
-use lib.ListN.{length, getD, take, set, replicate}
+use lib.ListN.{length, take}
 use borrow.Author.Tests.{eqb-true}
 use Rattle.numbers.specs.Pick.{pick}
 use Rattle.numbers.specs.Limits.{leastMtu, mostMtu}
@@ -23,7 +23,6 @@ use Rattle.runs.specs.declared.Free.the-variants.{Lowest, Full}
 use Rattle.runs.specs.declared.First.{First}
 use Rattle.runs.specs.declared.First.the-variants.{Slot, Empty}
 use Rattle.parts.specs.Sizes.{channels}
-use Rattle.parts.specs.Fresh.{noChannel}
 use Rattle.parts.specs.Damage.{below, held, usedOut}
 use Rattle.parts.specs.Updates.{withSentList, longer}
 use Rattle.parts.specs.declared.groups.Lists.{Lists}
@@ -39,10 +38,12 @@ use Rattle.peer.specs.declared.gate.Lent.the-variants as lent
 use Rattle.peer.specs.declared.gate.Gate.{Gate}
 use Rattle.peer.proofs.Gates.{behind-has}
 use Rattle.opening.specs.Calls.{beginFits, begun, beginsSound, begins, stated, setsStateSound, setsState}
+use Rattle.opening.proofs.Sound.{held-none}
 use Rattle.stamps.specs.declared.pieces.Piece.{Piece}
-use Rattle.setup.specs.Queueing.{room, queuedIn, queuedAt, queued, queuedAll}
+use Rattle.setup.specs.Queueing.{room, stampOf, queuedIn, queuedAt, queued, queuedAll}
 use Rattle.setup.specs.Calls.{setupGate, setsUpSound, setsUp}
 use Rattle.setup.proofs.Joining.{joined-dispatched}
+use Rattle.setup.proofs.Sound.{named as setup-named}
 use Rattle.plans.specs.Refusals.{sendGate, queueGate}
 use Rattle.sending.specs.Calls.{fragment, commands, queuesAll, sendsSound, sends}
 use Rattle.ping.specs.Calls.{pingPiece, pingGate, pingsSound, pings}
@@ -72,12 +73,6 @@ listed : (p : Peer) {d : InList} → d ≡ p .lists .dispatched → inItems d ++
 listed p e = ap (λ (d : InList). inItems d ++ held (below (p .channels) (p .standing .count))) e
 
 -- ---- begin: no channel counted, and those made new hold nothing
-none-held : (n k : ℕ) → held (take k (replicate n noChannel)) ≡ []
-unfolding held noChannel
-none-held n zero = refl
-none-held zero (suc k) = refl
-none-held (suc n) (suc k) = none-held n k
-
 none-counted : (cs : List Channel) (n : ℕ) → n ≡ 0 → held (take n cs) ≡ []
 unfolding held
 none-counted cs n z = ap (λ (k : ℕ). held (take k cs)) z
@@ -94,7 +89,7 @@ begin-still s mtu count p = on-still s p (beginsSound mtu count p) (go (beginFit
           items = refl;
           names =
               ap (λ (xs : List ℕ). inItems (p .lists .dispatched) ++ xs)
-              (none-held channels count ∙ sym (none-counted (p .channels) (p .standing .count) (eqb-true (p .standing .count) 0 zero-now)));
+              (held-none (p .incoming) channels count ∙ sym (none-counted (p .channels) (p .standing .count) (eqb-true (p .standing .count) 0 zero-now)));
         }
     go false e = still p
 
@@ -106,26 +101,17 @@ state-still s state p = on-still s p (setsStateSound state p) (go (leb state las
     go false = still p
 
 -- ---- a piece set up: its channel's list is as it was
-held-same : (c : Channel) (n : ℕ) (cs : List Channel) (i : ℕ) → c .held ≡ getD cs i noChannel .held → held (take n (set cs i c)) ≡ held (take n cs)
-unfolding held
-held-same c zero cs i e = refl
-held-same c (suc n) [] i e = refl
-held-same c (suc n) (d ∷ cs) zero e = ap (λ (m : InList). inItems m ++ held (take n cs)) e
-held-same c (suc n) (d ∷ cs) (suc i) e = ap (λ (m : List ℕ). inItems (d .held) ++ m) (held-same c n cs i e)
-
 queued-still : (x : Piece) (p : Peer) → Still p (queued x p)
 unfolding queued queuedAt
 queued-still x p = go (lowest outgoing (usedOut (p .lists)))
   where
     go : (f : Free) → Still p (queuedIn f x p)
     go (Lowest n) =
-        let came = joined-dispatched (p .lists) n x in
         record {
           slots = refl;
-          items = ap inItems came;
+          items = ap inItems (joined-dispatched (p .lists) n x);
           names =
-              ap₂ (λ (d : InList) (xs : List ℕ). inItems d ++ xs) came
-              (held-same _ (p .standing .count) (p .channels) (x .command .channel) refl);
+              setup-named (p .incoming) (p .lists) x n (p .channels) (x .command .channel) (stampOf x p .counters) (p .standing .count) (p .waiting .total);
         }
     go Full = still p
 

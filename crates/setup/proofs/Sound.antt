@@ -90,7 +90,7 @@ abbrev renumbered : List Channel → ℕ → Counters → Channel
 renumbered cs channel k = withNumbers (channelAt cs channel) (k .reliable) (k .unreliable)
 
 module _ (slots : List Incoming) (l : Lists) (x : Piece) (s : ℕ) (cs : List Channel) (channel : ℕ) (k : Counters) (count total : ℕ) where
-  named : usedIn (listsWith l x s) (below (numbered cs channel k) count) ≡ usedIn l (below cs count)
+  pub named : usedIn (listsWith l x s) (below (numbered cs channel k) count) ≡ usedIn l (below cs count)
   named =
       ap (λ (m : InList). inItems m ++ held (below (numbered cs channel k) count)) (joined-dispatched l s x)
       ∙ ap (λ (m : List ℕ). inItems (l .dispatched) ++ m) (held-set (renumbered cs channel k) count cs channel refl)
