@@ -1,5 +1,6 @@
 pub mod Answers
 pub mod Picks
+pub mod Refusals
 pub mod Windows
 pub mod Effects
 pub mod Landing

@@ -35,7 +35,7 @@ use Rattle.link.specs.Steps.{step}
 use Rattle.link.specs.Runs.{Asked, made, run, resetState}
 use Rattle.link.specs.declared.calls.Call.{Call}
 use Rattle.link.specs.declared.calls.Call.the-variants as call
-use Rattle.link.proofs.Refusals.{sound-undamaged}
+use Rattle.promises.proofs.Refusals.{sound-undamaged}
 use Rattle.promises.specs.Standing.{StaysSound, Undamaged, NeverDamaged}
 
 -- a call of the link on a record, beside a store

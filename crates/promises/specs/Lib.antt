@@ -1,3 +1,4 @@
+pub mod Refusals
 pub mod History
 pub mod Repeats
 pub mod Standing

@@ -65,10 +65,11 @@ use Rattle.throttle.specs.declared.Throttle.{Throttle}
 use Rattle.averages.specs.Interval.{throttleOf}
 use Rattle.throttling.specs.Calls as throttling
 use Rattle.throttling.specs.declared.Reply.the-variants as turn
 use Rattle.link.specs.Steps.{beside, step}
-use Rattle.link.specs.Refusals.{may}
+use Rattle.promises.specs.Refusals.{may}
+use Rattle.promises.proofs.Picks.{picked}
 use Rattle.link.specs.declared.calls.Call.{Call}
 use Rattle.link.specs.declared.calls.Call.the-variants as call
 
 -- own refusals: those that a call may answer behind its gate
 abbrev own : Call → ℕ → Bool
@@ -85,10 +86,6 @@ record Fair {A : Type 0} (k : Call) (good : Bool) (x : A) (o : Outcome A) : Type
   pub number : (o .answer .number ≡ 0 → ⊥) → may k (o .answer .number) ≡ true
   pub kept : (o .answer .number ≡ 0 → ⊥) → (o .answer .number ≡ 8 → ⊥) → (o .answer .number ≡ 10 → ⊥) → o .after ≡ x
   pub whole : good ≡ true → o .answer .number ≡ 13 → ⊥
-
-picked : {A : Type 0} (P : A → Type 0) (b : Bool) (x y : A) → P x → P y → P (pick b x y)
-picked P true x y a c = a
-picked P false x y a c = c
 
 -- the refusals of a call's own gate
 abbrev Fits : Call → Gate → Type 0
