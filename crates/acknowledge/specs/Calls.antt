@@ -2,8 +2,8 @@
 -- of 86,400,000 or more (modulo 2^32) passes over, unchanged. Sample: that difference, at least 1. All else follows exactly as the source orders it.
 -- States 2, 7 and 6 answer connect, disconnect, or disconnect now (6: only with all three outgoing lists empty)."
 use Prim.Native.Nat.{ℕ}
-use mathlib.Core.Bool.{Bool, true, false}
-use mathlib.Core.List.{List, [], _∷_}
+use mathlib.Core.Bool.{true}
+use mathlib.Core.List.{[], _∷_}
 use lib.Dec.{eqb, ltb}
 use Rattle.numbers.specs.Pick.{pick}
 use Rattle.numbers.specs.Answers.{Answer, done, refused}
@@ -12,7 +12,7 @@ use Rattle.numbers.specs.declared.clock.Trip.{Trip}
 use Rattle.numbers.specs.declared.clock.Trip.the-variants.{PassedOver, Taken}
 use Rattle.numbers.specs.declared.refusals.Refusal.the-variants.{NotRemoved}
 use Rattle.slots.specs.Lists.{outItems}
-use Rattle.runs.specs.Runs.{first}
+use Rattle.runs.specs.Runs.{first, isEmpty}
 use Rattle.parts.specs.Damage.{usedOut}
 use Rattle.parts.specs.Updates.{withReceive}
 use Rattle.parts.specs.declared.groups.Times.{Times}
@@ -53,10 +53,6 @@ verifyConnect = 3
 
 abbrev pub disconnect : ℕ
 disconnect = 4
-
-abbrev pub isEmpty : List ℕ → Bool
-isEmpty [] = true
-isEmpty (s ∷ ss) = false
 
 -- 10: "acknowledgement that removed no command 3 (state 2) or no 4 (state 7)"
 abbrev pub removedOr : ℕ → ℕ → Reply → Reply

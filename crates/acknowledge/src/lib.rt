@@ -1,8 +1,9 @@
 // The acknowledgement: a sample for the round trips, and the command that it names is removed.
 ghost use mathlib.Core.Path.{_≡_};
+ghost use Rattle.runs.specs.Runs.{isEmpty};
 ghost use Rattle.parts.specs.Damage.{usedOut};
 ghost use Rattle.peer.specs.Outcome.{Came};
-ghost use Rattle.acknowledge.specs.Calls.{answerOf, heardIn, received, isEmpty, removedOr, eventIn, acknowledges};
+ghost use Rattle.acknowledge.specs.Calls.{answerOf, heardIn, received, removedOr, eventIn, acknowledges};
 use numbers::clock;
 use numbers::clock::Trip;
 use numbers::counters::Reliable;

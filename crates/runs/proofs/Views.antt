@@ -2,13 +2,14 @@
 -- its first, and a place of it; a list that is made cell by cell. The argument: `drop-cons`, and the length of what is taken.
 use Prim.Native.Nat.{ℕ, zero, suc, _+_, _≤_, _<_}
 use mathlib.Core.Path.{_≡_, refl}
+use mathlib.Core.Bool.{true, false}
 use mathlib.Core.List.{List, [], _∷_}
 use native.Mathlib.Nat.{le-of-suc-le-suc, not-suc-le-zero}
 use native.Mathlib.Numerals.{add-one}
 use native.Mathlib.Omega.{arith}
 use lib.ListN.{length, take, drop, getD, set, length-take, drop-of-length-le}
 use lib.Seq.{drop-cons, getD-take, take-suc, take-suc-set}
-use Rattle.runs.specs.Runs.{first}
+use Rattle.runs.specs.Runs.{first, isEmpty}
 use Rattle.runs.specs.declared.First.the-variants.{Slot}
 
 -- a place of a list holds the same, whatever would stand past its end
@@ -16,6 +17,14 @@ pub at-any : {A : Type 0} (xs : List A) (i : ℕ) (d e : A) → i < length xs �
 at-any [] i d e h = absurd (not-suc-le-zero h)
 at-any (x ∷ xs) zero d e h = refl
 at-any (x ∷ xs) (suc i) d e h = at-any xs i d e (le-of-suc-le-suc h)
+
+pub empty-none : (xs : List ℕ) → length xs ≡ 0 → isEmpty xs ≡ true
+empty-none [] e = refl
+empty-none (x ∷ xs) e = absurd (omega arith)
+
+pub empty-some : (xs : List ℕ) → (length xs ≡ 0 → ⊥) → isEmpty xs ≡ false
+empty-some [] e = absurd (e refl)
+empty-some (x ∷ xs) e = refl
 
 -- a list has its head
 pub first-cons : (xs : List ℕ) (s : ℕ) → first xs ≡ Slot s → xs ≡ s ∷ drop 1 xs

@@ -39,6 +39,10 @@ abbrev pub first : List ℕ → First
 first [] = Empty
 first (x ∷ xs) = Slot x
 
+abbrev pub isEmpty : List ℕ → Bool
+isEmpty [] = true
+isEmpty (x ∷ xs) = false
+
 -- whether s is among xs
 abbrev pub has : List ℕ → ℕ → Bool
 has [] s = false

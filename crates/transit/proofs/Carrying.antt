@@ -95,7 +95,7 @@ carries-gated : (s : Settings) (p : Peer) (rest : Outcome Peer) → Carries p �
 carries-gated s p rest c h = carries-behind (gate s p) p rest c (λ e. h (sound-open (fits s lent.Nothing) (sound p) e))
 
 -- ---- reset, begin, set state, throttle
-same-all : {A : Type 0} (n k : ℕ) (x : A) → getD (replicate n x) k x ≡ x
+pub same-all : {A : Type 0} (n k : ℕ) (x : A) → getD (replicate n x) k x ≡ x
 same-all zero k x = refl
 same-all (suc n) zero x = refl
 same-all (suc n) (suc k) x = same-all n k x

@@ -9,7 +9,7 @@ use lib.ListN.{length}
 use borrow.Author.Needs.{needs}
 use borrow.Author.Tests.{ne-eqb}
 use Rattle.slots.specs.Lists.{outItems}
-use Rattle.acknowledge.specs.Calls.{isEmpty}
+use Rattle.runs.specs.Runs.{isEmpty}
 use Rattle.acknowledge.proofs.is_empty.Statement.{statement}
 use Rattle.acknowledge.proofs.is_empty.Tie as tie
 
