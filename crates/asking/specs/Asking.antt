@@ -7,6 +7,7 @@ use Rattle.stamps.specs.declared.pieces.Piece.{Piece}
 use Rattle.sendstep.specs.declared.heads.Queue.{Queue}
 use Rattle.sendstep.specs.declared.heads.Queue.the-variants as queue
 use Rattle.arriving.specs.declared.Arrival.{Arrival}
+use Rattle.outward.specs.declared.calls.Call.the-variants as out
 use Rattle.link.specs.declared.calls.Call.{Call}
 use Rattle.link.specs.declared.calls.Call.the-variants as call
 use Rattle.script.specs.declared.frames.Frame.{Frame}
@@ -36,20 +37,20 @@ outward f command else =
     pick (eqb (f .op) 1) call.Reset
     (pick (eqb (f .op) 2) (call.Begin (f .n0) (f .n1))
     (pick (eqb (f .op) 3) (call.SetState (f .n0))
-    (pick (eqb (f .op) 4) call.Ping
-    (pick (eqb (f .op) 5) (call.Send (f .n0 % 256) (f .n1) (f .n2))
-    (pick (eqb (f .op) 6) (call.Setup (pieceOf f command))
-    (pick (eqb (f .op) 7) (call.SendStep (queueOf (f .n0)) (f .n1)) else))))))
+    (pick (eqb (f .op) 4) (call.Outward out.Ping)
+    (pick (eqb (f .op) 5) (call.Outward (out.Send (f .n0 % 256) (f .n1) (f .n2)))
+    (pick (eqb (f .op) 6) (call.Outward (out.Setup (pieceOf f command)))
+    (pick (eqb (f .op) 7) (call.Outward (out.SendStep (queueOf (f .n0)) (f .n1))) else))))))
 
 -- ops 8 to 14
 abbrev pub inward : Frame → Call
 inward f =
-    pick (eqb (f .op) 8) (call.Acknowledgement (f .n0 % 256) (record { 0 = f .n1 % 65536 }) (f .n2 % 65536) (f .n3))
-    (pick (eqb (f .op) 9) (call.TimeoutCheck (f .n0))
+    pick (eqb (f .op) 8) (call.Outward (out.Acknowledgement (f .n0 % 256) (record { 0 = f .n1 % 65536 }) (f .n2 % 65536) (f .n3)))
+    (pick (eqb (f .op) 9) (call.Outward (out.TimeoutCheck (f .n0)))
     (pick (eqb (f .op) 10) (call.UnsequencedArrival (arrivalOf f (f .n4) (f .n5)) (record { 0 = f .n3 % 65536 }))
     (pick (eqb (f .op) 11) (call.ReliableArrival (arrivalOf f (f .n3) (f .n4)))
     (pick (eqb (f .op) 12) (call.Dispatch (f .n0 % 256))
-    (pick (eqb (f .op) 13) call.Receive (call.Throttle (f .n0)))))))
+    (pick (eqb (f .op) 13) call.Receive (call.Outward (out.Throttle (f .n0))))))))
 
 abbrev pub callOf : Frame → Command → Call
 callOf f command = outward f command (inward f)

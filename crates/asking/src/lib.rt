@@ -6,6 +6,7 @@ use command::fields::Command;
 use link::calls::Call;
 use numbers::counters::Group;
 use numbers::counters::Reliable;
+use outward::calls;
 use script::frames;
 use script::frames::Frame;
 use sendstep::heads::Queue;
@@ -52,14 +53,18 @@ fn second(f: Frame) -> Call
     match op {
         8 => {
             let number = Reliable(frames::short(f.n1));
-            Call::Acknowledgement {
+            let call = calls::Call::Acknowledgement {
                 channel: frames::byte(f.n0),
                 number,
                 sent: frames::short(f.n2),
                 clock: f.n3,
-            }
+            };
+            Call::Outward(call)
         }
-        9 => Call::TimeoutCheck { clock: f.n0 },
+        9 => {
+            let call = calls::Call::TimeoutCheck { clock: f.n0 };
+            Call::Outward(call)
+        }
         10 => {
             let group = Group(frames::short(f.n3));
             let arrival = arrival(f, f.n4, f.n5);
@@ -73,7 +78,10 @@ fn second(f: Frame) -> Call
             channel: frames::byte(f.n0),
         },
         13 => Call::Receive,
-        _ => Call::Throttle { sample: f.n0 },
+        _ => {
+            let call = calls::Call::Throttle { sample: f.n0 };
+            Call::Outward(call)
+        }
     }
 }
 
@@ -89,19 +97,27 @@ pub fn call(f: Frame, command: Command) -> Call
             channels: f.n1,
         },
         3 => Call::SetState { state: f.n0 },
-        4 => Call::Ping,
-        5 => Call::Send {
-            channel: frames::byte(f.n0),
-            length: f.n1,
-            flags: f.n2,
-        },
+        4 => {
+            let call = calls::Call::Ping;
+            Call::Outward(call)
+        }
+        5 => {
+            let call = calls::Call::Send {
+                channel: frames::byte(f.n0),
+                length: f.n1,
+                flags: f.n2,
+            };
+            Call::Outward(call)
+        }
         6 => {
             let piece = piece(f, command);
-            Call::Setup { piece }
+            let call = calls::Call::Setup { piece };
+            Call::Outward(call)
         }
         7 => {
             let queue = queue(f.n0);
-            Call::SendStep { queue, time: f.n1 }
+            let call = calls::Call::SendStep { queue, time: f.n1 };
+            Call::Outward(call)
         }
         _ => second(f),
     }

@@ -7,12 +7,9 @@ use native.Mathlib.Omega.{arith}
 use Rattle.peer.specs.Outcome.{State, Came}
 use Rattle.peer.specs.declared.settings.Settings.{Settings}
 use Rattle.peer.proofs.Settled as calls
-use Rattle.sendstep.proofs.Settled as stepping
-use Rattle.acknowledge.proofs.Settled as acknowledging
-use Rattle.timeouts.proofs.Settled as checking
+use Rattle.outward.proofs.Settled as outward
 use Rattle.arriving.proofs.Settled as arriving
 use Rattle.receive.proofs.Settled as receiving
-use Rattle.throttling.proofs.Settled as throttling
 use Rattle.link.specs.Steps.{answerOf, step, kindIn, NamedIn, Own}
 use Rattle.link.specs.declared.calls.Call.{Call}
 use Rattle.link.specs.declared.calls.Reply.{Reply}
@@ -21,54 +18,21 @@ use Rattle.link.specs.declared.Linked.{Linked}
 
 pub replies-apart : (a b : Reply) → kindIn a ≡ kindIn b → NamedIn a → NamedIn b → answerOf a ≡ answerOf b → a ≡ b
 replies-apart (vr.Called r) (vr.Called q) k m n e = ap vr.Called (calls.replies-apart r q e)
-replies-apart (vr.Called r) (vr.Stepped q) k m n e = absurd (omega arith)
-replies-apart (vr.Called r) (vr.Acknowledged q) k m n e = absurd (omega arith)
-replies-apart (vr.Called r) (vr.Checked q) k m n e = absurd (omega arith)
+replies-apart (vr.Called r) (vr.Outward q) k m n e = absurd (omega arith)
 replies-apart (vr.Called r) (vr.Arrived q) k m n e = absurd (omega arith)
 replies-apart (vr.Called r) (vr.Received q) k m n e = absurd (omega arith)
-replies-apart (vr.Called r) (vr.Throttled q) k m n e = absurd (omega arith)
-replies-apart (vr.Stepped r) (vr.Called q) k m n e = absurd (omega arith)
-replies-apart (vr.Stepped r) (vr.Stepped q) k m n e = ap vr.Stepped (stepping.replies-apart r q m n e)
-replies-apart (vr.Stepped r) (vr.Acknowledged q) k m n e = absurd (omega arith)
-replies-apart (vr.Stepped r) (vr.Checked q) k m n e = absurd (omega arith)
-replies-apart (vr.Stepped r) (vr.Arrived q) k m n e = absurd (omega arith)
-replies-apart (vr.Stepped r) (vr.Received q) k m n e = absurd (omega arith)
-replies-apart (vr.Stepped r) (vr.Throttled q) k m n e = absurd (omega arith)
-replies-apart (vr.Acknowledged r) (vr.Called q) k m n e = absurd (omega arith)
-replies-apart (vr.Acknowledged r) (vr.Stepped q) k m n e = absurd (omega arith)
-replies-apart (vr.Acknowledged r) (vr.Acknowledged q) k m n e = ap vr.Acknowledged (acknowledging.replies-apart r q e)
-replies-apart (vr.Acknowledged r) (vr.Checked q) k m n e = absurd (omega arith)
-replies-apart (vr.Acknowledged r) (vr.Arrived q) k m n e = absurd (omega arith)
-replies-apart (vr.Acknowledged r) (vr.Received q) k m n e = absurd (omega arith)
-replies-apart (vr.Acknowledged r) (vr.Throttled q) k m n e = absurd (omega arith)
-replies-apart (vr.Checked r) (vr.Called q) k m n e = absurd (omega arith)
-replies-apart (vr.Checked r) (vr.Stepped q) k m n e = absurd (omega arith)
-replies-apart (vr.Checked r) (vr.Acknowledged q) k m n e = absurd (omega arith)
-replies-apart (vr.Checked r) (vr.Checked q) k m n e = ap vr.Checked (checking.replies-apart r q e)
-replies-apart (vr.Checked r) (vr.Arrived q) k m n e = absurd (omega arith)
-replies-apart (vr.Checked r) (vr.Received q) k m n e = absurd (omega arith)
-replies-apart (vr.Checked r) (vr.Throttled q) k m n e = absurd (omega arith)
+replies-apart (vr.Outward r) (vr.Called q) k m n e = absurd (omega arith)
+replies-apart (vr.Outward r) (vr.Outward q) k m n e = ap vr.Outward (outward.replies-apart r q (omega (arith, k)) m n e)
+replies-apart (vr.Outward r) (vr.Arrived q) k m n e = absurd (omega arith)
+replies-apart (vr.Outward r) (vr.Received q) k m n e = absurd (omega arith)
 replies-apart (vr.Arrived r) (vr.Called q) k m n e = absurd (omega arith)
-replies-apart (vr.Arrived r) (vr.Stepped q) k m n e = absurd (omega arith)
-replies-apart (vr.Arrived r) (vr.Acknowledged q) k m n e = absurd (omega arith)
-replies-apart (vr.Arrived r) (vr.Checked q) k m n e = absurd (omega arith)
+replies-apart (vr.Arrived r) (vr.Outward q) k m n e = absurd (omega arith)
 replies-apart (vr.Arrived r) (vr.Arrived q) k m n e = ap vr.Arrived (arriving.replies-apart r q e)
 replies-apart (vr.Arrived r) (vr.Received q) k m n e = absurd (omega arith)
-replies-apart (vr.Arrived r) (vr.Throttled q) k m n e = absurd (omega arith)
 replies-apart (vr.Received r) (vr.Called q) k m n e = absurd (omega arith)
-replies-apart (vr.Received r) (vr.Stepped q) k m n e = absurd (omega arith)
-replies-apart (vr.Received r) (vr.Acknowledged q) k m n e = absurd (omega arith)
-replies-apart (vr.Received r) (vr.Checked q) k m n e = absurd (omega arith)
+replies-apart (vr.Received r) (vr.Outward q) k m n e = absurd (omega arith)
 replies-apart (vr.Received r) (vr.Arrived q) k m n e = absurd (omega arith)
 replies-apart (vr.Received r) (vr.Received q) k m n e = ap vr.Received (receiving.replies-apart r q e)
-replies-apart (vr.Received r) (vr.Throttled q) k m n e = absurd (omega arith)
-replies-apart (vr.Throttled r) (vr.Called q) k m n e = absurd (omega arith)
-replies-apart (vr.Throttled r) (vr.Stepped q) k m n e = absurd (omega arith)
-replies-apart (vr.Throttled r) (vr.Acknowledged q) k m n e = absurd (omega arith)
-replies-apart (vr.Throttled r) (vr.Checked q) k m n e = absurd (omega arith)
-replies-apart (vr.Throttled r) (vr.Arrived q) k m n e = absurd (omega arith)
-replies-apart (vr.Throttled r) (vr.Received q) k m n e = absurd (omega arith)
-replies-apart (vr.Throttled r) (vr.Throttled q) k m n e = ap vr.Throttled (throttling.replies-apart r q e)
 
 module _ (s : Settings) (k : Call) (datagram : List ℕ) (x : State) (a b : Linked) (t u : List ℕ)
     (c : Came answerOf (step s k datagram x) (a .reply) (record { peer = a .peer; store = t })) (m : Own k (a .reply))

@@ -20,8 +20,8 @@ pub record Asked : Type 0 where
   pub call : Call
   pub datagram : List ℕ
 
-abbrev pub made : Asked → State → Outcome State
-made a x = step (a .settings) (a .call) (a .datagram) x
+abbrev pub comesTo : Asked → State → Outcome State
+comesTo a x = step (a .settings) (a .call) (a .datagram) x
 
 -- a packet that comes out: its channel, and the bytes of its cell
 pub record Packet : Type 0 where
@@ -43,16 +43,10 @@ packetsOf call.Receive a store = handed a store
 packetsOf call.Reset a store = []
 packetsOf (call.Begin mtu channels) a store = []
 packetsOf (call.SetState state) a store = []
-packetsOf call.Ping a store = []
-packetsOf (call.Send channel length flags) a store = []
-packetsOf (call.Setup piece) a store = []
-packetsOf (call.SendStep queue time) a store = []
-packetsOf (call.Acknowledgement channel number sent clock) a store = []
-packetsOf (call.TimeoutCheck clock) a store = []
+packetsOf (call.Outward c) a store = []
 packetsOf (call.UnsequencedArrival arrival group) a store = []
 packetsOf (call.ReliableArrival arrival) a store = []
 packetsOf (call.Dispatch channel) a store = []
-packetsOf (call.Throttle sample) a store = []
 
 -- what a run of calls answers, the packets that come out, and the end
 pub record Ran : Type 0 where
@@ -70,7 +64,7 @@ before a x o rest =
 
 unfoldable pub run : List Asked → State → Ran
 run [] x = ended x
-run (a ∷ rest) x = let o = made a x in before a x o (run rest (o .after))
+run (a ∷ rest) x = let o = comesTo a x in before a x o (run rest (o .after))
 
 -- a peer as after a reset, whatever the reset kept, with any bytes in the store
 abbrev pub resetState : ℕ → Kept → List ℕ → State

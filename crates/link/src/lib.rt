@@ -15,7 +15,7 @@ pub struct Linked {
     pub reply: Reply,
 }
 
-// Each call by its own function; only the arrivals use the store and the datagram.
+// Each call by its own function, those of the sending side by theirs; only the arrivals use the store and the datagram.
 pub fn call(peer: Peer, settings: Settings, call: Call, store: &mut [u8], datagram: &[u8]) -> Linked
     ensures came { λ r. ⌜ Came answerOf (step settings call (now (datagram .entry)) (record { peer = peer; store = now (store .entry) })) (r .reply) (record { peer = r .peer; store = now (store .exit) }) ⌝ }
     ensures own { λ r. ⌜ Own call (r .reply) ⌝ }
@@ -48,67 +48,13 @@ pub fn call(peer: Peer, settings: Settings, call: Call, store: &mut [u8], datagr
                 reply: Reply::Called(reply),
             }
         }
-        Call::Ping => {
-            let called = ping::ping(peer, settings);
-            let reply = called.reply;
-            let after = called.peer;
+        Call::Outward(call) => {
+            let went = outward::call(peer, settings, call);
+            let reply = went.reply;
+            let after = went.peer;
             Linked {
                 peer: after,
-                reply: Reply::Called(reply),
-            }
-        }
-        Call::Send {
-            channel,
-            length,
-            flags,
-        } => {
-            let called = sending::calls::send(peer, settings, channel, length, flags);
-            let reply = called.reply;
-            let after = called.peer;
-            Linked {
-                peer: after,
-                reply: Reply::Called(reply),
-            }
-        }
-        Call::Setup { piece } => {
-            let called = setup::calls::setup(peer, settings, piece);
-            let reply = called.reply;
-            let after = called.peer;
-            Linked {
-                peer: after,
-                reply: Reply::Called(reply),
-            }
-        }
-        Call::SendStep { queue, time } => {
-            let stepped = sendstep::calls::step(peer, settings, queue, time);
-            let reply = stepped.reply;
-            let after = stepped.peer;
-            Linked {
-                peer: after,
-                reply: Reply::Stepped(reply),
-            }
-        }
-        Call::Acknowledgement {
-            channel,
-            number,
-            sent,
-            clock,
-        } => {
-            let heard = acknowledge::acknowledge(peer, settings, channel, number, sent, clock);
-            let reply = heard.reply;
-            let after = heard.peer;
-            Linked {
-                peer: after,
-                reply: Reply::Acknowledged(reply),
-            }
-        }
-        Call::TimeoutCheck { clock } => {
-            let checked = timeouts::check(peer, settings, clock);
-            let reply = checked.reply;
-            let after = checked.peer;
-            Linked {
-                peer: after,
-                reply: Reply::Checked(reply),
+                reply: Reply::Outward(reply),
             }
         }
         Call::UnsequencedArrival { arrival, group } => {
@@ -145,15 +91,6 @@ pub fn call(peer: Peer, settings: Settings, call: Call, store: &mut [u8], datagr
             Linked {
                 peer: after,
                 reply: Reply::Received(reply),
-            }
-        }
-        Call::Throttle { sample } => {
-            let throttled = throttling::throttle(peer, settings, sample);
-            let reply = throttled.reply;
-            let after = throttled.peer;
-            Linked {
-                peer: after,
-                reply: Reply::Throttled(reply),
             }
         }
     }

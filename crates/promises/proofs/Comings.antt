@@ -17,21 +17,15 @@ use Rattle.peer.specs.Sounds.{Whole}
 use Rattle.peer.specs.declared.settings.Settings.{Settings}
 use Rattle.peer.specs.declared.defaults.Kept.{Kept}
 use Rattle.opening.specs.Calls.{kept, begins, setsState}
-use Rattle.setup.specs.Calls.{setsUp}
-use Rattle.sending.specs.Calls.{sends}
-use Rattle.ping.specs.Calls.{pings}
-use Rattle.sendstep.specs.Calls.{steps}
-use Rattle.throttling.specs.Calls.{throttles}
-use Rattle.acknowledge.specs.Calls.{acknowledges}
-use Rattle.timeouts.specs.Calls.{checks}
+use Rattle.outward.specs.Steps.{goes}
 use Rattle.link.specs.Steps.{step, beside}
-use Rattle.link.specs.Runs.{Asked, made, Packet, packetsOf, run, resetState}
+use Rattle.link.specs.Runs.{Asked, comesTo, Packet, packetsOf, run, resetState}
 use Rattle.link.specs.declared.calls.Call.{Call}
 use Rattle.link.specs.declared.calls.Call.the-variants as call
-use Rattle.promises.specs.Packets.{ready, putIn, Ledger, blank, newly, isReset, writes, ledger, count, InAndOut, ComesOut}
+use Rattle.promises.specs.Packets.{ready, putIn, Ledger, freshLedger, newly, isReset, writes, ledger, count, InAndOut, ComesOut}
 use Rattle.promises.proofs.Sounding.{fresh-whole, call-sounds}
 use Rattle.promises.proofs.Presence.{count-append, Passes, still, still-passes}
-use Rattle.promises.proofs.Quiet.{begin-still, state-still, setup-still, send-still, ping-still, step-still, acknowledge-still, check-still, throttle-still}
+use Rattle.promises.proofs.Quiet.{begin-still, state-still, outward-still}
 use Rattle.promises.proofs.Passing.{dispatch-passes, receive-passes, unsequenced-passes, reliable-passes}
 
 -- ---- the ledger
@@ -48,20 +42,20 @@ passed {x} {y} {put} {out} l h k =
     }
 
 -- nothing is there after a reset
-fresh-holds : (mtu : ℕ) (k : Kept) (store : List ℕ) → InAndOut blank (resetState mtu k store)
+fresh-holds : (mtu : ℕ) (k : Kept) (store : List ℕ) → InAndOut freshLedger (resetState mtu k store)
 unfolding freshPeer noLists held count
 fresh-holds mtu k store = record { once = λ f. refl; order = refl }
 
 abbrev Holds : Settings → Call → List ℕ → State → Ledger → Type 0
 Holds s c datagram x l =
     let o = step s c datagram x in
-    InAndOut (pick (isReset c (o .answer)) blank (with l x (o .after) (putIn c (o .answer) datagram) (packetsOf c (o .answer) (x .store)))) (o .after)
+    InAndOut (pick (isReset c (o .answer)) freshLedger (with l x (o .after) (putIn c (o .answer) datagram) (packetsOf c (o .answer) (x .store)))) (o .after)
 
 reset-holds : (s : Settings) (datagram : List ℕ) (x : State) (l : Ledger) → InAndOut l x → Holds s call.Reset datagram x l
 reset-holds s datagram x l h = go (fitSettings s)
   where
     go : (b : Bool) → let o = beside x (pick b (finished (freshPeer (s .mtu) (kept (x .peer)))) (unchanged OutOfRange (x .peer))) in
-        InAndOut (pick (isReset call.Reset (o .answer)) blank (with l x (o .after) [] [])) (o .after)
+        InAndOut (pick (isReset call.Reset (o .answer)) freshLedger (with l x (o .after) [] [])) (o .after)
     go true = fresh-holds (s .mtu) (kept (x .peer)) (x .store)
     go false = passed l h (still-passes x (x .peer) (still (x .peer)))
 
@@ -69,27 +63,19 @@ call-holds : (c : Call) (s : Settings) (datagram : List ℕ) (x : State) (l : Le
 call-holds call.Reset s datagram x l w h = reset-holds s datagram x l h
 call-holds (call.Begin mtu channels) s datagram x l w h = passed l h (still-passes x (begins s mtu channels (x .peer) .after) (begin-still s mtu channels (x .peer)))
 call-holds (call.SetState state) s datagram x l w h = passed l h (still-passes x (setsState s state (x .peer) .after) (state-still s state (x .peer)))
-call-holds call.Ping s datagram x l w h = passed l h (still-passes x (pings s (x .peer) .after) (ping-still s (x .peer)))
-call-holds (call.Send channel length flags) s datagram x l w h =
-    passed l h (still-passes x (sends s channel length flags (x .peer) .after) (send-still s channel length flags (x .peer)))
-call-holds (call.Setup piece) s datagram x l w h = passed l h (still-passes x (setsUp s piece (x .peer) .after) (setup-still s piece (x .peer)))
-call-holds (call.SendStep queue time) s datagram x l w h = passed l h (still-passes x (steps s queue time (x .peer) .after) (step-still s queue time (x .peer)))
-call-holds (call.Acknowledgement channel number sent clock) s datagram x l w h =
-    passed l h (still-passes x (acknowledges s channel (number .0) sent clock (x .peer) .after) (acknowledge-still s channel (number .0) sent clock (x .peer)))
-call-holds (call.TimeoutCheck clock) s datagram x l w h = passed l h (still-passes x (checks s clock (x .peer) .after) (check-still s clock (x .peer)))
+call-holds (call.Outward c) s datagram x l w h = passed l h (still-passes x (goes s c (x .peer) .after) (outward-still s c (x .peer)))
 call-holds (call.UnsequencedArrival a group) s datagram x l w h = passed l h (unsequenced-passes s a group datagram x w)
 call-holds (call.ReliableArrival a) s datagram x l w h = passed l h (reliable-passes s a datagram x w)
 call-holds (call.Dispatch channel) s datagram x l w h = passed l h (dispatch-passes s channel x w)
 call-holds call.Receive s datagram x l w h = passed l h (receive-passes s x)
-call-holds (call.Throttle sample) s datagram x l w h = passed l h (still-passes x (throttles s sample (x .peer) .after) (throttle-still s sample (x .peer)))
 
 run-holds : (calls : List Asked) (x : State) (l : Ledger) → Whole (x .peer) → InAndOut l x → InAndOut (ledger calls x l) (run calls x .end)
 unfolding run ledger
 run-holds [] x l w h = h
 run-holds (a ∷ rest) x l w h =
-    run-holds rest (made a x .after) (writes a x l)
+    run-holds rest (comesTo a x .after) (writes a x l)
     (call-sounds (a .settings) (a .call) (a .datagram) (x .store) .whole (x .peer) w)
     (call-holds (a .call) (a .settings) (a .datagram) x l w h)
 
 pub comes-out : ComesOut
-comes-out mtu kept store calls = run-holds calls (resetState mtu kept store) blank (fresh-whole mtu kept) (fresh-holds mtu kept store)
+comes-out mtu kept store calls = run-holds calls (resetState mtu kept store) freshLedger (fresh-whole mtu kept) (fresh-holds mtu kept store)

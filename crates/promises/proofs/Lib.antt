@@ -4,6 +4,7 @@ pub mod Refusals
 pub mod Windows
 pub mod Effects
 pub mod Landing
+pub mod Sending
 pub mod Stepping
 pub mod Traces
 pub mod Sounding

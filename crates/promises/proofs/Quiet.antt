@@ -56,6 +56,9 @@ use Rattle.removal.specs.Removal.{spotOf}
 use Rattle.acknowledge.specs.Calls.{heardIn, acknowledgesBy, acknowledgesSound, acknowledges}
 use Rattle.timeouts.specs.Calls.{checksSound, checks}
 use Rattle.answered.proofs.Acknowledged.{same-dispatched}
+use Rattle.outward.specs.Steps.{goes}
+use Rattle.outward.specs.declared.calls.Call.{Call as Outward}
+use Rattle.outward.specs.declared.calls.Call.the-variants as out
 use Rattle.promises.proofs.Presence.{named, Still, still}
 
 then : {p q r : Peer} → Still p q → Still q r → Still p r
@@ -120,18 +123,18 @@ unfolding queuedAll
 all-still [] p = still p
 all-still (x ∷ xs) p = then (queued-still x p) (all-still xs (queued x p))
 
-pub setup-still : (s : Settings) (x : Piece) (p : Peer) → Still p (setsUp s x p .after)
+setup-still : (s : Settings) (x : Piece) (p : Peer) → Still p (setsUp s x p .after)
 setup-still s x p =
     on-still s p (setsUpSound x p) (behind-still p (setupGate x (p .standing .count) (room p)) (finished (queued x p)) (queued-still x p))
 
-pub send-still : (s : Settings) (channel long flags : ℕ) (p : Peer) → Still p (sends s channel long flags p .after)
+send-still : (s : Settings) (channel long flags : ℕ) (p : Peer) → Still p (sends s channel long flags p .after)
 send-still s channel long flags p =
     let xs = commands (fragment s p) channel long flags p in
     on-still s p (sendsSound s channel long flags p)
     (behind-still p (sendGate s channel long (p .standing)) (queuesAll xs p)
     (behind-still p (queueGate (length xs) (room p)) (finished (queuedAll xs p)) (all-still xs p)))
 
-pub ping-still : (s : Settings) (p : Peer) → Still p (pings s p .after)
+ping-still : (s : Settings) (p : Peer) → Still p (pings s p .after)
 ping-still s p =
     on-still s p (pingsSound p)
     (behind-still p (pingGate (p .standing) (room p)) (finished (queued pingPiece p)) (queued-still pingPiece p))
@@ -146,7 +149,7 @@ sent-dispatched q l s o = go q (isAcknowledged o)
     go queue.Reliable true = refl
     go queue.Reliable false = refl
 
-pub step-still : (s : Settings) (q : Queue) (time : ℕ) (p : Peer) → Still p (steps s q time p .after)
+step-still : (s : Settings) (q : Queue) (time : ℕ) (p : Peer) → Still p (steps s q time p .after)
 unfolding sentAs
 step-still s q time p = on-still s p (stepsSound q time p) (go (first (outItems (listOf q (p .lists)))))
   where
@@ -163,12 +166,21 @@ by-still (Taken sample) channel number clock p =
     let came = same-dispatched (spotOf (p .outgoing) number channel (p .lists)) (p .lists) in
     record { slots = refl; items = ap inItems came; names = listed p came }
 
-pub acknowledge-still : (s : Settings) (channel number sent clock : ℕ) (p : Peer) → Still p (acknowledges s channel number sent clock p .after)
+acknowledge-still : (s : Settings) (channel number sent clock : ℕ) (p : Peer) → Still p (acknowledges s channel number sent clock p .after)
 acknowledge-still s channel number sent clock p =
     on-still s p (acknowledgesSound channel number sent clock p) (by-still (heardIn (p .standing .state) clock sent) channel number clock p)
 
-pub check-still : (s : Settings) (clock : ℕ) (p : Peer) → Still p (checks s clock p .after)
+check-still : (s : Settings) (clock : ℕ) (p : Peer) → Still p (checks s clock p .after)
 check-still s clock p = on-still s p (checksSound clock p) (record { slots = refl; items = refl; names = refl })
 
-pub throttle-still : (s : Settings) (sample : ℕ) (p : Peer) → Still p (throttles s sample p .after)
+throttle-still : (s : Settings) (sample : ℕ) (p : Peer) → Still p (throttles s sample p .after)
 throttle-still s sample p = on-still s p (throttlesSound sample p) (record { slots = refl; items = refl; names = refl })
+
+pub outward-still : (s : Settings) (c : Outward) (p : Peer) → Still p (goes s c p .after)
+outward-still s out.Ping p = ping-still s p
+outward-still s (out.Send channel long flags) p = send-still s channel long flags p
+outward-still s (out.Setup x) p = setup-still s x p
+outward-still s (out.SendStep q time) p = step-still s q time p
+outward-still s (out.Acknowledgement channel number sent clock) p = acknowledge-still s channel (number .0) sent clock p
+outward-still s (out.TimeoutCheck clock) p = check-still s clock p
+outward-still s (out.Throttle sample) p = throttle-still s sample p

@@ -20,7 +20,7 @@ use Rattle.numbers.specs.declared.counters.Group.{Group}
 use Rattle.numbers.specs.declared.counters.Reliable.{Reliable}
 use Rattle.numbers.specs.declared.refusals.Refusal.{Refusal}
 use Rattle.numbers.specs.declared.refusals.Refusal.the-variants.{NotReceiving, LengthTooLarge, NotStored, BadCommand, NotRemoved, OutOfRange}
-use Rattle.runs.specs.Runs.{first}
+use Rattle.runs.specs.Runs.{first, isEmpty}
 use Rattle.runs.specs.declared.First.{First}
 use Rattle.runs.specs.declared.First.the-variants.{Slot, Empty}
 use Rattle.slots.specs.Lists.{outItems, inItems}
@@ -68,6 +68,7 @@ use Rattle.throttling.specs.declared.Reply.the-variants as turn
 use Rattle.link.specs.Steps.{beside, step}
 use Rattle.promises.specs.Refusals.{may}
 use Rattle.promises.proofs.Picks.{picked}
+use Rattle.outward.specs.declared.calls.Call.the-variants as out
 use Rattle.link.specs.declared.calls.Call.{Call}
 use Rattle.link.specs.declared.calls.Call.the-variants as call
 
@@ -144,15 +145,15 @@ module _ (s : Settings) (p : Peer) where
       let k = call.SetState state in
       gated-fair k p s Nothing p _ refl refl (picked (Fair k (sound p) p) (leb state lastState) _ _ (done k p _ refl) (shut k p OutOfRange refl))
 
-  ping-fair : Fair call.Ping (sound p) p (pings s p)
+  ping-fair : Fair (call.Outward out.Ping) (sound p) p (pings s p)
   ping-fair =
-      let k = call.Ping in
+      let k = call.Outward out.Ping in
       gated-fair k p s Nothing p _ refl refl
       (behind-fair k p _ (pingGate (p .standing) (room p)) (picked (Fits k) (isConnected (p .standing)) _ _ (picked (Fits k) (leb 1 (room p)) _ _ tt refl) refl) (done k p _ refl))
 
-  send-fair : (channel size flags : ℕ) → Fair (call.Send channel size flags) (sound p) p (sends s channel size flags p)
+  send-fair : (channel size flags : ℕ) → Fair (call.Outward (out.Send channel size flags)) (sound p) p (sends s channel size flags p)
   send-fair channel size flags =
-      let k = call.Send channel size flags in
+      let k = call.Outward (out.Send channel size flags) in
       let xs = commands (fragment s p) channel size flags p in
       gated-fair k p s Nothing p _ refl refl
       (behind-fair k p _ (sendGate s channel size (p .standing))
@@ -162,32 +163,32 @@ module _ (s : Settings) (p : Peer) where
       (picked (Fits k) (leb (length xs) mostFragments) _ _ (picked (Fits k) (leb (length xs) (room p)) _ _ tt refl) refl)
       (done k p _ refl)))
 
-  setup-fair : (x : Piece) → Fair (call.Setup x) (sound p) p (setsUp s x p)
+  setup-fair : (x : Piece) → Fair (call.Outward (out.Setup x)) (sound p) p (setsUp s x p)
   setup-fair x =
-      let k = call.Setup x in
+      let k = call.Outward (out.Setup x) in
       gated-fair k p s Nothing p _ refl refl
       (behind-fair k p _ (setupGate x (p .standing .count) (room p))
       (picked (Fits k) (onChannel (x .command .channel) (p .standing .count)) _ _
       (picked (Fits k) (leb 1 (room p)) _ _ (picked (Fits k) (namesFields (x .command)) _ _ tt refl) refl) refl)
       (done k p _ refl))
 
-  step-fair : (q : Queue) (time : ℕ) → Fair (call.SendStep q time) (sound p) p (stepping.steps s q time p)
+  step-fair : (q : Queue) (time : ℕ) → Fair (call.Outward (out.SendStep q time)) (sound p) p (stepping.steps s q time p)
   step-fair q time = gated-fair k p s Nothing p _ refl refl (by-first (first (outItems (listOf q (p .lists)))))
     where
       k : Call
-      k = call.SendStep q time
+      k = call.Outward (out.SendStep q time)
 
       by-first : (f : First) → Fair k (sound p) p (stepping.stepsFrom f q time p)
       by-first Empty = done k p _ refl
       by-first (Slot n) = done k p _ refl
 
   acknowledgement-fair : (channel : ℕ) (number : Reliable) (sent clock : ℕ)
-      → Fair (call.Acknowledgement channel number sent clock) (sound p) p (acknowledging.acknowledges s channel (number .0) sent clock p)
+      → Fair (call.Outward (out.Acknowledgement channel number sent clock)) (sound p) p (acknowledging.acknowledges s channel (number .0) sent clock p)
   acknowledgement-fair channel number sent clock =
       gated-fair k p s Nothing p _ refl refl (by-trip (acknowledging.heardIn (p .standing .state) clock sent))
     where
       k : Call
-      k = call.Acknowledgement channel number sent clock
+      k = call.Outward (out.Acknowledgement channel number sent clock)
 
       Heard : Peer → Reply → Type 0
       Heard y r = Fair k (sound p) p (record { answer = acknowledging.answerOf r; after = y })
@@ -201,7 +202,7 @@ module _ (s : Settings) (p : Peer) where
           picked (Heard y) (eqb state acknowledgingConnect) _ _ (removed y command acknowledging.verifyConnect vr.Connect (done k p _ refl))
           (picked (Heard y) (eqb state disconnecting) _ _ (removed y command acknowledging.disconnect vr.Disconnect (done k p _ refl))
           (picked (Heard y) (eqb state disconnectLater) _ _
-          (picked (Heard y) (acknowledging.isEmpty (usedOut left)) _ _ (done k p _ refl) (done k p _ refl)) (done k p _ refl)))
+          (picked (Heard y) (isEmpty (usedOut left)) _ _ (done k p _ refl) (done k p _ refl)) (done k p _ refl)))
 
       by-trip : (t : Trip) → Fair k (sound p) p (acknowledging.acknowledgesBy t channel (number .0) clock p)
       by-trip PassedOver = done k p _ refl
@@ -211,11 +212,11 @@ module _ (s : Settings) (p : Peer) where
           event (acknowledging.heardAt spot sample clock p .after) (p .standing .state) (commandAt (isSome slot) (heldBy (p .outgoing) slot))
           (listsWithout spot (p .lists))
 
-  check-fair : (clock : ℕ) → Fair (call.TimeoutCheck clock) (sound p) p (checking.checks s clock p)
+  check-fair : (clock : ℕ) → Fair (call.Outward (out.TimeoutCheck clock)) (sound p) p (checking.checks s clock p)
   check-fair clock = gated-fair k p s Nothing p _ refl refl (done k p _ (by-walk (checking.walkOf clock p .walk .over)))
     where
       k : Call
-      k = call.TimeoutCheck clock
+      k = call.Outward (out.TimeoutCheck clock)
 
       by-walk : (over : Bool) → checking.answerOf (checking.replyBy over) .number ≡ 0
       by-walk true = refl
@@ -234,13 +235,13 @@ module _ (s : Settings) (p : Peer) where
       by-first Empty = done _ p _ refl
       by-first (Slot n) = done _ p _ refl
 
-  throttle-fair : (sample : ℕ) → Fair (call.Throttle sample) (sound p) p (throttling.throttles s sample p)
+  throttle-fair : (sample : ℕ) → Fair (call.Outward (out.Throttle sample)) (sound p) p (throttling.throttles s sample p)
   throttle-fair sample =
       gated-fair k p s Nothing p _ refl refl
       (done k p _ (by-tests (leb (t .last) (t .variance)) (leb sample (t .last)) (ltb (sum 32 (t .last) (sum 32 (t .variance) (t .variance))) sample)))
     where
       k : Call
-      k = call.Throttle sample
+      k = call.Outward (out.Throttle sample)
 
       t : Throttle
       t = throttleOf (p .throttling) (p .trips)
@@ -300,18 +301,18 @@ step-is-fair : (s : Settings) (k : Call) (datagram : List ℕ) (x : State) → F
 step-is-fair s call.Reset datagram x = beside-fair _ x _ (reset-fair s (x .peer))
 step-is-fair s (call.Begin mtu channels) datagram x = beside-fair _ x _ (begin-fair s (x .peer) mtu channels)
 step-is-fair s (call.SetState state) datagram x = beside-fair _ x _ (state-fair s (x .peer) state)
-step-is-fair s call.Ping datagram x = beside-fair _ x _ (ping-fair s (x .peer))
-step-is-fair s (call.Send channel size flags) datagram x = beside-fair _ x _ (send-fair s (x .peer) channel size flags)
-step-is-fair s (call.Setup piece) datagram x = beside-fair _ x _ (setup-fair s (x .peer) piece)
-step-is-fair s (call.SendStep queue time) datagram x = beside-fair _ x _ (step-fair s (x .peer) queue time)
-step-is-fair s (call.Acknowledgement channel number sent clock) datagram x =
+step-is-fair s (call.Outward out.Ping) datagram x = beside-fair _ x _ (ping-fair s (x .peer))
+step-is-fair s (call.Outward (out.Send channel size flags)) datagram x = beside-fair _ x _ (send-fair s (x .peer) channel size flags)
+step-is-fair s (call.Outward (out.Setup piece)) datagram x = beside-fair _ x _ (setup-fair s (x .peer) piece)
+step-is-fair s (call.Outward (out.SendStep queue time)) datagram x = beside-fair _ x _ (step-fair s (x .peer) queue time)
+step-is-fair s (call.Outward (out.Acknowledgement channel number sent clock)) datagram x =
     beside-fair _ x _ (acknowledgement-fair s (x .peer) channel number sent clock)
-step-is-fair s (call.TimeoutCheck clock) datagram x = beside-fair _ x _ (check-fair s (x .peer) clock)
+step-is-fair s (call.Outward (out.TimeoutCheck clock)) datagram x = beside-fair _ x _ (check-fair s (x .peer) clock)
+step-is-fair s (call.Outward (out.Throttle sample)) datagram x = beside-fair _ x _ (throttle-fair s (x .peer) sample)
 step-is-fair s (call.UnsequencedArrival a group) datagram x = unsequenced-fair s a datagram x group
 step-is-fair s (call.ReliableArrival a) datagram x = reliable-fair s a datagram x
 step-is-fair s (call.Dispatch channel) datagram x = beside-fair _ x _ (dispatch-fair s (x .peer) channel)
 step-is-fair s call.Receive datagram x = beside-fair _ x _ (receive-fair s (x .peer))
-step-is-fair s (call.Throttle sample) datagram x = beside-fair _ x _ (throttle-fair s (x .peer) sample)
 
 module _ (s : Settings) (k : Call) (datagram : List ℕ) (x : State) where
   -- the number that the step answers

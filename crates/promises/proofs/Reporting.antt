@@ -1,7 +1,7 @@
 -- A reliable report counts once and none is skipped: on each channel, what joins dispatched since begin bears the numbers 1, 2, 3 and so on.
 -- The argument: along a run a channel's last number is the last of its log; what a dispatch takes follows it number by number, as no slot has
 -- fragments; reset and begin start both anew, and no other call changes a channel's last number.
-use Prim.Native.Nat.{ℕ, zero, suc, _<_}
+use Prim.Native.Nat.{ℕ, suc, _<_}
 use mathlib.Core.Path.{_≡_, refl, ap, sym, subst, _∙_}
 use mathlib.Core.Bool.{Bool, true, false}
 use mathlib.Core.List.{List, [], _∷_, _++_, map, append-nil}
@@ -55,9 +55,6 @@ use Rattle.ping.specs.Calls.{pingPiece, pingGate, pingsSound, pings}
 use Rattle.sendstep.specs.Steps.{listOf, sentAs}
 use Rattle.sendstep.specs.Calls.{stepsFrom, stepsSound, steps}
 use Rattle.sendstep.specs.declared.heads.Queue.{Queue}
-use Rattle.throttling.specs.Calls.{throttles}
-use Rattle.acknowledge.specs.Calls.{acknowledges}
-use Rattle.timeouts.specs.Calls.{checks}
 use Rattle.answered.specs.Untouched.{Untouched}
 use Rattle.answered.proofs.Untouched.{acknowledge-untouched, check-untouched, throttle-untouched}
 use Rattle.dispatching.specs.Dispatching.{follows, numberAfter, readyCount, readyLast}
@@ -76,8 +73,12 @@ use Rattle.unsequenced.specs.Calls.{arrivesUnsequenced}
 use Rattle.reliable.specs.Calls.{reliableAfter, arrivesReliable}
 use Rattle.arrived.proofs.Unsequenced.{unsequenced-has}
 use Rattle.arrived.proofs.Reliable.{reliable-has, held-free, between, between-whole, between-sound, left-dispatched}
+use Rattle.transit.proofs.Carrying.{same-all}
+use Rattle.outward.specs.Steps.{goes}
+use Rattle.outward.specs.declared.calls.Call.{Call as Outward}
+use Rattle.outward.specs.declared.calls.Call.the-variants as out
 use Rattle.link.specs.Steps.{step}
-use Rattle.link.specs.Runs.{Asked, made, resetState}
+use Rattle.link.specs.Runs.{Asked, comesTo, resetState}
 use Rattle.link.specs.declared.calls.Call.{Call}
 use Rattle.link.specs.declared.calls.Call.the-variants as call
 use Rattle.promises.specs.Reports.{isAnew, isOn, numbersJoined, reported, reports, series, CountsOnce}
@@ -116,11 +117,6 @@ rises-series n (x ∷ xs) r =
 part-set : {A B : Type 0} (f : A → B) (l : List A) (i : ℕ) (y d : A) (k : ℕ) → f y ≡ f (getD l i d) → f (getD (set l i y) k d) ≡ f (getD l k d)
 part-set {A} {B} f l i y d k e =
     sym (List·getD-map f (set l i y) k d) ∙ ap (λ (m : List B). getD m k (f d)) (map-set-same f l i y d e) ∙ List·getD-map f l k d
-
-same-all : {A : Type 0} (n k : ℕ) (d : A) → getD (replicate n d) k d ≡ d
-same-all zero k d = refl
-same-all (suc n) zero d = refl
-same-all (suc n) (suc k) d = same-all n k d
 
 -- ---- what is ready, where no slot has fragments
 abbrev numberOn : Channel → Reliable
@@ -382,6 +378,15 @@ module _ (channel : ℕ) where
   receive-still : (s : Settings) (p : Peer) → Still p (receives s p .after)
   receive-still s p = let k = receive-keeps s p in left-still p (receives s p .after) (k .channels) (k .incoming)
 
+  outward-still : (s : Settings) (a : Outward) (p : Peer) → Still p (goes s a p .after)
+  outward-still s out.Ping p = ping-still s p
+  outward-still s (out.Send on long flags) p = send-still s on long flags p
+  outward-still s (out.Setup x) p = setup-still s x p
+  outward-still s (out.SendStep q time) p = step-still s q time p
+  outward-still s (out.Acknowledgement on number sent clock) p = untouched-still p _ (acknowledge-untouched s on (number .0) sent clock p)
+  outward-still s (out.TimeoutCheck clock) p = untouched-still p _ (check-untouched s clock p)
+  outward-still s (out.Throttle sample) p = untouched-still p _ (throttle-untouched s sample p)
+
   -- ---- reset and begin: done, both start anew; refused, nothing changes
   anew-last : numberOn (getD (replicate channels noChannel) channel noChannel) .0 ≡ 0
   unfolding noChannel
@@ -416,33 +421,18 @@ module _ (channel : ℕ) where
   call-counted (call.Begin mtu count) s datagram x log w c = begin-counted s mtu count (x .peer) log c
   call-counted (call.SetState state) s datagram x log w c =
       still-counted (x .peer) (setsState s state (x .peer) .after) log (state-still s state (x .peer)) c
-  call-counted call.Ping s datagram x log w c = still-counted (x .peer) (pings s (x .peer) .after) log (ping-still s (x .peer)) c
-  call-counted (call.Send on long flags) s datagram x log w c =
-      still-counted (x .peer) (sends s on long flags (x .peer) .after) log (send-still s on long flags (x .peer)) c
-  call-counted (call.Setup piece) s datagram x log w c =
-      still-counted (x .peer) (setsUp s piece (x .peer) .after) log (setup-still s piece (x .peer)) c
-  call-counted (call.SendStep queue time) s datagram x log w c =
-      still-counted (x .peer) (steps s queue time (x .peer) .after) log (step-still s queue time (x .peer)) c
-  call-counted (call.Acknowledgement on number sent clock) s datagram x log w c =
-      let q = acknowledges s on (number .0) sent clock (x .peer) .after in
-      still-counted (x .peer) q log (untouched-still (x .peer) q (acknowledge-untouched s on (number .0) sent clock (x .peer))) c
-  call-counted (call.TimeoutCheck clock) s datagram x log w c =
-      let q = checks s clock (x .peer) .after in
-      still-counted (x .peer) q log (untouched-still (x .peer) q (check-untouched s clock (x .peer))) c
+  call-counted (call.Outward a) s datagram x log w c = still-counted (x .peer) (goes s a (x .peer) .after) log (outward-still s a (x .peer)) c
   call-counted (call.UnsequencedArrival a group) s datagram x log w c = unsequenced-counted s a datagram x log w c group
   call-counted (call.ReliableArrival a) s datagram x log w c = reliable-counted s a datagram x log w c
   call-counted (call.Dispatch on) s datagram x log w c = dispatch-counted s on (x .peer) log w c
   call-counted call.Receive s datagram x log w c =
       still-counted (x .peer) (receives s (x .peer) .after) log (receive-still s (x .peer)) c
-  call-counted (call.Throttle sample) s datagram x log w c =
-      let q = throttles s sample (x .peer) .after in
-      still-counted (x .peer) q log (untouched-still (x .peer) q (throttle-untouched s sample (x .peer))) c
 
   run-rises : (calls : List Asked) (x : State) (log : List ℕ) → Whole (x .peer) → Counted (x .peer) log → Rises 0 (reports channel calls x log)
   unfolding reports
   run-rises [] x log w c = c .rises
   run-rises (a ∷ rest) x log w c =
-      run-rises rest (made a x .after) (reported channel a x log)
+      run-rises rest (comesTo a x .after) (reported channel a x log)
       (call-sounds (a .settings) (a .call) (a .datagram) (x .store) .whole (x .peer) w)
       (call-counted (a .call) (a .settings) (a .datagram) x log w c)
 

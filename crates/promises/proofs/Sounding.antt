@@ -20,22 +20,16 @@ use Rattle.peer.specs.declared.record.Peer.{Peer}
 use Rattle.peer.specs.declared.defaults.Kept.{Kept}
 use Rattle.opening.specs.Calls.{kept}
 use Rattle.opening.proofs.Sound.{reset-sounds, begin-sounds, state-sounds}
-use Rattle.setup.proofs.Sound.{setup-sounds}
-use Rattle.sending.proofs.Sound.{send-sounds}
-use Rattle.ping.proofs.Sound.{ping-sounds}
-use Rattle.sendstep.proofs.Sound.{step-sounds}
-use Rattle.throttling.proofs.Sound.{throttle-sounds}
-use Rattle.answered.proofs.Acknowledged.{acknowledge-sounds}
-use Rattle.answered.proofs.Checked.{check-sounds}
 use Rattle.arrived.proofs.Unsequenced.{unsequenced-sounds}
 use Rattle.arrived.proofs.Reliable.{reliable-sounds}
 use Rattle.dispatch.proofs.Sound.{dispatch-sounds}
 use Rattle.receive.proofs.Sound.{receive-sounds}
 use Rattle.link.specs.Steps.{step}
-use Rattle.link.specs.Runs.{Asked, made, run, resetState}
+use Rattle.link.specs.Runs.{Asked, comesTo, run, resetState}
 use Rattle.link.specs.declared.calls.Call.{Call}
 use Rattle.link.specs.declared.calls.Call.the-variants as call
 use Rattle.promises.proofs.Refusals.{sound-undamaged}
+use Rattle.promises.proofs.Sending.{outward-sounds}
 use Rattle.promises.specs.Standing.{StaysSound, Undamaged, NeverDamaged}
 
 -- a call of the link on a record, beside a store
@@ -46,32 +40,26 @@ pub call-sounds : (s : Settings) (c : Call) (datagram store : List ℕ) → Soun
 call-sounds s call.Reset datagram store = reset-sounds s
 call-sounds s (call.Begin mtu channels) datagram store = begin-sounds s mtu channels
 call-sounds s (call.SetState state) datagram store = state-sounds s state
-call-sounds s call.Ping datagram store = ping-sounds s
-call-sounds s (call.Send channel length flags) datagram store = send-sounds s channel length flags
-call-sounds s (call.Setup piece) datagram store = setup-sounds s piece
-call-sounds s (call.SendStep queue time) datagram store = step-sounds s queue time
-call-sounds s (call.Acknowledgement channel number sent clock) datagram store = acknowledge-sounds s channel (number .0) sent clock
-call-sounds s (call.TimeoutCheck clock) datagram store = check-sounds s clock
+call-sounds s (call.Outward c) datagram store = outward-sounds s c
 call-sounds s (call.UnsequencedArrival a group) datagram store = unsequenced-sounds s a group datagram store
 call-sounds s (call.ReliableArrival a) datagram store = reliable-sounds s a datagram store
 call-sounds s (call.Dispatch channel) datagram store = dispatch-sounds s channel
 call-sounds s call.Receive datagram store = receive-sounds s
-call-sounds s (call.Throttle sample) datagram store = throttle-sounds s sample
 
 -- sound and whole, along a run
 pub record Standing (x : State) : Type 0 where
   pub whole : Whole (x .peer)
   pub good : sound (x .peer) ≡ true
 
-pub made-stands : (a : Asked) (x : State) → Standing x → Standing (made a x .after)
-made-stands a x k =
+pub asked-stands : (a : Asked) (x : State) → Standing x → Standing (comesTo a x .after)
+asked-stands a x k =
     let c = call-sounds (a .settings) (a .call) (a .datagram) (x .store) in
     record { whole = c .whole (x .peer) (k .whole); good = c .keeps (x .peer) (k .whole) (k .good) }
 
 pub run-stands : (calls : List Asked) (x : State) → Standing x → Standing (run calls x .end)
 unfolding run
 run-stands [] x k = k
-run-stands (a ∷ rest) x k = run-stands rest (made a x .after) (made-stands a x k)
+run-stands (a ∷ rest) x k = run-stands rest (comesTo a x .after) (asked-stands a x k)
 
 -- ---- from a reset
 pub fresh-whole : (mtu : ℕ) (k : Kept) → Whole (freshPeer mtu k)
@@ -105,7 +93,7 @@ run-undamaged : (calls : List Asked) (x : State) → Standing x → Undamaged (r
 unfolding run
 run-undamaged [] x k = tt
 run-undamaged (a ∷ rest) x k =
-    (sound-undamaged (a .settings) (a .call) (a .datagram) x (k .good), run-undamaged rest (made a x .after) (made-stands a x k))
+    (sound-undamaged (a .settings) (a .call) (a .datagram) x (k .good), run-undamaged rest (comesTo a x .after) (asked-stands a x k))
 
 pub never-damaged : NeverDamaged
 never-damaged s k store calls e = run-undamaged calls (resetState (s .mtu) k store) (reset-stands s k store e)

@@ -17,9 +17,9 @@ use Rattle.opening.specs.Calls.{kept, resets}
 use Rattle.arriving.specs.declared.Arrival.{Arrival}
 use Rattle.unsequenced.specs.Calls.{arrivesUnsequenced}
 use Rattle.steady.specs.Steady.{SameWindow}
-use Rattle.steady.proofs.Steady.{begin-steady, state-steady, setup-steady, send-steady, ping-steady, step-steady, acknowledge-steady, check-steady, throttle-steady, dispatch-steady, receive-window, reliable-window}
+use Rattle.steady.proofs.Steady.{begin-steady, state-steady, dispatch-steady, receive-window, reliable-window}
 use Rattle.link.specs.Steps.{step, beside}
-use Rattle.link.specs.Runs.{Asked, made, run, resetState}
+use Rattle.link.specs.Runs.{Asked, comesTo, run, resetState}
 use Rattle.link.specs.declared.calls.Call.{Call}
 use Rattle.link.specs.declared.calls.Call.the-variants as call
 use Rattle.promises.specs.History.{Event, Concern, resetting, arriving, neither, concern, InRange, AllInRange, baseOf, logs, logged, history}
@@ -27,6 +27,7 @@ use Rattle.promises.proofs.Windows.{windowIn, windowOf, Holds}
 use Rattle.promises.proofs.Effects.{Effect, stays, clears, takes, delivers, freshWindow, fresh-holds, empty-never, holds-after}
 use Rattle.promises.proofs.Landing.{Lands, arrival-lands}
 use Rattle.promises.proofs.Landing as landing
+use Rattle.promises.proofs.Sending.{outward-steady}
 
 -- what a step did to window and log
 abbrev Does : Concern → State → Outcome State → List Event → Type 0
@@ -60,28 +61,16 @@ call-does : (c : Call) (s : Settings) (datagram : List ℕ) (x : State) (log : L
 call-does call.Reset s datagram x log i = reset-does s x log
 call-does (call.Begin mtu channels) s datagram x log i = same-does x (step s (call.Begin mtu channels) datagram x) log (begin-steady s mtu channels (x .peer) .window)
 call-does (call.SetState state) s datagram x log i = same-does x (step s (call.SetState state) datagram x) log (state-steady s state (x .peer) .window)
-call-does call.Ping s datagram x log i = same-does x (step s call.Ping datagram x) log (ping-steady s (x .peer) .window)
-call-does (call.Send channel length flags) s datagram x log i =
-    same-does x (step s (call.Send channel length flags) datagram x) log (send-steady s channel length flags (x .peer) .window)
-call-does (call.Setup piece) s datagram x log i = same-does x (step s (call.Setup piece) datagram x) log (setup-steady s piece (x .peer) .window)
-call-does (call.SendStep queue time) s datagram x log i =
-    same-does x (step s (call.SendStep queue time) datagram x) log (step-steady s queue time (x .peer) .window)
-call-does (call.Acknowledgement channel number sent clock) s datagram x log i =
-    same-does x (step s (call.Acknowledgement channel number sent clock) datagram x) log
-    (acknowledge-steady s channel (number .0) sent clock (x .peer) .window)
-call-does (call.TimeoutCheck clock) s datagram x log i =
-    same-does x (step s (call.TimeoutCheck clock) datagram x) log (check-steady s clock (x .peer) .window)
+call-does (call.Outward c) s datagram x log i = same-does x (step s (call.Outward c) datagram x) log (outward-steady s c (x .peer) .window)
 call-does (call.UnsequencedArrival a group) s datagram x log i = arrival-does s a group datagram x log i
 call-does (call.ReliableArrival a) s datagram x log i =
     same-does x (step s (call.ReliableArrival a) datagram x) log (reliable-window s a datagram x)
 call-does (call.Dispatch channel) s datagram x log i =
     same-does x (step s (call.Dispatch channel) datagram x) log (dispatch-steady s channel (x .peer) .window)
 call-does call.Receive s datagram x log i = same-does x (step s call.Receive datagram x) log (receive-window s (x .peer))
-call-does (call.Throttle sample) s datagram x log i =
-    same-does x (step s (call.Throttle sample) datagram x) log (throttle-steady s sample (x .peer) .window)
 
 pub step-holds : (a : Asked) (x : State) (log : List Event) → InRange (concern (a .call)) → Holds (windowOf x) log
-    → Holds (windowOf (made a x .after)) (logged a x log)
+    → Holds (windowOf (comesTo a x .after)) (logged a x log)
 step-holds a x log i h = holds-after (call-does (a .call) (a .settings) (a .datagram) x log i) h
 
 pub reset-holds : (mtu : ℕ) (k : Kept) (store : List ℕ) → Holds (windowOf (resetState mtu k store)) []
@@ -91,4 +80,4 @@ pub run-holds : (calls : List Asked) (x : State) (log : List Event) → AllInRan
     → Holds (windowOf (run calls x .end)) (history calls x log)
 unfolding run history
 run-holds [] x log i h = h
-run-holds (a ∷ rest) x log i h = run-holds rest (made a x .after) (logged a x log) (i .1) (step-holds a x log (i .0) h)
+run-holds (a ∷ rest) x log i h = run-holds rest (comesTo a x .after) (logged a x log) (i .1) (step-holds a x log (i .0) h)

@@ -8,7 +8,7 @@ use mathlib.Core.Bool.{Bool, true, false}
 use mathlib.Core.List.{List, [], _∷_}
 use native.Mathlib.Omega.{arith}
 use Rattle.peer.specs.Outcome.{State}
-use Rattle.link.specs.Runs.{made, saysOne, Ran, before, run, resetState}
+use Rattle.link.specs.Runs.{comesTo, saysOne, Ran, before, run, resetState}
 use Rattle.promises.specs.History.{Event, Since, never, windows, since, AllInRange, logged, history}
 use Rattle.promises.specs.Repeats.{Insertion, arrives, Line, own, again, original, aside, played, Recent, Repeats, RepeatsOriginal, NoTrace, NoTraceOriginal, FarApart}
 use Rattle.promises.proofs.Windows.{windowOf, apart, Known, Holds, Took, taken-again}
@@ -29,12 +29,12 @@ near x log g h r = go (since g log) refl r
     go never e r = absurd r
     go (windows m) e r = record { ago = m; known = h .known g m e; few = r }
 
-quiet : (k : Insertion) (x : State) → Near x (k .group .0) → made (arrives k) x .after ≡ x
+quiet : (k : Insertion) (x : State) → Near x (k .group .0) → comesTo (arrives k) x .after ≡ x
 quiet k x n = repeat-quiet (k .settings) (k .arrival) (k .group) (k .datagram) x (n .ago) (n .known) (n .few)
 
 -- a quiet arrival beside a run is the run
-quietly : (k : Insertion) (x : State) (rest : State → Ran) → made (arrives k) x .after ≡ x
-    → aside (arrives k) x (made (arrives k) x) (rest (made (arrives k) x .after)) ≡ rest x
+quietly : (k : Insertion) (x : State) (rest : State → Ran) → comesTo (arrives k) x .after ≡ x
+    → aside (arrives k) x (comesTo (arrives k) x) (rest (comesTo (arrives k) x .after)) ≡ rest x
 quietly k x rest q = ap rest q
 
 trace : (ls : List Line) (x : State) (log : List Event) → AllInRange (original ls) → Holds (windowOf x) log → Repeats ls x log
@@ -42,11 +42,11 @@ trace : (ls : List Line) (x : State) (log : List Event) → AllInRange (original
 unfolding played original run
 trace [] x log i h r = refl
 trace (own a ∷ ls) x log i h r =
-    ap (before a x (made a x)) (trace ls (made a x .after) (logged a x log) (i .1) (step-holds a x log (i .0) h) r)
+    ap (before a x (comesTo a x)) (trace ls (comesTo a x .after) (logged a x log) (i .1) (step-holds a x log (i .0) h) r)
 trace (again k ∷ ls) x log i h r =
     let a = arrives k in
     let n = near x log (k .group .0) h (r .0) in
-    ap (aside a x (made a x)) (trace ls (made a x .after) (logged a x log) i (step-holds a x log (n .known .fits) h) (r .1))
+    ap (aside a x (comesTo a x)) (trace ls (comesTo a x .after) (logged a x log) i (step-holds a x log (n .known .fits) h) (r .1))
     ∙ quietly k x (run (original ls)) (quiet k x n)
 
 pub no-trace : NoTrace
@@ -57,7 +57,7 @@ trace-original : (ls : List Line) (x : State) (log : List Event) → AllInRange 
 unfolding played original run
 trace-original [] x log i h r = refl
 trace-original (own a ∷ ls) x log i h r =
-    ap (before a x (made a x)) (trace-original ls (made a x .after) (logged a x log) (i .1) (step-holds a x log (i .0) h) r)
+    ap (before a x (comesTo a x)) (trace-original ls (comesTo a x .after) (logged a x log) (i .1) (step-holds a x log (i .0) h) r)
 trace-original (again k ∷ ls) x log i h r =
     quietly k x (played ls) (quiet k x (near x log (k .group .0) h (r .0))) ∙ trace-original ls x log i h (r .1)
 
@@ -68,15 +68,15 @@ no-trace-original mtu kept store lines i r = trace-original lines (resetState mt
 never-both : (b : Bool) → b ≡ true → b ≡ false → ⊥
 never-both b p q = let z : _≡_ {A = ℕ} 0 1 = cc in omega arith
 
-stored-took : (k : Insertion) (x : State) → Lands (k .settings) (k .arrival) (k .group) (k .datagram) x → saysOne (made (arrives k) x .answer) ≡ true
-    → Took (windowOf x) (windowOf (made (arrives k) x .after)) (k .group .0) true
-stored-took k x (landing.stays e n) s = absurd (never-both (saysOne (made (arrives k) x .answer)) s n)
-stored-took k x (landing.takes marks t n) s = absurd (never-both (saysOne (made (arrives k) x .answer)) s n)
+stored-took : (k : Insertion) (x : State) → Lands (k .settings) (k .arrival) (k .group) (k .datagram) x → saysOne (comesTo (arrives k) x .answer) ≡ true
+    → Took (windowOf x) (windowOf (comesTo (arrives k) x .after)) (k .group .0) true
+stored-took k x (landing.stays e n) s = absurd (never-both (saysOne (comesTo (arrives k) x .answer)) s n)
+stored-took k x (landing.takes marks t n) s = absurd (never-both (saysOne (comesTo (arrives k) x .answer)) s n)
 stored-took k x (landing.delivers t n) s = t
 
 apart-after : (k : Insertion) (y : State) (log : List Event) (m : ℕ) → k .group .0 < 65536 → Holds (windowOf y) log
-    → since (k .group .0) log ≡ windows m → saysOne (made (arrives k) y .answer) ≡ true
-    → 64 ≤ m + apart (windowOf y) (windowOf (made (arrives k) y .after))
+    → since (k .group .0) log ≡ windows m → saysOne (comesTo (arrives k) y .answer) ≡ true
+    → 64 ≤ m + apart (windowOf y) (windowOf (comesTo (arrives k) y .after))
 apart-after k y log m small h e t =
     taken-again (h .known (k .group .0) m e)
     (stored-took k y (arrival-lands (k .settings) (k .arrival) (k .group) (k .datagram) y small) t) (h .regular)

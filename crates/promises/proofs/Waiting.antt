@@ -18,13 +18,6 @@ use Rattle.peer.specs.declared.settings.Settings.{Settings}
 use Rattle.peer.specs.declared.record.Peer.{Peer}
 use Rattle.peer.specs.declared.defaults.Kept.{Kept}
 use Rattle.opening.specs.Calls.{kept, resets, begins, setsState}
-use Rattle.setup.specs.Calls.{setsUp}
-use Rattle.sending.specs.Calls.{sends}
-use Rattle.ping.specs.Calls.{pings}
-use Rattle.sendstep.specs.Calls.{steps}
-use Rattle.throttling.specs.Calls.{throttles}
-use Rattle.acknowledge.specs.Calls.{acknowledges}
-use Rattle.timeouts.specs.Calls.{checks}
 use Rattle.dispatch.specs.Calls.{dispatches}
 use Rattle.arriving.specs.declared.Arrival.{Arrival}
 use Rattle.arrived.specs.Stores.{Arrives, leaves, stores as takes}
@@ -33,12 +26,14 @@ use Rattle.unsequenced.specs.Calls.{arrivesUnsequenced}
 use Rattle.reliable.specs.Calls.{arrivesReliable}
 use Rattle.receive.specs.Calls.{receives}
 use Rattle.steady.specs.Steady.{Lowers, stays, lowers}
-use Rattle.steady.proofs.Steady.{begin-steady, state-steady, setup-steady, send-steady, ping-steady, step-steady, acknowledge-steady, check-steady, throttle-steady, dispatch-steady, receive-lowers}
+use Rattle.steady.proofs.Steady.{begin-steady, state-steady, dispatch-steady, receive-lowers}
+use Rattle.outward.specs.Steps.{goes}
 use Rattle.link.specs.Steps.{step, beside}
-use Rattle.link.specs.Runs.{Asked, made, saysOne, run, resetState}
+use Rattle.link.specs.Runs.{Asked, comesTo, saysOne, run, resetState}
 use Rattle.link.specs.declared.calls.Call.{Call}
 use Rattle.link.specs.declared.calls.Call.the-variants as call
-use Rattle.promises.specs.Standing.{Tally, nothing, stores, counts, tallied, Waits}
+use Rattle.promises.specs.Standing.{Tally, freshTally, stores, counts, tallied, Waits}
+use Rattle.promises.proofs.Sending.{outward-steady}
 use Rattle.promises.proofs.Sounding.{fresh-whole, call-sounds}
 use Rattle.promises.proofs.Answers.{Says, unsequenced-says, reliable-says, one-stored, one-not, receive-none}
 
@@ -83,33 +78,26 @@ call-holds : (c : Call) (s : Settings) (datagram : List ℕ) (x : State) (t : Ta
 call-holds call.Reset s datagram x t w h = reset-holds s x t h
 call-holds (call.Begin mtu channels) s datagram x t w h = same-holds (x .peer) (begins s mtu channels (x .peer) .after) t (begin-steady s mtu channels (x .peer) .total) h
 call-holds (call.SetState state) s datagram x t w h = same-holds (x .peer) (setsState s state (x .peer) .after) t (state-steady s state (x .peer) .total) h
-call-holds call.Ping s datagram x t w h = same-holds (x .peer) (pings s (x .peer) .after) t (ping-steady s (x .peer) .total) h
-call-holds (call.Send channel length flags) s datagram x t w h = same-holds (x .peer) (sends s channel length flags (x .peer) .after) t (send-steady s channel length flags (x .peer) .total) h
-call-holds (call.Setup piece) s datagram x t w h = same-holds (x .peer) (setsUp s piece (x .peer) .after) t (setup-steady s piece (x .peer) .total) h
-call-holds (call.SendStep queue time) s datagram x t w h = same-holds (x .peer) (steps s queue time (x .peer) .after) t (step-steady s queue time (x .peer) .total) h
-call-holds (call.Acknowledgement channel number sent clock) s datagram x t w h =
-    same-holds (x .peer) (acknowledges s channel (number .0) sent clock (x .peer) .after) t (acknowledge-steady s channel (number .0) sent clock (x .peer) .total) h
-call-holds (call.TimeoutCheck clock) s datagram x t w h = same-holds (x .peer) (checks s clock (x .peer) .after) t (check-steady s clock (x .peer) .total) h
+call-holds (call.Outward c) s datagram x t w h = same-holds (x .peer) (goes s c (x .peer) .after) t (outward-steady s c (x .peer) .total) h
 call-holds (call.UnsequencedArrival a group) s datagram x t w h =
     arrival-holds a datagram x (arrivesUnsequenced s a group datagram x) t (unsequenced-stores s a group datagram x w) (unsequenced-says s a datagram x group) h
 call-holds (call.ReliableArrival a) s datagram x t w h =
     arrival-holds a datagram x (arrivesReliable s a datagram x) t (reliable-stores s a datagram x w) (reliable-says s a datagram x) h
 call-holds (call.Dispatch channel) s datagram x t w h = same-holds (x .peer) (dispatches s channel (x .peer) .after) t (dispatch-steady s channel (x .peer) .total) h
 call-holds call.Receive s datagram x t w h = receive-holds s x t h
-call-holds (call.Throttle sample) s datagram x t w h = same-holds (x .peer) (throttles s sample (x .peer) .after) t (throttle-steady s sample (x .peer) .total) h
 
 run-holds : (calls : List Asked) (x : State) (t : Tally) → Whole (x .peer) → Holds (x .peer) t
     → Holds (run calls x .end .peer) (tallied calls x t)
 unfolding run tallied
 run-holds [] x t w h = h
 run-holds (a ∷ rest) x t w h =
-    run-holds rest (made a x .after) (counts (a .call) (made a x .answer) t)
+    run-holds rest (comesTo a x .after) (counts (a .call) (comesTo a x .answer) t)
     (call-sounds (a .settings) (a .call) (a .datagram) (x .store) .whole (x .peer) w)
     (call-holds (a .call) (a .settings) (a .datagram) x t w h)
 
-fresh-holds : (mtu : ℕ) (k : Kept) → Holds (freshPeer mtu k) nothing
+fresh-holds : (mtu : ℕ) (k : Kept) → Holds (freshPeer mtu k) freshTally
 unfolding freshPeer
 fresh-holds mtu k = refl
 
 pub waits : Waits
-waits mtu kept store calls = run-holds calls (resetState mtu kept store) nothing (fresh-whole mtu kept) (fresh-holds mtu kept)
+waits mtu kept store calls = run-holds calls (resetState mtu kept store) freshTally (fresh-whole mtu kept) (fresh-holds mtu kept)

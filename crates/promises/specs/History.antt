@@ -6,7 +6,7 @@ use Rattle.numbers.specs.Pick.{pick}
 use Rattle.numbers.specs.Answers.{Answer}
 use Rattle.window.specs.Window.{windowsMoved}
 use Rattle.peer.specs.Outcome.{State}
-use Rattle.link.specs.Runs.{Asked, made, saysOne}
+use Rattle.link.specs.Runs.{Asked, comesTo, saysOne}
 use Rattle.link.specs.declared.calls.Call.{Call}
 use Rattle.link.specs.declared.calls.Call.the-variants as call
 
@@ -40,17 +40,11 @@ abbrev pub concern : Call → Concern
 concern call.Reset = resetting
 concern (call.Begin mtu channels) = neither
 concern (call.SetState state) = neither
-concern call.Ping = neither
-concern (call.Send channel length flags) = neither
-concern (call.Setup piece) = neither
-concern (call.SendStep queue time) = neither
-concern (call.Acknowledgement channel number sent clock) = neither
-concern (call.TimeoutCheck clock) = neither
+concern (call.Outward c) = neither
 concern (call.UnsequencedArrival a group) = arriving (group .0)
 concern (call.ReliableArrival a) = neither
 concern (call.Dispatch channel) = neither
 concern call.Receive = neither
-concern (call.Throttle sample) = neither
 
 -- a group is a number of 16 bits, as its type in the program says; here a number may be any
 abbrev pub InRange : Concern → Type 0
@@ -67,7 +61,7 @@ abbrev pub baseOf : State → ℕ
 baseOf x = x .peer .groups .incoming .0
 
 abbrev pub movedBy : Asked → State → ℕ
-movedBy a x = windowsMoved (baseOf x) (baseOf (made a x .after))
+movedBy a x = windowsMoved (baseOf x) (baseOf (comesTo a x .after))
 
 -- what a call of this concern, that answers so and moves the base by n windows, adds to the log
 abbrev pub logs : Concern → Answer → ℕ → List Event → List Event
@@ -76,9 +70,9 @@ logs (arriving g) a n log = pick (saysOne a) (delivered g ∷ moved n ∷ log) (
 logs neither a n log = moved n ∷ log
 
 abbrev pub logged : Asked → State → List Event → List Event
-logged a x log = logs (concern (a .call)) (made a x .answer) (movedBy a x) log
+logged a x log = logs (concern (a .call)) (comesTo a x .answer) (movedBy a x) log
 
 -- the log after a run of calls
 unfoldable pub history : List Asked → State → List Event → List Event
 history [] x log = log
-history (a ∷ rest) x log = history rest (made a x .after) (logged a x log)
+history (a ∷ rest) x log = history rest (comesTo a x .after) (logged a x log)

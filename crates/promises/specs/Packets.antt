@@ -15,7 +15,7 @@ use Rattle.parts.specs.Damage.{below, usedIn}
 use Rattle.peer.specs.Outcome.{State, Outcome}
 use Rattle.peer.specs.declared.defaults.Kept.{Kept}
 use Rattle.arriving.specs.declared.Arrival.{Arrival}
-use Rattle.link.specs.Runs.{Asked, made, saysOne, Packet, packetsOf, run, resetState}
+use Rattle.link.specs.Runs.{Asked, comesTo, saysOne, Packet, packetsOf, run, resetState}
 use Rattle.link.specs.declared.calls.Call.{Call}
 use Rattle.link.specs.declared.calls.Call.the-variants as call
 
@@ -43,15 +43,9 @@ putIn (call.ReliableArrival a) w datagram = pick (saysOne w) (payload a datagram
 putIn call.Reset w datagram = []
 putIn (call.Begin mtu channels) w datagram = []
 putIn (call.SetState state) w datagram = []
-putIn call.Ping w datagram = []
-putIn (call.Send channel length flags) w datagram = []
-putIn (call.Setup piece) w datagram = []
-putIn (call.SendStep queue time) w datagram = []
-putIn (call.Acknowledgement channel number sent clock) w datagram = []
-putIn (call.TimeoutCheck clock) w datagram = []
+putIn (call.Outward c) w datagram = []
 putIn (call.Dispatch channel) w datagram = []
 putIn call.Receive w datagram = []
-putIn (call.Throttle sample) w datagram = []
 
 -- since the latest reset, each in its order: the payloads stored, the packets that joined dispatched, the packets received
 pub record Ledger : Type 0 where
@@ -59,8 +53,8 @@ pub record Ledger : Type 0 where
   pub joined : List Packet
   pub received : List Packet
 
-abbrev pub blank : Ledger
-blank = record { stored = []; joined = []; received = [] }
+abbrev pub freshLedger : Ledger
+freshLedger = record { stored = []; joined = []; received = [] }
 
 -- what stands in dispatched past as many as stood there before
 abbrev pub newly : State → State → List Packet
@@ -79,24 +73,18 @@ abbrev pub isReset : Call → Answer → Bool
 isReset call.Reset w = eqb (w .number) 0
 isReset (call.Begin mtu channels) w = false
 isReset (call.SetState state) w = false
-isReset call.Ping w = false
-isReset (call.Send channel length flags) w = false
-isReset (call.Setup piece) w = false
-isReset (call.SendStep queue time) w = false
-isReset (call.Acknowledgement channel number sent clock) w = false
-isReset (call.TimeoutCheck clock) w = false
+isReset (call.Outward c) w = false
 isReset (call.UnsequencedArrival a group) w = false
 isReset (call.ReliableArrival a) w = false
 isReset (call.Dispatch channel) w = false
 isReset call.Receive w = false
-isReset (call.Throttle sample) w = false
 
 abbrev pub writes : Asked → State → Ledger → Ledger
-writes a x l = let o = made a x in pick (isReset (a .call) (o .answer)) blank (entered a x o l)
+writes a x l = let o = comesTo a x in pick (isReset (a .call) (o .answer)) freshLedger (entered a x o l)
 
 unfoldable pub ledger : List Asked → State → Ledger → Ledger
 ledger [] x l = l
-ledger (a ∷ rest) x l = ledger rest (made a x .after) (writes a x l)
+ledger (a ∷ rest) x l = ledger rest (comesTo a x .after) (writes a x l)
 
 -- how many packets pass a test
 unfoldable pub count : (Packet → Bool) → List Packet → ℕ
@@ -112,4 +100,4 @@ pub record InAndOut (l : Ledger) (y : State) : Type 0 where
 abbrev pub ComesOut : Type 0
 ComesOut =
     (mtu : ℕ) (kept : Kept) (store : List ℕ) (calls : List Asked) → let x = resetState mtu kept store in
-    InAndOut (ledger calls x blank) (run calls x .end)
+    InAndOut (ledger calls x freshLedger) (run calls x .end)

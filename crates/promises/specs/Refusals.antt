@@ -4,6 +4,7 @@ use Prim.Native.Nat.{ℕ}
 use mathlib.Core.Bool.{Bool}
 use mathlib.Core.List.{List, [], _∷_}
 use Rattle.runs.specs.Runs.{has}
+use Rattle.outward.specs.declared.calls.Call.the-variants as out
 use Rattle.link.specs.declared.calls.Call.{Call}
 use Rattle.link.specs.declared.calls.Call.the-variants as call
 
@@ -11,17 +12,17 @@ abbrev pub refusalsOf : Call → List ℕ
 refusalsOf call.Reset = 11 ∷ []
 refusalsOf (call.Begin mtu channels) = 11 ∷ 13 ∷ []
 refusalsOf (call.SetState state) = 11 ∷ 13 ∷ []
-refusalsOf call.Ping = 1 ∷ 5 ∷ 11 ∷ 13 ∷ []
-refusalsOf (call.Send channel length flags) = 1 ∷ 2 ∷ 3 ∷ 4 ∷ 5 ∷ 11 ∷ 13 ∷ []
-refusalsOf (call.Setup piece) = 2 ∷ 5 ∷ 9 ∷ 11 ∷ 13 ∷ []
-refusalsOf (call.SendStep queue time) = 11 ∷ 13 ∷ []
-refusalsOf (call.Acknowledgement channel number sent clock) = 10 ∷ 11 ∷ 13 ∷ []
-refusalsOf (call.TimeoutCheck clock) = 11 ∷ 13 ∷ []
+refusalsOf (call.Outward out.Ping) = 1 ∷ 5 ∷ 11 ∷ 13 ∷ []
+refusalsOf (call.Outward (out.Send channel length flags)) = 1 ∷ 2 ∷ 3 ∷ 4 ∷ 5 ∷ 11 ∷ 13 ∷ []
+refusalsOf (call.Outward (out.Setup piece)) = 2 ∷ 5 ∷ 9 ∷ 11 ∷ 13 ∷ []
+refusalsOf (call.Outward (out.SendStep queue time)) = 11 ∷ 13 ∷ []
+refusalsOf (call.Outward (out.Acknowledgement channel number sent clock)) = 10 ∷ 11 ∷ 13 ∷ []
+refusalsOf (call.Outward (out.TimeoutCheck clock)) = 11 ∷ 13 ∷ []
+refusalsOf (call.Outward (out.Throttle sample)) = 11 ∷ 13 ∷ []
 refusalsOf (call.UnsequencedArrival arrival group) = 6 ∷ 7 ∷ 8 ∷ 9 ∷ 11 ∷ 13 ∷ []
 refusalsOf (call.ReliableArrival arrival) = 6 ∷ 7 ∷ 8 ∷ 9 ∷ 11 ∷ 13 ∷ []
 refusalsOf (call.Dispatch channel) = 2 ∷ 11 ∷ 13 ∷ []
 refusalsOf call.Receive = 11 ∷ 13 ∷ []
-refusalsOf (call.Throttle sample) = 11 ∷ 13 ∷ []
 
 abbrev pub may : Call → ℕ → Bool
 may k number = has (refusalsOf k) number

@@ -9,7 +9,7 @@ use Rattle.peer.specs.Outcome.{State, Outcome}
 use Rattle.peer.specs.declared.settings.Settings.{Settings}
 use Rattle.peer.specs.declared.defaults.Kept.{Kept}
 use Rattle.arriving.specs.declared.Arrival.{Arrival}
-use Rattle.link.specs.Runs.{Asked, made, saysOne, packetsOf, Ran, ended, before, run, resetState}
+use Rattle.link.specs.Runs.{Asked, comesTo, saysOne, packetsOf, Ran, ended, before, run, resetState}
 use Rattle.link.specs.declared.calls.Call.the-variants as call
 use Rattle.promises.specs.History.{Event, Since, never, windows, since, AllInRange, movedBy, logged, history}
 
@@ -41,8 +41,8 @@ aside a x o rest = record { answers = rest .answers; packets = packetsOf (a .cal
 -- the run of all lines: what the original calls answer in it, all packets that come out, and the end
 unfoldable pub played : List Line → State → Ran
 played [] x = ended x
-played (own a ∷ ls) x = let o = made a x in before a x o (played ls (o .after))
-played (again k ∷ ls) x = let a = arrives k in let o = made a x in aside a x o (played ls (o .after))
+played (own a ∷ ls) x = let o = comesTo a x in before a x o (played ls (o .after))
+played (again k ∷ ls) x = let a = arrives k in let o = comesTo a x in aside a x o (played ls (o .after))
 
 -- already delivered, no reset since, and at most 32 windows in all
 abbrev pub Recent : Since → Type 0
@@ -52,14 +52,14 @@ Recent (windows m) = m ≤ 32
 -- each inserted arrival repeats a recent group, by the log of all that ran before it
 abbrev pub Repeats : List Line → State → List Event → Type 0
 Repeats [] x log = Unit {0}
-Repeats (own a ∷ ls) x log = Repeats ls (made a x .after) (logged a x log)
+Repeats (own a ∷ ls) x log = Repeats ls (comesTo a x .after) (logged a x log)
 Repeats (again k ∷ ls) x log =
-    let a = arrives k in Recent (since (k .group .0) log) × Repeats ls (made a x .after) (logged a x log)
+    let a = arrives k in Recent (since (k .group .0) log) × Repeats ls (comesTo a x .after) (logged a x log)
 
 -- the same by the log of the original calls alone: since repeats leave no trace, it comes to the same
 abbrev pub RepeatsOriginal : List Line → State → List Event → Type 0
 RepeatsOriginal [] x log = Unit {0}
-RepeatsOriginal (own a ∷ ls) x log = RepeatsOriginal ls (made a x .after) (logged a x log)
+RepeatsOriginal (own a ∷ ls) x log = RepeatsOriginal ls (comesTo a x .after) (logged a x log)
 RepeatsOriginal (again k ∷ ls) x log = Recent (since (k .group .0) log) × RepeatsOriginal ls x log
 
 -- repeats leave no trace: the same answers, the same packets in the same order with the same bytes, the same record and store at the end
@@ -83,5 +83,5 @@ FarApart =
     let a = arrives k in
     AllInRange (a ∷ calls)
     → since (k .group .0) (history calls x []) ≡ windows m
-    → saysOne (made a y .answer) ≡ true
+    → saysOne (comesTo a y .answer) ≡ true
     → 64 ≤ m + movedBy a y

@@ -13,7 +13,7 @@ use Rattle.slots.specs.Lists.{inItems}
 use Rattle.parts.specs.Fresh.{noIncoming}
 use Rattle.peer.specs.Outcome.{State}
 use Rattle.peer.specs.declared.defaults.Kept.{Kept}
-use Rattle.link.specs.Runs.{Asked, made, resetState}
+use Rattle.link.specs.Runs.{Asked, comesTo, resetState}
 use Rattle.link.specs.declared.calls.Call.{Call}
 use Rattle.link.specs.declared.calls.Call.the-variants as call
 
@@ -33,42 +33,30 @@ isOn channel (call.Dispatch c) = eqb c channel
 isOn channel call.Reset = false
 isOn channel (call.Begin mtu channels) = false
 isOn channel (call.SetState state) = false
-isOn channel call.Ping = false
-isOn channel (call.Send c length flags) = false
-isOn channel (call.Setup piece) = false
-isOn channel (call.SendStep queue time) = false
-isOn channel (call.Acknowledgement c number sent clock) = false
-isOn channel (call.TimeoutCheck clock) = false
+isOn channel (call.Outward c) = false
 isOn channel (call.UnsequencedArrival a group) = false
 isOn channel call.Receive = false
-isOn channel (call.Throttle sample) = false
 
 -- reset and begin, done, begin the channels anew
 abbrev pub isAnew : Call → Answer → Bool
 isAnew call.Reset w = eqb (w .number) 0
 isAnew (call.Begin mtu channels) w = eqb (w .number) 0
 isAnew (call.SetState state) w = false
-isAnew call.Ping w = false
-isAnew (call.Send c length flags) w = false
-isAnew (call.Setup piece) w = false
-isAnew (call.SendStep queue time) w = false
-isAnew (call.Acknowledgement c number sent clock) w = false
-isAnew (call.TimeoutCheck clock) w = false
+isAnew (call.Outward c) w = false
 isAnew (call.UnsequencedArrival a group) w = false
 isAnew (call.ReliableArrival a) w = false
 isAnew (call.Dispatch c) w = false
 isAnew call.Receive w = false
-isAnew (call.Throttle sample) w = false
 
 -- the reliable numbers of a channel that joined dispatched since begin, in their order
 abbrev pub reported : ℕ → Asked → State → List ℕ → List ℕ
 reported channel a x log =
-    let o = made a x in
+    let o = comesTo a x in
     pick (isAnew (a .call) (o .answer)) [] (pick (isOn channel (a .call)) (log ++ numbersJoined x (o .after)) log)
 
 unfoldable pub reports : ℕ → List Asked → State → List ℕ → List ℕ
 reports channel [] x log = log
-reports channel (a ∷ rest) x log = reports channel rest (made a x .after) (reported channel a x log)
+reports channel (a ∷ rest) x log = reports channel rest (comesTo a x .after) (reported channel a x log)
 
 -- k numbers one after another, the first after n, past 65,535 to 0
 unfoldable pub series : ℕ → ℕ → List ℕ

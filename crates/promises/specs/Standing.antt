@@ -12,7 +12,7 @@ use Rattle.peer.specs.Settings.{fitSettings}
 use Rattle.peer.specs.Outcome.{State}
 use Rattle.peer.specs.declared.settings.Settings.{Settings}
 use Rattle.peer.specs.declared.defaults.Kept.{Kept}
-use Rattle.link.specs.Runs.{Asked, made, saysOne, run, resetState}
+use Rattle.link.specs.Runs.{Asked, comesTo, saysOne, run, resetState}
 use Rattle.link.specs.declared.calls.Call.{Call}
 use Rattle.link.specs.declared.calls.Call.the-variants as call
 
@@ -37,36 +37,30 @@ pub record Tally : Type 0 where
   pub stored : ℕ
   pub received : ℕ
 
-abbrev pub nothing : Tally
-nothing = record { stored = 0; received = 0 }
+abbrev pub freshTally : Tally
+freshTally = record { stored = 0; received = 0 }
 
 abbrev pub stores : ℕ → Answer → Tally → Tally
 stores length a t = pick (saysOne a) (record { stored = t .stored + length; received = t .received }) t
 
 -- what a call that answers so adds
 abbrev pub counts : Call → Answer → Tally → Tally
-counts call.Reset a t = pick (eqb (a .number) 0) nothing t
+counts call.Reset a t = pick (eqb (a .number) 0) freshTally t
 counts (call.UnsequencedArrival arrival group) a t = stores (arrival .length) a t
 counts (call.ReliableArrival arrival) a t = stores (arrival .length) a t
 counts call.Receive a t = pick (saysOne a) (record { stored = t .stored; received = t .received + getD (a .values) 3 0 }) t
 counts (call.Begin mtu channels) a t = t
 counts (call.SetState state) a t = t
-counts call.Ping a t = t
-counts (call.Send channel length flags) a t = t
-counts (call.Setup piece) a t = t
-counts (call.SendStep queue time) a t = t
-counts (call.Acknowledgement channel number sent clock) a t = t
-counts (call.TimeoutCheck clock) a t = t
+counts (call.Outward c) a t = t
 counts (call.Dispatch channel) a t = t
-counts (call.Throttle sample) a t = t
 
 unfoldable pub tallied : List Asked → State → Tally → Tally
 tallied [] x t = t
-tallied (a ∷ rest) x t = let o = made a x in tallied rest (o .after) (counts (a .call) (o .answer) t)
+tallied (a ∷ rest) x t = let o = comesTo a x in tallied rest (o .after) (counts (a .call) (o .answer) t)
 
 -- "From a reset, that total equals lengths stored less lengths received."
 abbrev pub Waits : Type 0
 Waits =
     (mtu : ℕ) (kept : Kept) (store : List ℕ) (calls : List Asked) → let x = resetState mtu kept store in
-    let t = tallied calls x nothing in
+    let t = tallied calls x freshTally in
     run calls x .end .peer .waiting .total + t .received ≡ t .stored

@@ -7,12 +7,19 @@ use script::row::Row;
 pub(crate) fn tell(reply: Reply) {
     match reply {
         Reply::Called(r) => called(r),
-        Reply::Stepped(r) => stepped(r),
-        Reply::Acknowledged(r) => acknowledged(r),
-        Reply::Checked(r) => checked(r),
+        Reply::Outward(r) => outward(r),
         Reply::Arrived(r) => arrived(r),
         Reply::Received(r) => received(r),
-        Reply::Throttled(r) => throttled(r),
+    }
+}
+
+fn outward(reply: outward::calls::Reply) {
+    match reply {
+        outward::calls::Reply::Called(r) => called(r),
+        outward::calls::Reply::Stepped(r) => stepped(r),
+        outward::calls::Reply::Acknowledged(r) => acknowledged(r),
+        outward::calls::Reply::Checked(r) => checked(r),
+        outward::calls::Reply::Throttled(r) => throttled(r),
     }
 }
 

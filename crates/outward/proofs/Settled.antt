@@ -1,0 +1,52 @@
+-- The contract settles its result: two results, reply and record, that it allows for one input are the same.
+-- The argument: the record is the rule's; both replies are of the call's kind, and each kind's own law tells its replies apart.
+use mathlib.Core.Path.{_≡_, ap, sym, _∙_}
+use native.Mathlib.Omega.{arith}
+use Rattle.peer.specs.Outcome.{Came}
+use Rattle.peer.specs.declared.settings.Settings.{Settings}
+use Rattle.peer.specs.declared.record.Peer.{Peer}
+use Rattle.peer.proofs.Settled as calls
+use Rattle.sendstep.proofs.Settled as stepping
+use Rattle.acknowledge.proofs.Settled as acknowledging
+use Rattle.timeouts.proofs.Settled as checking
+use Rattle.throttling.proofs.Settled as throttling
+use Rattle.outward.specs.Steps.{answerOf, goes, kindIn, NamedIn, Own}
+use Rattle.outward.specs.declared.calls.Call.{Call}
+use Rattle.outward.specs.declared.calls.Reply.{Reply}
+use Rattle.outward.specs.declared.calls.Reply.the-variants as vr
+use Rattle.outward.specs.declared.Went.{Went}
+
+pub replies-apart : (a b : Reply) → kindIn a ≡ kindIn b → NamedIn a → NamedIn b → answerOf a ≡ answerOf b → a ≡ b
+replies-apart (vr.Called r) (vr.Called q) k m n e = ap vr.Called (calls.replies-apart r q e)
+replies-apart (vr.Called r) (vr.Stepped q) k m n e = absurd (omega arith)
+replies-apart (vr.Called r) (vr.Acknowledged q) k m n e = absurd (omega arith)
+replies-apart (vr.Called r) (vr.Checked q) k m n e = absurd (omega arith)
+replies-apart (vr.Called r) (vr.Throttled q) k m n e = absurd (omega arith)
+replies-apart (vr.Stepped r) (vr.Called q) k m n e = absurd (omega arith)
+replies-apart (vr.Stepped r) (vr.Stepped q) k m n e = ap vr.Stepped (stepping.replies-apart r q m n e)
+replies-apart (vr.Stepped r) (vr.Acknowledged q) k m n e = absurd (omega arith)
+replies-apart (vr.Stepped r) (vr.Checked q) k m n e = absurd (omega arith)
+replies-apart (vr.Stepped r) (vr.Throttled q) k m n e = absurd (omega arith)
+replies-apart (vr.Acknowledged r) (vr.Called q) k m n e = absurd (omega arith)
+replies-apart (vr.Acknowledged r) (vr.Stepped q) k m n e = absurd (omega arith)
+replies-apart (vr.Acknowledged r) (vr.Acknowledged q) k m n e = ap vr.Acknowledged (acknowledging.replies-apart r q e)
+replies-apart (vr.Acknowledged r) (vr.Checked q) k m n e = absurd (omega arith)
+replies-apart (vr.Acknowledged r) (vr.Throttled q) k m n e = absurd (omega arith)
+replies-apart (vr.Checked r) (vr.Called q) k m n e = absurd (omega arith)
+replies-apart (vr.Checked r) (vr.Stepped q) k m n e = absurd (omega arith)
+replies-apart (vr.Checked r) (vr.Acknowledged q) k m n e = absurd (omega arith)
+replies-apart (vr.Checked r) (vr.Checked q) k m n e = ap vr.Checked (checking.replies-apart r q e)
+replies-apart (vr.Checked r) (vr.Throttled q) k m n e = absurd (omega arith)
+replies-apart (vr.Throttled r) (vr.Called q) k m n e = absurd (omega arith)
+replies-apart (vr.Throttled r) (vr.Stepped q) k m n e = absurd (omega arith)
+replies-apart (vr.Throttled r) (vr.Acknowledged q) k m n e = absurd (omega arith)
+replies-apart (vr.Throttled r) (vr.Checked q) k m n e = absurd (omega arith)
+replies-apart (vr.Throttled r) (vr.Throttled q) k m n e = ap vr.Throttled (throttling.replies-apart r q e)
+
+module _ (s : Settings) (k : Call) (p : Peer) (a b : Went) where
+  pub outward-settled : Came answerOf (goes s k p) (a .reply) (a .peer) → Own k (a .reply) → Came answerOf (goes s k p) (b .reply) (b .peer) → Own k (b .reply)
+      → a ≡ b
+  outward-settled c m d n =
+      ap (λ (r : Reply). record { peer = a .peer; reply = r })
+      (replies-apart (a .reply) (b .reply) (m .kind ∙ sym (n .kind)) (m .named) (n .named) (c .answer ∙ sym (d .answer)))
+      ∙ ap (λ (q : Peer). record { peer = q; reply = b .reply }) (c .after ∙ sym (d .after))

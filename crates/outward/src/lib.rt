@@ -1,0 +1,96 @@
+// The calls of the sending side: one function that makes each of them.
+pub mod calls;
+
+ghost use mathlib.Core.Path.{_≡_};
+ghost use Rattle.peer.specs.Outcome.{Came};
+ghost use Rattle.outward.specs.Steps.{answerOf, goes, Own};
+use calls::Call;
+use calls::Reply;
+use peer::record::Peer;
+use peer::settings::Settings;
+
+// The record first: so it is made where the caller wants it.
+pub struct Went {
+    pub peer: Peer,
+    pub reply: Reply,
+}
+
+pub fn call(peer: Peer, settings: Settings, call: Call) -> Went
+    ensures came { λ r. ⌜ Came answerOf (goes settings call peer) (r .reply) (r .peer) ⌝ }
+    ensures own { λ r. ⌜ Own call (r .reply) ⌝ }
+{
+    match call {
+        Call::Ping => {
+            let called = ping::ping(peer, settings);
+            let reply = called.reply;
+            let after = called.peer;
+            Went {
+                peer: after,
+                reply: Reply::Called(reply),
+            }
+        }
+        Call::Send {
+            channel,
+            length,
+            flags,
+        } => {
+            let called = sending::calls::send(peer, settings, channel, length, flags);
+            let reply = called.reply;
+            let after = called.peer;
+            Went {
+                peer: after,
+                reply: Reply::Called(reply),
+            }
+        }
+        Call::Setup { piece } => {
+            let called = setup::calls::setup(peer, settings, piece);
+            let reply = called.reply;
+            let after = called.peer;
+            Went {
+                peer: after,
+                reply: Reply::Called(reply),
+            }
+        }
+        Call::SendStep { queue, time } => {
+            let stepped = sendstep::calls::step(peer, settings, queue, time);
+            let reply = stepped.reply;
+            let after = stepped.peer;
+            Went {
+                peer: after,
+                reply: Reply::Stepped(reply),
+            }
+        }
+        Call::Acknowledgement {
+            channel,
+            number,
+            sent,
+            clock,
+        } => {
+            let heard = acknowledge::acknowledge(peer, settings, channel, number, sent, clock);
+            let reply = heard.reply;
+            let after = heard.peer;
+            Went {
+                peer: after,
+                reply: Reply::Acknowledged(reply),
+            }
+        }
+        Call::TimeoutCheck { clock } => {
+            let checked = timeouts::check(peer, settings, clock);
+            let reply = checked.reply;
+            let after = checked.peer;
+            Went {
+                peer: after,
+                reply: Reply::Checked(reply),
+            }
+        }
+        Call::Throttle { sample } => {
+            let throttled = throttling::throttle(peer, settings, sample);
+            let reply = throttled.reply;
+            let after = throttled.peer;
+            Went {
+                peer: after,
+                reply: Reply::Throttled(reply),
+            }
+        }
+    }
+}
