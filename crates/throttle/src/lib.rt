@@ -2,6 +2,7 @@
 ghost use Rattle.throttle.specs.Throttling.{Rolls};
 
 // The numbers that `enet_peer_throttle` reads and the one, `value`, that it alters.
+#[repr(C)]
 pub struct Throttle {
     pub value: u32,
     pub limit: u32,
