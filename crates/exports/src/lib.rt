@@ -52,6 +52,15 @@ pub extern "C" fn lyn_throttle(
     next.value as u64 + 4294967296 * turn_code(turn)
 }
 
+// The throttle, its numbers lent and altered there: how it turned.
+#[no_mangle]
+pub extern "C" fn lyn_turn(throttle: &mut Throttle, sample: u32) -> u64
+    ensures { λ r. ⌜ TurnCall (now (throttle .entry)) sample r (now (throttle .exit)) ⌝ }
+{
+    let turn = throttle.turn(sample);
+    turn_code(turn)
+}
+
 fn turn_code(turn: Turn) -> u64
     ensures { λ r. ⌜ r ≡ turnCode turn ⌝ }
 {

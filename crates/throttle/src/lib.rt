@@ -2,6 +2,7 @@
 ghost use Rattle.throttle.specs.Throttling.{Rolls};
 
 // The numbers that `enet_peer_throttle` reads and the one, `value`, that it alters.
+#[repr(C)]
 pub struct Throttle {
     pub value: u32,
     pub limit: u32,
@@ -64,5 +65,14 @@ impl Throttle {
             throttle: next,
             turn: Turn::Held,
         }
+    }
+
+    // The numbers lent and altered there, as the source alters its peer.
+    pub fn turn(&mut self, sample: u32) -> Turn
+        ensures { λ r. ⌜ Rolls (now (self .entry)) sample (record { throttle = now (self .exit); turn = r }) ⌝ }
+    {
+        let rolled = (*self).roll(sample);
+        *self = rolled.throttle;
+        rolled.turn
     }
 }
