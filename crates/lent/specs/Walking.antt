@@ -31,6 +31,6 @@ unfoldable pub walkedRun : Limits → ℕ → Walk → List Awaiting → Walked
 walkedRun l clock w [] = record { walk = w; run = [] }
 walkedRun l clock w (a ∷ rest) = let t = turnOf l clock w a in headed (t .awaiting) (walkedRun l clock (t .walk) rest)
 
-pub record Walks (l : Limits) (clock : ℕ) (w : Walk) (run : List Awaiting) (r : Walk) (after : List Awaiting) : Type 0 where
-  pub walk : r ≡ walkedRun l clock w run .walk
-  pub run : after ≡ walkedRun l clock w run .run
+pub record Walks (l : Limits) (clock : ℕ) (w : Walk) (before : List Awaiting) (r : Walk) (after : List Awaiting) : Type 0 where
+  pub walk : r ≡ walkedRun l clock w before .walk
+  pub run : after ≡ walkedRun l clock w before .run
