@@ -31,10 +31,7 @@ fn turn(limits: Limits, clock: u32, walk: Walk, a: Awaiting) -> Turned
         command: after,
         mark: r.mark,
     };
-    Turned {
-        walk: w,
-        awaiting,
-    }
+    Turned { walk: w, awaiting }
 }
 
 // Each once, oldest first; the answer is whether the numbers say that it was given up.
