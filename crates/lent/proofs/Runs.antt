@@ -13,6 +13,7 @@ use Rattle.lent.specs.declared.Awaiting.{Awaiting}
 use Rattle.lent.specs.declared.Turned.{Turned}
 
 module _ (l : Limits) (clock : ℕ) where
+  -- i of the run walked, and the numbers that the next is given
   pub midway : Walk → ℕ → List Awaiting → Walked
   midway w zero ys = record { walk = w; run = ys }
   midway w (suc i) [] = record { walk = w; run = [] }
@@ -26,12 +27,14 @@ module _ (l : Limits) (clock : ℕ) where
   unfolding midway
   mid-start w ys = refl
 
+  -- no turn adds a command or takes one
   pub mid-length : (w : Walk) (i : ℕ) (ys : List Awaiting) → length (midway w i ys .run) ≡ length ys
   unfolding midway
   mid-length w zero ys = refl
   mid-length w (suc i) [] = refl
   mid-length w (suc i) (y ∷ ys) = ap suc (mid-length (turnOf l clock w y .walk) i ys)
 
+  -- the turns before i leave what stands at i, so the turn there is the next of the walk
   mid-turn : (w : Walk) (i : ℕ) (ys : List Awaiting) (d : Awaiting) → i < length ys
       → stored (midway w i ys) i (turnOf l clock (midway w i ys .walk) (getD (midway w i ys .run) i d)) ≡ midway w (suc i) ys
   unfolding midway
@@ -42,10 +45,12 @@ module _ (l : Limits) (clock : ℕ) where
       let t = turnOf l clock w y in
       ap (headed (t .awaiting)) (mid-turn (t .walk) i ys d (omega arith))
 
+  -- the same as the code counts, of what `turn` answered
   pub mid-next : (w : Walk) (i : ℕ) (ys : List Awaiting) (d : Awaiting) (t : Turned) → i < length ys
       → t ≡ turnOf l clock (midway w i ys .walk) (getD (midway w i ys .run) i d) → stored (midway w i ys) i t ≡ midway w (i + 1) ys
   mid-next w i ys d t h e = ap (stored (midway w i ys) i) e ∙ mid-turn w i ys d h ∙ ap (λ (j : ℕ). midway w j ys) (sym (add-one i))
 
+  -- past its length no rest is left
   pub mid-end : (w : Walk) (i : ℕ) (ys : List Awaiting) → length ys ≤ i → midway w i ys ≡ walkedRun l clock w ys
   unfolding midway walkedRun
   mid-end w zero [] h = refl

@@ -80,7 +80,7 @@ abbrev stayed : Stays (walk′.ended .signature .params) (walk′.ended .kept)
 stayed =
     (stay-slice (0 ∷ []) tt (plain (λ _. T.the-row)), (stay-none (λ _. L.the-row) yes, (stay-none (λ _. u32) yes, (stay-none (λ _. N.the-row) yes, tt))))
 
--- the machine values of the structs
+-- the machine values of the structs: T is Awaiting, L is Limits, N is Walk, Q is Turned
 abbrev t-vals : Awaiting → List Val
 t-vals = LL.vals T.the-type T′.the-laws
 
