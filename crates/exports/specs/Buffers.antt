@@ -50,6 +50,11 @@ throttleOf value limit acceleration deceleration last variance =
 abbrev pub throttleReply : Throttle → ℕ → ℕ
 throttleReply t sample = throttle.valueAfter t sample + 4294967296 * throttle.byTests t sample 0 1 2 0
 
+-- the throttle lent: 0 held, 1 raised, 2 lowered, and the numbers that are left
+pub record TurnCall (before : Throttle) (sample : ℕ) (r : ℕ) (after : Throttle) : Type 0 where
+  pub reply : r ≡ throttle.byTests before sample 0 1 2 0
+  pub throttle : after ≡ throttle.throttleAfter before sample
+
 -- the window: the base afterwards, and 65,536 times 0 passed over by distance, 1 passed over as marked, 2 taken; a refusal is its number times 2^24
 abbrev pub windowReply : ℕ → ℕ → List ℕ → ℕ
 windowReply base g buffer =

@@ -6,7 +6,7 @@ ghost use lib.ListN.{length, replicate};
 ghost use Rattle.table.specs.Bytes.{numberAt, putNumber, putRow, pad};
 ghost use Rattle.command.specs.Rows.{kindOf, rowOf};
 ghost use Rattle.numbers.specs.Limits.{windowWords};
-ghost use Rattle.exports.specs.Buffers.{MarkCall, ReadCall, WindowCall, numbersIn, rowBytes, rowNumbers, throttleOf, throttleReply, windowBytes, withNumbers};
+ghost use Rattle.exports.specs.Buffers.{MarkCall, ReadCall, WindowCall, numbersIn, rowBytes, rowNumbers, throttleOf, throttleReply, TurnCall, windowBytes, withNumbers};
 ghost use Rattle.exports.specs.Codes.{turnCode, verdictCode};
 use command::fields::Command;
 use numbers::consts::UNSEQUENCED_WORDS;
@@ -50,6 +50,15 @@ pub extern "C" fn lyn_throttle(
     let next = rolled.throttle;
     let turn = rolled.turn;
     next.value as u64 + 4294967296 * turn_code(turn)
+}
+
+// The throttle, its numbers lent and altered there: how it turned.
+#[no_mangle]
+pub extern "C" fn lyn_turn(throttle: &mut Throttle, sample: u32) -> u64
+    ensures { λ r. ⌜ TurnCall (now (throttle .entry)) sample r (now (throttle .exit)) ⌝ }
+{
+    let turn = throttle.turn(sample);
+    turn_code(turn)
 }
 
 fn turn_code(turn: Turn) -> u64

@@ -66,4 +66,13 @@ impl Throttle {
             turn: Turn::Held,
         }
     }
+
+    // The numbers lent and altered there, as the source alters its peer.
+    pub fn turn(&mut self, sample: u32) -> Turn
+        ensures { λ r. ⌜ Rolls (now (self .entry)) sample (record { throttle = now (self .exit); turn = r }) ⌝ }
+    {
+        let rolled = (*self).roll(sample);
+        *self = rolled.throttle;
+        rolled.turn
+    }
 }
