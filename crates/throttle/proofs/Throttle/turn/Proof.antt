@@ -134,13 +134,13 @@ module _ {M : Type 1} (𝓤 : URA M) (H : Heap 𝓤) (A : Atoms 𝓤) (W : Given
         move ! (1 ∷ []) $ use1 W (raw (Roll 𝓤 H A at-mem run .pre to-roll)) goes-roll $
         calls-at ! fm (Roll 𝓤 H A at-mem run) known to-roll
         (and-then ! (load ! (from ! (stop !)) (look ! 5 refl)) (and-then ! (load ! (from ! (stop !)) (look ! 9 refl)) (no-more !))) (λ v.
-        use1 W (later (some (λ (r : Rolled). (‵ ftrue ⊛ ‵ (Q.the-row .own r (v ∷ []))) ⊛ raw (ensured 𝓤 H A roll.ended (roll.clauses 𝓤 H A at-mem run) tt (h, (n, tt)) tt r))))
+        use1 W (later (some (λ (r : Rolled). (‵ ftrue ⊛ ‵ (Q.the-row .own r (v ∷ []))) ⊛
+        raw (ensured 𝓤 H A roll.ended (roll.clauses 𝓤 H A at-mem run) tt (h, (n, tt)) tt r))))
         (id⊢ 𝓤 _) $ await ! tt $ pick ! (λ r. split ! $ move ! (1 ∷ []) $
         use1 W (raw (fact 𝓤 (Rolls h n r))) (rolled-of 𝓤 H A at-mem run h n r) $ heard ! (Rolls h n r) (λ e. split ! $ drop ! $
         peeks ! Q.the-row (Is Q.the-row) (shows 𝓤 H A Q.the-row) r (v ∷ []) (λ is.
         land ! (from ! (stop !)) (init ! 7 refl (LL.lawful Q.the-type Q′.the-laws 𝓤 H A W .typed r _ is .0)) $
-        rewrite ! 7 (λ (u : Val). ‵ (fat fullShare Q′.mir l₃ 0 u))
-        (ap only (LL.tells Q.the-type Q′.the-laws r (v ∷ []) is)) refl $ drop ! $
+        rewrite ! 7 (λ (u : Val). ‵ (fat fullShare Q′.mir l₃ 0 u)) (ap only (LL.tells Q.the-type Q′.the-laws r (v ∷ []) is)) refl $ drop ! $
         -- [the struct's cell; the open borrow; obs; auth; _4; …; _3; …; _2; …; _1; …; room for _0; …]
         assigns ! (of-opd ! (load ! (from ! (fld ! refl (stop !))) (look-in ! 6 (sub ! 0 refl (whole !))))) (from ! (hop ! (look ! 10 refl) (stop !)))
         (store-raw ! 0 refl (LL.lawful T.the-type T′.the-laws 𝓤 H A W .typed (r .throttle) _ (throttle-is r _ is) .0)) $
