@@ -44,6 +44,7 @@ use denote.Exit.{yes}
 use Rattle.throttle.specs.Throttling.{Rolls}
 use Rattle.throttle.specs.declared.Throttle.{Throttle}
 use Rattle.throttle.specs.declared.Rolled.{Rolled}
+use Rattle.throttle.specs.declared.Turn.{Turn}
 use Rattle.throttle.proofs.Throttle as T
 use Rattle.throttle.proofs.Throttle.Laws as T′
 use Rattle.throttle.proofs.Rolled as Q
@@ -62,15 +63,18 @@ use Rattle.throttle.proofs.Throttle.turn.Code as code
 abbrev stayed : Stays (turn.ended .signature .params) (turn.ended .kept)
 stayed = (stay-ref (0 ∷ []) tt (plain (λ _. T.the-row)), (stay-none (λ _. u32) yes, tt))
 
--- the machine values of a throttle
+-- the machine values of a throttle and of a turn
 abbrev t-vals : Throttle → List Val
 t-vals = LL.vals T.the-type T′.the-laws
+
+abbrev u-vals : Turn → List Val
+u-vals = EL.vals U.the-type U′.the-laws
 
 -- what whoever holds a `Rolled` knows of its two fields
 throttle-is : (r : Rolled) (vs : List Val) → Is Q.the-row r vs → Is T.the-row (r .throttle) (t-vals (r .throttle))
 throttle-is r vs g = LL.owed Q.the-type Q′.the-laws r vs g .0
 
-turn-is : (r : Rolled) (vs : List Val) → Is Q.the-row r vs → Is U.the-row (r .turn) (EL.vals U.the-type U′.the-laws (r .turn))
+turn-is : (r : Rolled) (vs : List Val) → Is Q.the-row r vs → Is U.the-row (r .turn) (u-vals (r .turn))
 turn-is r vs g = LL.owed Q.the-type Q′.the-laws r vs g .1 .0
 
 module _ {M : Type 1} (𝓤 : URA M) (H : Heap 𝓤) (A : Atoms 𝓤) (mem : Memory → SProp 𝓤) (run : Routine → Fun 𝓤) where
@@ -96,17 +100,17 @@ module _ {M : Type 1} (𝓤 : URA M) (H : Heap 𝓤) (A : Atoms 𝓤) (W : Given
   Post = walkOf 𝓤 H A turn.ended stayed (turn.clauses 𝓤 H A at-mem run) .post (((κ, tt), (q, tt), tt, x, at), tt)
 
   exits :
-      (r : Rolled) → Rolls h n r → Is U.the-row (r .turn) (EL.vals U.the-type U′.the-laws (r .turn))
-      → ent 𝓤 (sep 𝓤 (A .obs γ (T.the-row .coded .code (r .throttle))) (sep 𝓤 (A .bor κ (Body (mem T.the-row) b o γ)) (A .lft κ q)))
-      (Post (EL.val U.the-type U′.the-laws (r .turn)))
-  exits r e is =
-      qed W (‵ (fobs γ (T.the-row .coded .code (r .throttle))) ∷ ‵ (fbor κ (Body (mem T.the-row) b o γ)) ∷ ‵ (flft κ q) ∷ []) ∵
+      (t : Throttle) (u : Turn) → Rolls h n (record { throttle = t; turn = u }) → Is U.the-row u (u-vals u)
+      → ent 𝓤 (sep 𝓤 (A .obs γ (T.the-row .coded .code t)) (sep 𝓤 (A .bor κ (Body (mem T.the-row) b o γ)) (A .lft κ q)))
+      (Post (EL.val U.the-type U′.the-laws u))
+  exits t u e is =
+      qed W (‵ (fobs γ (T.the-row .coded .code t)) ∷ ‵ (fbor κ (Body (mem T.the-row) b o γ)) ∷ ‵ (flft κ q) ∷ []) ∵
       suffices ! _ (ends-at 𝓤 H A turn.ended stayed (turn.clauses 𝓤 H A at-mem run) W (((κ, tt), (q, tt), tt, x, at), tt)
-      (EL.val U.the-type U′.the-laws (r .turn)) (r .turn) (r .throttle, (tt, tt)) (tt, (tt, tt))) $
+      (EL.val U.the-type U′.the-laws u) u (t, (tt, tt)) (tt, (tt, tt))) $
       says ! e $ nothing ! $ move ! (3 ∷ 0 ∷ []) $ join ! $
       frame ! $ feqI ! (List Val) (vptr b o ∷ []) (vptr b o ∷ []) refl $ fjoin3 ! $
       nothing ! $ owned ! u32 (Is u32) (uint-makes 𝓤 H A W w32) n _ (refl, fits) $ fjoin ! $ move ! (1 ∷ 0 ∷ []) $ fjoin ! $
-      owned ! U.the-row (Is U.the-row) (EL.makes U.the-type U′.the-plain 𝓤 H A) (r .turn) _ is $ move ! (1 ∷ 0 ∷ []) $ done !
+      owned ! U.the-row (Is U.the-row) (EL.makes U.the-type U′.the-plain 𝓤 H A) u _ is $ move ! (1 ∷ 0 ∷ []) $ done !
 
   abbrev to-roll : Roll 𝓤 H A at-mem run .Ghost
   to-roll = ((tt, tt, tt, (h, (n, tt)), (t-vals h, (vint w32 n ∷ [], tt))), tt)
@@ -150,7 +154,7 @@ module _ {M : Type 1} (𝓤 : URA M) (H : Heap 𝓤) (A : Atoms 𝓤) (W : Given
         closes ! tt T.the-row (r .throttle) (t-vals (r .throttle)) b o $
         returns ! (look ! 11 refl) $ forget ! 3 refl $ forget ! 5 refl $ forget ! 7 refl $ forget ! 9 refl $ forget ! 11 refl $
         move ! (11 ∷ 12 ∷ []) $ free1 ! $ move ! (9 ∷ 10 ∷ []) $ free1 ! $ move ! (7 ∷ 8 ∷ []) $ free1 ! $ move ! (5 ∷ 6 ∷ []) $ free1 ! $
-        move ! (3 ∷ 4 ∷ []) $ free1 ! $ free0 ! $ keep ! (0 ∷ 1 ∷ 2 ∷ []) $ by ! (exits r e (turn-is r _ is)))))))))))))
+        move ! (3 ∷ 4 ∷ []) $ free1 ! $ free0 ! $ keep ! (0 ∷ 1 ∷ 2 ∷ []) $ by ! (exits (r .throttle) (r .turn) e (turn-is r _ is)))))))))))))
 
 module _ {M : Type 1} (𝓤 : URA M) (H : Heap 𝓤) (A : Atoms 𝓤) (W : Given 𝓤 H A) (at-mem : Memory → SProp 𝓤) (run : Routine → Fun 𝓤) where
   turn-walks :
