@@ -1,4 +1,4 @@
-//! The exported window, throttle and reader against the source's own functions, in one process.
+//! The exported window, throttle, reader and lent walk against the source's own functions, in one process.
 //!
 //! Prints for each the calls compared, the differences, and the time of each side a call.
 
@@ -10,8 +10,10 @@ mod ours;
 #[path = "../../oracle/compare/src/random.rs"]
 mod random;
 mod reader;
+mod sent;
 mod tally;
 mod throttle;
+mod walk;
 mod window;
 
 use enet::Bench;
@@ -27,6 +29,7 @@ pub extern "C" fn main(count: i32, words: *const *const std::ffi::c_char) -> i32
         throttle::compare(&mut bench, &mut random, more),
         window::compare(&mut bench, &mut random, more),
         reader::compare(&mut bench, &mut random, more),
+        walk::compare(&mut random, more),
     ]
     .iter()
     .sum::<u64>();

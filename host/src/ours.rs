@@ -12,6 +12,7 @@ extern "C" {
         variance: u32,
         sample: u32,
     ) -> u64;
+    fn lyn_turn(throttle: *mut Throttle, sample: u32) -> u64;
     fn lyn_window(base: u16, group: u16, words: *mut u8, length: usize) -> u32;
     fn lyn_mark(group: u16, words: *mut u8, length: usize) -> u32;
     fn lyn_read(bytes: *const u8, length: usize, place: usize, row: *mut u8, room: usize) -> u32;
@@ -31,6 +32,11 @@ pub fn throttle(t: Throttle, sample: u32) -> (u32, u32) {
         )
     };
     (reply as u32, (reply >> 32) as u32)
+}
+
+/// The turn, as above; the numbers change in place.
+pub fn turn(t: &mut Throttle, sample: u32) -> u32 {
+    unsafe { lyn_turn(t, sample) as u32 }
 }
 
 /// The whole reply; the buffer changes in place.

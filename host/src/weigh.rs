@@ -8,7 +8,11 @@ mod clock;
 mod lent;
 mod paint;
 mod record;
+mod run;
 mod sends;
+mod sent;
+
+use clock::least;
 
 extern "C" {
     fn weigh_sound(state: u32) -> u32;
@@ -54,6 +58,8 @@ struct Weighed {
     answer: u32,
     /// The export whose time is taken off: what stands in this one beside the call.
     less: usize,
+    /// The source's call of this name stands beside it.
+    beside: &'static str,
 }
 
 /// A call of the source: its time, and how many of its answers are wrong.
@@ -68,8 +74,11 @@ const SEND_PIECES: usize = 2;
 const UNSEQUENCED: usize = 10;
 const SENT_ONE: usize = 17;
 const SENT_ALL: usize = 18;
+const BY_VALUE: [usize; 2] = [22, 23];
+const RUN: usize = 24;
+const LENT: [usize; 2] = [25, 26];
 
-const CALLS: [Weighed; 24] = [
+const CALLS: [Weighed; 27] = [
     weighed("sound", || unsafe { weigh_sound(CONNECTED) }, 1),
     weighed("send, 100 bytes", || unsafe { send(WHOLE) }, 0),
     weighed("send, 32 pieces", || unsafe { send(PIECES) }, 0),
@@ -131,6 +140,13 @@ const CALLS: [Weighed; 24] = [
         1,
     )
     .less(SENT_ALL),
+    weighed("run of 32", run::make, 32).less(RUN),
+    weighed("lent walk, 32 wait", || run::walked(EARLY), 0)
+        .less(RUN)
+        .beside("timeouts, 32 wait"),
+    weighed("lent walk, 32 go back", || run::walked(LATE), 32)
+        .less(RUN)
+        .beside("timeouts, 32 go back"),
 ];
 
 const SOURCES: [Source; 14] = [
@@ -164,6 +180,7 @@ const fn weighed(name: &'static str, call: fn() -> u32, answer: u32) -> Weighed 
         call,
         answer,
         less: SOUND,
+        beside: name,
     }
 }
 
@@ -172,9 +189,13 @@ impl Weighed {
         Weighed { less, ..self }
     }
 
-    /// The place of the source's call of the same name; of its send, where it has none.
-    fn beside(&self) -> usize {
-        let named = |source: &Source| source.name == self.name;
+    const fn beside(self, beside: &'static str) -> Self {
+        Weighed { beside, ..self }
+    }
+
+    /// The place of the source's call beside it; of its send, where it has none.
+    fn source(&self) -> usize {
+        let named = |source: &Source| source.name == self.beside;
         SOURCES.iter().position(named).unwrap_or(0)
     }
 }
@@ -191,8 +212,7 @@ unsafe fn step(length: u32) -> u32 {
     weigh_step(length, TIME)
 }
 
-/// Every time is the least of so many rounds, each of so many calls: other work on the machine can only add.
-const ROUNDS: usize = 20;
+/// Every time is the least of some rounds, each of so many calls.
 const TURNS: usize = 500;
 
 #[no_mangle]
@@ -213,11 +233,19 @@ pub extern "C" fn main(_count: i32, _words: *const *const std::ffi::c_char) -> i
     let times = CALLS.each_ref().map(|weighed| repeated(weighed.call));
     for (weighed, time) in CALLS.iter().zip(times) {
         let own = time - times[weighed.less];
-        let beside = weighed.beside();
+        let beside = weighed.source();
         let (beside, ratio) = (SOURCES[beside].name, own / sources[beside]);
         println!(
             "{}: {time:.0} ns the export, {own:.0} the call, {ratio:.1} times the source's {beside}",
             weighed.name
+        );
+    }
+    for (lent, by_value) in LENT.into_iter().zip(BY_VALUE) {
+        let [walk, check] = [lent, by_value].map(|call| times[call] - times[CALLS[call].less]);
+        println!(
+            "{}: lent {walk:.0} ns, by value {check:.0} ns, ratio {:.2}",
+            CALLS[by_value].name,
+            walk / check
         );
     }
     println!("{wrong} wrong answers");
@@ -227,8 +255,4 @@ pub extern "C" fn main(_count: i32, _words: *const *const std::ffi::c_char) -> i
 /// Nanoseconds of a call.
 fn repeated(call: fn() -> u32) -> f64 {
     least(|| clock::time(&[(); TURNS], |()| call()))
-}
-
-fn least(mut round: impl FnMut() -> f64) -> f64 {
-    (0..ROUNDS).map(|_| round()).fold(f64::INFINITY, f64::min)
 }

@@ -16,6 +16,7 @@ pub use door::{
     arrival::{Arrival, Arrived, Room},
     awaiting::{Acknowledging, Awaiting},
     command::{limits, size, write, Read},
+    overdue::{Carried, Case, Left, Overdue, Sent},
     pack::Packed,
     receive::Received,
     receiver::{Datagram, Receiver, Taken},

@@ -12,6 +12,7 @@ mod dump;
 mod fields;
 mod load;
 mod numbers;
+pub(crate) mod overdue;
 pub(crate) mod pack;
 mod ping;
 pub(crate) mod receive;

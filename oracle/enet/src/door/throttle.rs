@@ -2,7 +2,9 @@
 
 use crate::{enet_peer_throttle, record::Record, Bench};
 
-/// The six numbers of the peer that the throttle reads; it changes the value alone.
+/// The six numbers of the peer that the throttle reads; it changes the value alone. As C lays them out, so that a host can
+/// lend them.
+#[repr(C)]
 #[derive(Clone, Copy, Debug, PartialEq, Eq)]
 pub struct Throttle {
     pub value: u32,
