@@ -8,6 +8,7 @@ use Rattle.sendstep.specs.declared.heads.Queue.{Queue}
 use Rattle.sendstep.specs.declared.heads.Queue.the-variants as queue
 use Rattle.arriving.specs.declared.Arrival.{Arrival}
 use Rattle.outward.specs.declared.calls.Call.the-variants as out
+use Rattle.inward.specs.declared.calls.Call.the-variants as inw
 use Rattle.link.specs.declared.calls.Call.{Call}
 use Rattle.link.specs.declared.calls.Call.the-variants as call
 use Rattle.script.specs.declared.frames.Frame.{Frame}
@@ -47,10 +48,10 @@ abbrev pub inward : Frame → Call
 inward f =
     pick (eqb (f .op) 8) (call.Outward (out.Acknowledgement (f .n0 % 256) (record { 0 = f .n1 % 65536 }) (f .n2 % 65536) (f .n3)))
     (pick (eqb (f .op) 9) (call.Outward (out.TimeoutCheck (f .n0)))
-    (pick (eqb (f .op) 10) (call.UnsequencedArrival (arrivalOf f (f .n4) (f .n5)) (record { 0 = f .n3 % 65536 }))
-    (pick (eqb (f .op) 11) (call.ReliableArrival (arrivalOf f (f .n3) (f .n4)))
-    (pick (eqb (f .op) 12) (call.Dispatch (f .n0 % 256))
-    (pick (eqb (f .op) 13) call.Receive (call.Outward (out.Throttle (f .n0))))))))
+    (pick (eqb (f .op) 10) (call.Inward (inw.UnsequencedArrival (arrivalOf f (f .n4) (f .n5)) (record { 0 = f .n3 % 65536 })))
+    (pick (eqb (f .op) 11) (call.Inward (inw.ReliableArrival (arrivalOf f (f .n3) (f .n4))))
+    (pick (eqb (f .op) 12) (call.Inward (inw.Dispatch (f .n0 % 256)))
+    (pick (eqb (f .op) 13) (call.Inward inw.Receive) (call.Outward (out.Throttle (f .n0))))))))
 
 abbrev pub callOf : Frame → Command → Call
 callOf f command = outward f command (inward f)

@@ -6,7 +6,6 @@ use command::fields::Command;
 use link::calls::Call;
 use numbers::counters::Group;
 use numbers::counters::Reliable;
-use outward::calls;
 use script::frames;
 use script::frames::Frame;
 use sendstep::heads::Queue;
@@ -53,7 +52,7 @@ fn second(f: Frame) -> Call
     match op {
         8 => {
             let number = Reliable(frames::short(f.n1));
-            let call = calls::Call::Acknowledgement {
+            let call = outward::calls::Call::Acknowledgement {
                 channel: frames::byte(f.n0),
                 number,
                 sent: frames::short(f.n2),
@@ -62,24 +61,32 @@ fn second(f: Frame) -> Call
             Call::Outward(call)
         }
         9 => {
-            let call = calls::Call::TimeoutCheck { clock: f.n0 };
+            let call = outward::calls::Call::TimeoutCheck { clock: f.n0 };
             Call::Outward(call)
         }
         10 => {
             let group = Group(frames::short(f.n3));
             let arrival = arrival(f, f.n4, f.n5);
-            Call::UnsequencedArrival { arrival, group }
+            let call = inward::calls::Call::UnsequencedArrival { arrival, group };
+            Call::Inward(call)
         }
         11 => {
             let arrival = arrival(f, f.n3, f.n4);
-            Call::ReliableArrival { arrival }
+            let call = inward::calls::Call::ReliableArrival { arrival };
+            Call::Inward(call)
         }
-        12 => Call::Dispatch {
-            channel: frames::byte(f.n0),
-        },
-        13 => Call::Receive,
+        12 => {
+            let call = inward::calls::Call::Dispatch {
+                channel: frames::byte(f.n0),
+            };
+            Call::Inward(call)
+        }
+        13 => {
+            let call = inward::calls::Call::Receive;
+            Call::Inward(call)
+        }
         _ => {
-            let call = calls::Call::Throttle { sample: f.n0 };
+            let call = outward::calls::Call::Throttle { sample: f.n0 };
             Call::Outward(call)
         }
     }
@@ -98,11 +105,11 @@ pub fn call(f: Frame, command: Command) -> Call
         },
         3 => Call::SetState { state: f.n0 },
         4 => {
-            let call = calls::Call::Ping;
+            let call = outward::calls::Call::Ping;
             Call::Outward(call)
         }
         5 => {
-            let call = calls::Call::Send {
+            let call = outward::calls::Call::Send {
                 channel: frames::byte(f.n0),
                 length: f.n1,
                 flags: f.n2,
@@ -111,12 +118,12 @@ pub fn call(f: Frame, command: Command) -> Call
         }
         6 => {
             let piece = piece(f, command);
-            let call = calls::Call::Setup { piece };
+            let call = outward::calls::Call::Setup { piece };
             Call::Outward(call)
         }
         7 => {
             let queue = queue(f.n0);
-            let call = calls::Call::SendStep { queue, time: f.n1 };
+            let call = outward::calls::Call::SendStep { queue, time: f.n1 };
             Call::Outward(call)
         }
         _ => second(f),

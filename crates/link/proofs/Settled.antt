@@ -8,8 +8,7 @@ use Rattle.peer.specs.Outcome.{State, Came}
 use Rattle.peer.specs.declared.settings.Settings.{Settings}
 use Rattle.peer.proofs.Settled as calls
 use Rattle.outward.proofs.Settled as outward
-use Rattle.arriving.proofs.Settled as arriving
-use Rattle.receive.proofs.Settled as receiving
+use Rattle.inward.proofs.Settled as inward
 use Rattle.link.specs.Steps.{answerOf, step, kindIn, NamedIn, Own}
 use Rattle.link.specs.declared.calls.Call.{Call}
 use Rattle.link.specs.declared.calls.Reply.{Reply}
@@ -18,21 +17,14 @@ use Rattle.link.specs.declared.Linked.{Linked}
 
 pub replies-apart : (a b : Reply) → kindIn a ≡ kindIn b → NamedIn a → NamedIn b → answerOf a ≡ answerOf b → a ≡ b
 replies-apart (vr.Called r) (vr.Called q) k m n e = ap vr.Called (calls.replies-apart r q e)
-replies-apart (vr.Called r) (vr.Outward q) k m n e = absurd (omega arith)
-replies-apart (vr.Called r) (vr.Arrived q) k m n e = absurd (omega arith)
-replies-apart (vr.Called r) (vr.Received q) k m n e = absurd (omega arith)
-replies-apart (vr.Outward r) (vr.Called q) k m n e = absurd (omega arith)
+replies-apart (vr.Called r) (vr.Outward q) k m n e = absurd (omega (arith, k))
+replies-apart (vr.Called r) (vr.Inward q) k m n e = absurd (omega (arith, k))
+replies-apart (vr.Outward r) (vr.Called q) k m n e = absurd (omega (arith, k))
 replies-apart (vr.Outward r) (vr.Outward q) k m n e = ap vr.Outward (outward.replies-apart r q (omega (arith, k)) m n e)
-replies-apart (vr.Outward r) (vr.Arrived q) k m n e = absurd (omega arith)
-replies-apart (vr.Outward r) (vr.Received q) k m n e = absurd (omega arith)
-replies-apart (vr.Arrived r) (vr.Called q) k m n e = absurd (omega arith)
-replies-apart (vr.Arrived r) (vr.Outward q) k m n e = absurd (omega arith)
-replies-apart (vr.Arrived r) (vr.Arrived q) k m n e = ap vr.Arrived (arriving.replies-apart r q e)
-replies-apart (vr.Arrived r) (vr.Received q) k m n e = absurd (omega arith)
-replies-apart (vr.Received r) (vr.Called q) k m n e = absurd (omega arith)
-replies-apart (vr.Received r) (vr.Outward q) k m n e = absurd (omega arith)
-replies-apart (vr.Received r) (vr.Arrived q) k m n e = absurd (omega arith)
-replies-apart (vr.Received r) (vr.Received q) k m n e = ap vr.Received (receiving.replies-apart r q e)
+replies-apart (vr.Outward r) (vr.Inward q) k m n e = absurd (omega (arith, k))
+replies-apart (vr.Inward r) (vr.Called q) k m n e = absurd (omega (arith, k))
+replies-apart (vr.Inward r) (vr.Outward q) k m n e = absurd (omega (arith, k))
+replies-apart (vr.Inward r) (vr.Inward q) k m n e = ap vr.Inward (inward.replies-apart r q (omega (arith, k)) e)
 
 module _ (s : Settings) (k : Call) (datagram : List ℕ) (x : State) (a b : Linked) (t u : List ℕ)
     (c : Came answerOf (step s k datagram x) (a .reply) (record { peer = a .peer; store = t })) (m : Own k (a .reply))

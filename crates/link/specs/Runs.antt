@@ -11,6 +11,7 @@ use Rattle.peer.specs.Outcome.{State, Outcome}
 use Rattle.peer.specs.Fresh.{freshPeer}
 use Rattle.peer.specs.declared.settings.Settings.{Settings}
 use Rattle.peer.specs.declared.defaults.Kept.{Kept}
+use Rattle.inward.specs.declared.calls.Call.the-variants as inw
 use Rattle.link.specs.Steps.{step}
 use Rattle.link.specs.declared.calls.Call.{Call}
 use Rattle.link.specs.declared.calls.Call.the-variants as call
@@ -39,14 +40,14 @@ handed a store =
     pick (saysOne a) (record { channel = getD v 1 0; bytes = take (getD v 3 0) (drop (getD v 2 0 * cell) store) } ∷ []) []
 
 abbrev pub packetsOf : Call → Answer → List ℕ → List Packet
-packetsOf call.Receive a store = handed a store
+packetsOf (call.Inward inw.Receive) a store = handed a store
+packetsOf (call.Inward (inw.UnsequencedArrival arrival group)) a store = []
+packetsOf (call.Inward (inw.ReliableArrival arrival)) a store = []
+packetsOf (call.Inward (inw.Dispatch channel)) a store = []
+packetsOf (call.Outward c) a store = []
 packetsOf call.Reset a store = []
 packetsOf (call.Begin mtu channels) a store = []
 packetsOf (call.SetState state) a store = []
-packetsOf (call.Outward c) a store = []
-packetsOf (call.UnsequencedArrival arrival group) a store = []
-packetsOf (call.ReliableArrival arrival) a store = []
-packetsOf (call.Dispatch channel) a store = []
 
 -- what a run of calls answers, the packets that come out, and the end
 pub record Ran : Type 0 where

@@ -3,9 +3,11 @@ pub mod calls;
 
 ghost use mathlib.Core.Path.{_≡_};
 ghost use Rattle.peer.specs.Outcome.{Came};
+ghost use Rattle.outward.specs.declared.calls.Reply.the-variants as vr;
 ghost use Rattle.outward.specs.Steps.{answerOf, goes, Own};
 use calls::Call;
 use calls::Reply;
+use peer::calls::Called;
 use peer::record::Peer;
 use peer::settings::Settings;
 
@@ -15,6 +17,17 @@ pub struct Went {
     pub reply: Reply,
 }
 
+fn plain(called: Called) -> Went
+    ensures { λ r. ⌜ r ≡ record { peer = called .peer; reply = vr.Called (called .reply) } ⌝ }
+{
+    let reply = called.reply;
+    let after = called.peer;
+    Went {
+        peer: after,
+        reply: Reply::Called(reply),
+    }
+}
+
 pub fn call(peer: Peer, settings: Settings, call: Call) -> Went
     ensures came { λ r. ⌜ Came answerOf (goes settings call peer) (r .reply) (r .peer) ⌝ }
     ensures own { λ r. ⌜ Own call (r .reply) ⌝ }
@@ -22,12 +35,7 @@ pub fn call(peer: Peer, settings: Settings, call: Call) -> Went
     match call {
         Call::Ping => {
             let called = ping::ping(peer, settings);
-            let reply = called.reply;
-            let after = called.peer;
-            Went {
-                peer: after,
-                reply: Reply::Called(reply),
-            }
+            return plain(called);
         }
         Call::Send {
             channel,
@@ -35,30 +43,20 @@ pub fn call(peer: Peer, settings: Settings, call: Call) -> Went
             flags,
         } => {
             let called = sending::calls::send(peer, settings, channel, length, flags);
-            let reply = called.reply;
-            let after = called.peer;
-            Went {
-                peer: after,
-                reply: Reply::Called(reply),
-            }
+            return plain(called);
         }
         Call::Setup { piece } => {
             let called = setup::calls::setup(peer, settings, piece);
-            let reply = called.reply;
-            let after = called.peer;
-            Went {
-                peer: after,
-                reply: Reply::Called(reply),
-            }
+            return plain(called);
         }
         Call::SendStep { queue, time } => {
             let stepped = sendstep::calls::step(peer, settings, queue, time);
             let reply = stepped.reply;
             let after = stepped.peer;
-            Went {
+            return Went {
                 peer: after,
                 reply: Reply::Stepped(reply),
-            }
+            };
         }
         Call::Acknowledgement {
             channel,
@@ -69,28 +67,28 @@ pub fn call(peer: Peer, settings: Settings, call: Call) -> Went
             let heard = acknowledge::acknowledge(peer, settings, channel, number, sent, clock);
             let reply = heard.reply;
             let after = heard.peer;
-            Went {
+            return Went {
                 peer: after,
                 reply: Reply::Acknowledged(reply),
-            }
+            };
         }
         Call::TimeoutCheck { clock } => {
             let checked = timeouts::check(peer, settings, clock);
             let reply = checked.reply;
             let after = checked.peer;
-            Went {
+            return Went {
                 peer: after,
                 reply: Reply::Checked(reply),
-            }
+            };
         }
         Call::Throttle { sample } => {
             let throttled = throttling::throttle(peer, settings, sample);
             let reply = throttled.reply;
             let after = throttled.peer;
-            Went {
+            return Went {
                 peer: after,
                 reply: Reply::Throttled(reply),
-            }
+            };
         }
     }
 }

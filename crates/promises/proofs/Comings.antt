@@ -18,8 +18,10 @@ use Rattle.peer.specs.declared.settings.Settings.{Settings}
 use Rattle.peer.specs.declared.defaults.Kept.{Kept}
 use Rattle.opening.specs.Calls.{kept, begins, setsState}
 use Rattle.outward.specs.Steps.{goes}
-use Rattle.link.specs.Steps.{step, beside}
+use Rattle.inward.specs.Steps.{beside}
+use Rattle.link.specs.Steps.{step}
 use Rattle.link.specs.Runs.{Asked, comesTo, Packet, packetsOf, run, resetState}
+use Rattle.inward.specs.declared.calls.Call.the-variants as inw
 use Rattle.link.specs.declared.calls.Call.{Call}
 use Rattle.link.specs.declared.calls.Call.the-variants as call
 use Rattle.promises.specs.Packets.{ready, putIn, Ledger, freshLedger, newly, isReset, writes, ledger, count, InAndOut, ComesOut}
@@ -64,10 +66,10 @@ call-holds call.Reset s datagram x l w h = reset-holds s datagram x l h
 call-holds (call.Begin mtu channels) s datagram x l w h = passed l h (still-passes x (begins s mtu channels (x .peer) .after) (begin-still s mtu channels (x .peer)))
 call-holds (call.SetState state) s datagram x l w h = passed l h (still-passes x (setsState s state (x .peer) .after) (state-still s state (x .peer)))
 call-holds (call.Outward c) s datagram x l w h = passed l h (still-passes x (goes s c (x .peer) .after) (outward-still s c (x .peer)))
-call-holds (call.UnsequencedArrival a group) s datagram x l w h = passed l h (unsequenced-passes s a group datagram x w)
-call-holds (call.ReliableArrival a) s datagram x l w h = passed l h (reliable-passes s a datagram x w)
-call-holds (call.Dispatch channel) s datagram x l w h = passed l h (dispatch-passes s channel x w)
-call-holds call.Receive s datagram x l w h = passed l h (receive-passes s x)
+call-holds (call.Inward (inw.UnsequencedArrival a group)) s datagram x l w h = passed l h (unsequenced-passes s a group datagram x w)
+call-holds (call.Inward (inw.ReliableArrival a)) s datagram x l w h = passed l h (reliable-passes s a datagram x w)
+call-holds (call.Inward (inw.Dispatch channel)) s datagram x l w h = passed l h (dispatch-passes s channel x w)
+call-holds (call.Inward inw.Receive) s datagram x l w h = passed l h (receive-passes s x)
 
 run-holds : (calls : List Asked) (x : State) (l : Ledger) → Whole (x .peer) → InAndOut l x → InAndOut (ledger calls x l) (run calls x .end)
 unfolding run ledger

@@ -18,6 +18,7 @@ use Rattle.peer.specs.Outcome.{State}
 use Rattle.peer.specs.declared.settings.Settings.{Settings}
 use Rattle.peer.specs.declared.defaults.Kept.{Kept}
 use Rattle.link.specs.Runs.{Asked, Packet, run, resetState}
+use Rattle.inward.specs.declared.calls.Call.the-variants as inw
 use Rattle.link.specs.declared.calls.Call.{Call}
 use Rattle.link.specs.declared.calls.Call.the-variants as call
 use Rattle.promises.specs.History.{Event, moved, delivered, since, history, AllInRange}
@@ -66,7 +67,7 @@ delivered-twice = refl
 abbrev lines : List Line
 lines =
     own (asks (call.Begin 1392 1)) ∷ own (asks (call.SetState 5)) ∷ own (of 5) ∷ again (packet 5) ∷ own (of 31744) ∷ again (packet 5)
-    ∷ again (packet 5) ∷ own (asks call.Receive) ∷ own (of 32768) ∷ again (packet 5) ∷ own (asks call.Receive) ∷ []
+    ∷ again (packet 5) ∷ own (asks (call.Inward inw.Receive)) ∷ own (of 32768) ∷ again (packet 5) ∷ own (asks (call.Inward inw.Receive)) ∷ []
 
 pub inserted : Repeats lines start []
 unfolding since withBit marked marking firstFrom exist once noLists noChannel noOutgoing noIncoming all held heldFit ownSlots lengths freshPeer sound

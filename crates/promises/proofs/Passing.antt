@@ -43,7 +43,7 @@ use Rattle.arrived.proofs.Stores.{unsequenced-stores, unsequenced-adds, reliabl
 use Rattle.arrived.proofs.Unsequenced.{unsequenced-has, stored-free, more-by as delivered-by}
 use Rattle.arrived.proofs.Reliable.{reliable-has, held-free, between, between-whole, between-sound, left-dispatched, more-by as held-by}
 use Rattle.receive.specs.Calls.{withoutFirst, taken, receivesFrom, receivesSound, receives}
-use Rattle.link.specs.Steps.{beside}
+use Rattle.inward.specs.Steps.{beside}
 use Rattle.link.specs.Runs.{saysOne, handed}
 use Rattle.promises.specs.Packets.{payload}
 use Rattle.promises.proofs.Answers.{refused-one}

@@ -65,10 +65,12 @@ use Rattle.throttle.specs.declared.Throttle.{Throttle}
 use Rattle.averages.specs.Interval.{throttleOf}
 use Rattle.throttling.specs.Calls as throttling
 use Rattle.throttling.specs.declared.Reply.the-variants as turn
-use Rattle.link.specs.Steps.{beside, step}
+use Rattle.inward.specs.Steps.{beside}
+use Rattle.link.specs.Steps.{step}
 use Rattle.promises.specs.Refusals.{may}
 use Rattle.promises.proofs.Picks.{picked}
 use Rattle.outward.specs.declared.calls.Call.the-variants as out
+use Rattle.inward.specs.declared.calls.Call.the-variants as inw
 use Rattle.link.specs.declared.calls.Call.{Call}
 use Rattle.link.specs.declared.calls.Call.the-variants as call
 
@@ -222,16 +224,16 @@ module _ (s : Settings) (p : Peer) where
       by-walk true = refl
       by-walk false = refl
 
-  dispatch-fair : (channel : ℕ) → Fair (call.Dispatch channel) (sound p) p (dispatches s channel p)
+  dispatch-fair : (channel : ℕ) → Fair (call.Inward (inw.Dispatch channel)) (sound p) p (dispatches s channel p)
   dispatch-fair channel =
-      let k = call.Dispatch channel in
+      let k = call.Inward (inw.Dispatch channel) in
       gated-fair k p s Nothing p _ refl refl
       (behind-fair k p _ (dispatchGate channel (p .standing)) (picked (Fits k) (ltb channel (p .standing .count)) _ _ tt refl) (done k p _ refl))
 
-  receive-fair : Fair call.Receive (sound p) p (receiving.receives s p)
-  receive-fair = gated-fair call.Receive p s Nothing p _ refl refl (by-first (first (inItems (p .lists .dispatched))))
+  receive-fair : Fair (call.Inward inw.Receive) (sound p) p (receiving.receives s p)
+  receive-fair = gated-fair (call.Inward inw.Receive) p s Nothing p _ refl refl (by-first (first (inItems (p .lists .dispatched))))
     where
-      by-first : (f : First) → Fair call.Receive (sound p) p (receiving.receivesFrom f p)
+      by-first : (f : First) → Fair (call.Inward inw.Receive) (sound p) p (receiving.receivesFrom f p)
       by-first Empty = done _ p _ refl
       by-first (Slot n) = done _ p _ refl
 
@@ -269,13 +271,13 @@ module _ (s : Settings) (a : Arrival) (datagram : List ℕ) (x : State) where
       go true false d = six
       go false c d = nine
 
-  unsequenced-fair : (group : Group) → Fair (call.UnsequencedArrival a group) (sound p) x (arrivesUnsequenced s a group datagram x)
+  unsequenced-fair : (group : Group) → Fair (call.Inward (inw.UnsequencedArrival a group)) (sound p) x (arrivesUnsequenced s a group datagram x)
   unsequenced-fair group =
       gated-fair k x s (Store (length (x .store))) p _ refl refl
       (behind-fair k x _ (arrivalGate sendUnsequenced a s (p .standing) (length datagram)) (arrival-fits k sendUnsequenced refl refl refl) (by-fate (judgedOn s group p .fate)))
     where
       k : Call
-      k = call.UnsequencedArrival a group
+      k = call.Inward (inw.UnsequencedArrival a group)
 
       by-fate : (f : Fate)
           → Fair k (sound p) x (record { answer = answerOf (replyOf f); after = unsequencedAfter f (judgedOn s group p .groups) a datagram x })
@@ -283,13 +285,13 @@ module _ (s : Settings) (a : Arrival) (datagram : List ℕ) (x : State) where
       by-fate fate.NoRoom = late k x NotStored _ refl (λ e t. e refl)
       by-fate (fate.Stored n) = done k x _ refl
 
-  reliable-fair : Fair (call.ReliableArrival a) (sound p) x (arrivesReliable s a datagram x)
+  reliable-fair : Fair (call.Inward (inw.ReliableArrival a)) (sound p) x (arrivesReliable s a datagram x)
   reliable-fair =
       gated-fair k x s (Store (length (x .store))) p _ refl refl
       (behind-fair k x _ (arrivalGate sendReliable a s (p .standing) (length datagram)) (arrival-fits k sendReliable refl refl refl) (by-fate (fateOn s a p)))
     where
       k : Call
-      k = call.ReliableArrival a
+      k = call.Inward (inw.ReliableArrival a)
 
       by-fate : (f : Fate) → Fair k (sound p) x (record { answer = answerOf (replyOf f); after = reliableAfter f a datagram x })
       by-fate fate.Passed = done k x _ refl
@@ -309,10 +311,10 @@ step-is-fair s (call.Outward (out.Acknowledgement channel number sent clock)) da
     beside-fair _ x _ (acknowledgement-fair s (x .peer) channel number sent clock)
 step-is-fair s (call.Outward (out.TimeoutCheck clock)) datagram x = beside-fair _ x _ (check-fair s (x .peer) clock)
 step-is-fair s (call.Outward (out.Throttle sample)) datagram x = beside-fair _ x _ (throttle-fair s (x .peer) sample)
-step-is-fair s (call.UnsequencedArrival a group) datagram x = unsequenced-fair s a datagram x group
-step-is-fair s (call.ReliableArrival a) datagram x = reliable-fair s a datagram x
-step-is-fair s (call.Dispatch channel) datagram x = beside-fair _ x _ (dispatch-fair s (x .peer) channel)
-step-is-fair s call.Receive datagram x = beside-fair _ x _ (receive-fair s (x .peer))
+step-is-fair s (call.Inward (inw.UnsequencedArrival a group)) datagram x = unsequenced-fair s a datagram x group
+step-is-fair s (call.Inward (inw.ReliableArrival a)) datagram x = reliable-fair s a datagram x
+step-is-fair s (call.Inward (inw.Dispatch channel)) datagram x = beside-fair _ x _ (dispatch-fair s (x .peer) channel)
+step-is-fair s (call.Inward inw.Receive) datagram x = beside-fair _ x _ (receive-fair s (x .peer))
 
 module _ (s : Settings) (k : Call) (datagram : List ℕ) (x : State) where
   -- the number that the step answers

@@ -79,6 +79,7 @@ use Rattle.outward.specs.declared.calls.Call.{Call as Outward}
 use Rattle.outward.specs.declared.calls.Call.the-variants as out
 use Rattle.link.specs.Steps.{step}
 use Rattle.link.specs.Runs.{Asked, comesTo, resetState}
+use Rattle.inward.specs.declared.calls.Call.the-variants as inw
 use Rattle.link.specs.declared.calls.Call.{Call}
 use Rattle.link.specs.declared.calls.Call.the-variants as call
 use Rattle.promises.specs.Reports.{isAnew, isOn, numbersJoined, reported, reports, series, CountsOnce}
@@ -422,10 +423,10 @@ module _ (channel : ℕ) where
   call-counted (call.SetState state) s datagram x log w c =
       still-counted (x .peer) (setsState s state (x .peer) .after) log (state-still s state (x .peer)) c
   call-counted (call.Outward a) s datagram x log w c = still-counted (x .peer) (goes s a (x .peer) .after) log (outward-still s a (x .peer)) c
-  call-counted (call.UnsequencedArrival a group) s datagram x log w c = unsequenced-counted s a datagram x log w c group
-  call-counted (call.ReliableArrival a) s datagram x log w c = reliable-counted s a datagram x log w c
-  call-counted (call.Dispatch on) s datagram x log w c = dispatch-counted s on (x .peer) log w c
-  call-counted call.Receive s datagram x log w c =
+  call-counted (call.Inward (inw.UnsequencedArrival a group)) s datagram x log w c = unsequenced-counted s a datagram x log w c group
+  call-counted (call.Inward (inw.ReliableArrival a)) s datagram x log w c = reliable-counted s a datagram x log w c
+  call-counted (call.Inward (inw.Dispatch on)) s datagram x log w c = dispatch-counted s on (x .peer) log w c
+  call-counted (call.Inward inw.Receive) s datagram x log w c =
       still-counted (x .peer) (receives s (x .peer) .after) log (receive-still s (x .peer)) c
 
   run-rises : (calls : List Asked) (x : State) (log : List ℕ) → Whole (x .peer) → Counted (x .peer) log → Rises 0 (reports channel calls x log)

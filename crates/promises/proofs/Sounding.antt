@@ -26,6 +26,7 @@ use Rattle.dispatch.proofs.Sound.{dispatch-sounds}
 use Rattle.receive.proofs.Sound.{receive-sounds}
 use Rattle.link.specs.Steps.{step}
 use Rattle.link.specs.Runs.{Asked, comesTo, run, resetState}
+use Rattle.inward.specs.declared.calls.Call.the-variants as inw
 use Rattle.link.specs.declared.calls.Call.{Call}
 use Rattle.link.specs.declared.calls.Call.the-variants as call
 use Rattle.promises.proofs.Refusals.{sound-undamaged}
@@ -41,10 +42,10 @@ call-sounds s call.Reset datagram store = reset-sounds s
 call-sounds s (call.Begin mtu channels) datagram store = begin-sounds s mtu channels
 call-sounds s (call.SetState state) datagram store = state-sounds s state
 call-sounds s (call.Outward c) datagram store = outward-sounds s c
-call-sounds s (call.UnsequencedArrival a group) datagram store = unsequenced-sounds s a group datagram store
-call-sounds s (call.ReliableArrival a) datagram store = reliable-sounds s a datagram store
-call-sounds s (call.Dispatch channel) datagram store = dispatch-sounds s channel
-call-sounds s call.Receive datagram store = receive-sounds s
+call-sounds s (call.Inward (inw.UnsequencedArrival a group)) datagram store = unsequenced-sounds s a group datagram store
+call-sounds s (call.Inward (inw.ReliableArrival a)) datagram store = reliable-sounds s a datagram store
+call-sounds s (call.Inward (inw.Dispatch channel)) datagram store = dispatch-sounds s channel
+call-sounds s (call.Inward inw.Receive) datagram store = receive-sounds s
 
 -- sound and whole, along a run
 pub record Standing (x : State) : Type 0 where

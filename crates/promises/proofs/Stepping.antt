@@ -18,8 +18,10 @@ use Rattle.arriving.specs.declared.Arrival.{Arrival}
 use Rattle.unsequenced.specs.Calls.{arrivesUnsequenced}
 use Rattle.steady.specs.Steady.{SameWindow}
 use Rattle.steady.proofs.Steady.{begin-steady, state-steady, dispatch-steady, receive-window, reliable-window}
-use Rattle.link.specs.Steps.{step, beside}
+use Rattle.inward.specs.Steps.{beside}
+use Rattle.link.specs.Steps.{step}
 use Rattle.link.specs.Runs.{Asked, comesTo, run, resetState}
+use Rattle.inward.specs.declared.calls.Call.the-variants as inw
 use Rattle.link.specs.declared.calls.Call.{Call}
 use Rattle.link.specs.declared.calls.Call.the-variants as call
 use Rattle.promises.specs.History.{Event, Concern, resetting, arriving, neither, concern, InRange, AllInRange, baseOf, logs, logged, history}
@@ -62,12 +64,12 @@ call-does call.Reset s datagram x log i = reset-does s x log
 call-does (call.Begin mtu channels) s datagram x log i = same-does x (step s (call.Begin mtu channels) datagram x) log (begin-steady s mtu channels (x .peer) .window)
 call-does (call.SetState state) s datagram x log i = same-does x (step s (call.SetState state) datagram x) log (state-steady s state (x .peer) .window)
 call-does (call.Outward c) s datagram x log i = same-does x (step s (call.Outward c) datagram x) log (outward-steady s c (x .peer) .window)
-call-does (call.UnsequencedArrival a group) s datagram x log i = arrival-does s a group datagram x log i
-call-does (call.ReliableArrival a) s datagram x log i =
-    same-does x (step s (call.ReliableArrival a) datagram x) log (reliable-window s a datagram x)
-call-does (call.Dispatch channel) s datagram x log i =
-    same-does x (step s (call.Dispatch channel) datagram x) log (dispatch-steady s channel (x .peer) .window)
-call-does call.Receive s datagram x log i = same-does x (step s call.Receive datagram x) log (receive-window s (x .peer))
+call-does (call.Inward (inw.UnsequencedArrival a group)) s datagram x log i = arrival-does s a group datagram x log i
+call-does (call.Inward (inw.ReliableArrival a)) s datagram x log i =
+    same-does x (step s (call.Inward (inw.ReliableArrival a)) datagram x) log (reliable-window s a datagram x)
+call-does (call.Inward (inw.Dispatch channel)) s datagram x log i =
+    same-does x (step s (call.Inward (inw.Dispatch channel)) datagram x) log (dispatch-steady s channel (x .peer) .window)
+call-does (call.Inward inw.Receive) s datagram x log i = same-does x (step s (call.Inward inw.Receive) datagram x) log (receive-window s (x .peer))
 
 pub step-holds : (a : Asked) (x : State) (log : List Event) → InRange (concern (a .call)) → Holds (windowOf x) log
     → Holds (windowOf (comesTo a x .after)) (logged a x log)

@@ -28,8 +28,10 @@ use Rattle.receive.specs.Calls.{receives}
 use Rattle.steady.specs.Steady.{Lowers, stays, lowers}
 use Rattle.steady.proofs.Steady.{begin-steady, state-steady, dispatch-steady, receive-lowers}
 use Rattle.outward.specs.Steps.{goes}
-use Rattle.link.specs.Steps.{step, beside}
+use Rattle.inward.specs.Steps.{beside}
+use Rattle.link.specs.Steps.{step}
 use Rattle.link.specs.Runs.{Asked, comesTo, saysOne, run, resetState}
+use Rattle.inward.specs.declared.calls.Call.the-variants as inw
 use Rattle.link.specs.declared.calls.Call.{Call}
 use Rattle.link.specs.declared.calls.Call.the-variants as call
 use Rattle.promises.specs.Standing.{Tally, freshTally, stores, counts, tallied, Waits}
@@ -61,11 +63,11 @@ arrival-holds a datagram x o t (takes k is) says h = rw (one-stored (o .answer) 
 
 -- a receive: a packet, or nothing
 receive-holds : (s : Settings) (x : State) (t : Tally) → Holds (x .peer) t
-    → let o = beside x (receives s (x .peer)) in Holds (o .after .peer) (counts call.Receive (o .answer) t)
+    → let o = beside x (receives s (x .peer)) in Holds (o .after .peer) (counts (call.Inward inw.Receive) (o .answer) t)
 receive-holds s x t h = go (receive-lowers s (x .peer))
   where
     go : Lowers (x .peer) (receives s (x .peer))
-        → let o = beside x (receives s (x .peer)) in Holds (o .after .peer) (counts call.Receive (o .answer) t)
+        → let o = beside x (receives s (x .peer)) in Holds (o .after .peer) (counts (call.Inward inw.Receive) (o .answer) t)
     go (stays e not) =
         rw (receive-none s (x .peer) not) (same-holds (x .peer) (receives s (x .peer) .after) t e h)
     go (lowers channel cell long is e) =
@@ -79,12 +81,12 @@ call-holds call.Reset s datagram x t w h = reset-holds s x t h
 call-holds (call.Begin mtu channels) s datagram x t w h = same-holds (x .peer) (begins s mtu channels (x .peer) .after) t (begin-steady s mtu channels (x .peer) .total) h
 call-holds (call.SetState state) s datagram x t w h = same-holds (x .peer) (setsState s state (x .peer) .after) t (state-steady s state (x .peer) .total) h
 call-holds (call.Outward c) s datagram x t w h = same-holds (x .peer) (goes s c (x .peer) .after) t (outward-steady s c (x .peer) .total) h
-call-holds (call.UnsequencedArrival a group) s datagram x t w h =
+call-holds (call.Inward (inw.UnsequencedArrival a group)) s datagram x t w h =
     arrival-holds a datagram x (arrivesUnsequenced s a group datagram x) t (unsequenced-stores s a group datagram x w) (unsequenced-says s a datagram x group) h
-call-holds (call.ReliableArrival a) s datagram x t w h =
+call-holds (call.Inward (inw.ReliableArrival a)) s datagram x t w h =
     arrival-holds a datagram x (arrivesReliable s a datagram x) t (reliable-stores s a datagram x w) (reliable-says s a datagram x) h
-call-holds (call.Dispatch channel) s datagram x t w h = same-holds (x .peer) (dispatches s channel (x .peer) .after) t (dispatch-steady s channel (x .peer) .total) h
-call-holds call.Receive s datagram x t w h = receive-holds s x t h
+call-holds (call.Inward (inw.Dispatch channel)) s datagram x t w h = same-holds (x .peer) (dispatches s channel (x .peer) .after) t (dispatch-steady s channel (x .peer) .total) h
+call-holds (call.Inward inw.Receive) s datagram x t w h = receive-holds s x t h
 
 run-holds : (calls : List Asked) (x : State) (t : Tally) → Whole (x .peer) → Holds (x .peer) t
     → Holds (run calls x .end .peer) (tallied calls x t)

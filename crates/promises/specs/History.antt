@@ -7,6 +7,7 @@ use Rattle.numbers.specs.Answers.{Answer}
 use Rattle.window.specs.Window.{windowsMoved}
 use Rattle.peer.specs.Outcome.{State}
 use Rattle.link.specs.Runs.{Asked, comesTo, saysOne}
+use Rattle.inward.specs.declared.calls.Call.the-variants as inw
 use Rattle.link.specs.declared.calls.Call.{Call}
 use Rattle.link.specs.declared.calls.Call.the-variants as call
 
@@ -41,10 +42,10 @@ concern call.Reset = resetting
 concern (call.Begin mtu channels) = neither
 concern (call.SetState state) = neither
 concern (call.Outward c) = neither
-concern (call.UnsequencedArrival a group) = arriving (group .0)
-concern (call.ReliableArrival a) = neither
-concern (call.Dispatch channel) = neither
-concern call.Receive = neither
+concern (call.Inward (inw.UnsequencedArrival a group)) = arriving (group .0)
+concern (call.Inward (inw.ReliableArrival a)) = neither
+concern (call.Inward (inw.Dispatch channel)) = neither
+concern (call.Inward inw.Receive) = neither
 
 -- a group is a number of 16 bits, as its type in the program says; here a number may be any
 abbrev pub InRange : Concern → Type 0

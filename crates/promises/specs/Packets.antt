@@ -16,6 +16,7 @@ use Rattle.peer.specs.Outcome.{State, Outcome}
 use Rattle.peer.specs.declared.defaults.Kept.{Kept}
 use Rattle.arriving.specs.declared.Arrival.{Arrival}
 use Rattle.link.specs.Runs.{Asked, comesTo, saysOne, Packet, packetsOf, run, resetState}
+use Rattle.inward.specs.declared.calls.Call.the-variants as inw
 use Rattle.link.specs.declared.calls.Call.{Call}
 use Rattle.link.specs.declared.calls.Call.the-variants as call
 
@@ -38,14 +39,14 @@ payload a datagram = record { channel = a .channel; bytes = take (a .length) (dr
 
 -- what a call that answers so puts in: an arrival that was stored its payload, any other nothing
 abbrev pub putIn : Call → Answer → List ℕ → List Packet
-putIn (call.UnsequencedArrival a group) w datagram = pick (saysOne w) (payload a datagram ∷ []) []
-putIn (call.ReliableArrival a) w datagram = pick (saysOne w) (payload a datagram ∷ []) []
+putIn (call.Inward (inw.UnsequencedArrival a group)) w datagram = pick (saysOne w) (payload a datagram ∷ []) []
+putIn (call.Inward (inw.ReliableArrival a)) w datagram = pick (saysOne w) (payload a datagram ∷ []) []
 putIn call.Reset w datagram = []
 putIn (call.Begin mtu channels) w datagram = []
 putIn (call.SetState state) w datagram = []
 putIn (call.Outward c) w datagram = []
-putIn (call.Dispatch channel) w datagram = []
-putIn call.Receive w datagram = []
+putIn (call.Inward (inw.Dispatch channel)) w datagram = []
+putIn (call.Inward inw.Receive) w datagram = []
 
 -- since the latest reset, each in its order: the payloads stored, the packets that joined dispatched, the packets received
 pub record Ledger : Type 0 where
@@ -74,10 +75,7 @@ isReset call.Reset w = eqb (w .number) 0
 isReset (call.Begin mtu channels) w = false
 isReset (call.SetState state) w = false
 isReset (call.Outward c) w = false
-isReset (call.UnsequencedArrival a group) w = false
-isReset (call.ReliableArrival a) w = false
-isReset (call.Dispatch channel) w = false
-isReset call.Receive w = false
+isReset (call.Inward c) w = false
 
 abbrev pub writes : Asked → State → Ledger → Ledger
 writes a x l = let o = comesTo a x in pick (isReset (a .call) (o .answer)) freshLedger (entered a x o l)

@@ -5,6 +5,7 @@ use mathlib.Core.Bool.{Bool}
 use mathlib.Core.List.{List, [], _∷_}
 use Rattle.runs.specs.Runs.{has}
 use Rattle.outward.specs.declared.calls.Call.the-variants as out
+use Rattle.inward.specs.declared.calls.Call.the-variants as inw
 use Rattle.link.specs.declared.calls.Call.{Call}
 use Rattle.link.specs.declared.calls.Call.the-variants as call
 
@@ -19,10 +20,10 @@ refusalsOf (call.Outward (out.SendStep queue time)) = 11 ∷ 13 ∷ []
 refusalsOf (call.Outward (out.Acknowledgement channel number sent clock)) = 10 ∷ 11 ∷ 13 ∷ []
 refusalsOf (call.Outward (out.TimeoutCheck clock)) = 11 ∷ 13 ∷ []
 refusalsOf (call.Outward (out.Throttle sample)) = 11 ∷ 13 ∷ []
-refusalsOf (call.UnsequencedArrival arrival group) = 6 ∷ 7 ∷ 8 ∷ 9 ∷ 11 ∷ 13 ∷ []
-refusalsOf (call.ReliableArrival arrival) = 6 ∷ 7 ∷ 8 ∷ 9 ∷ 11 ∷ 13 ∷ []
-refusalsOf (call.Dispatch channel) = 2 ∷ 11 ∷ 13 ∷ []
-refusalsOf call.Receive = 11 ∷ 13 ∷ []
+refusalsOf (call.Inward (inw.UnsequencedArrival arrival group)) = 6 ∷ 7 ∷ 8 ∷ 9 ∷ 11 ∷ 13 ∷ []
+refusalsOf (call.Inward (inw.ReliableArrival arrival)) = 6 ∷ 7 ∷ 8 ∷ 9 ∷ 11 ∷ 13 ∷ []
+refusalsOf (call.Inward (inw.Dispatch channel)) = 2 ∷ 11 ∷ 13 ∷ []
+refusalsOf (call.Inward inw.Receive) = 11 ∷ 13 ∷ []
 
 abbrev pub may : Call → ℕ → Bool
 may k number = has (refusalsOf k) number

@@ -10,6 +10,7 @@ use Rattle.peer.specs.declared.settings.Settings.{Settings}
 use Rattle.peer.specs.declared.defaults.Kept.{Kept}
 use Rattle.arriving.specs.declared.Arrival.{Arrival}
 use Rattle.link.specs.Runs.{Asked, comesTo, saysOne, packetsOf, Ran, ended, before, run, resetState}
+use Rattle.inward.specs.declared.calls.Call.the-variants as inw
 use Rattle.link.specs.declared.calls.Call.the-variants as call
 use Rattle.promises.specs.History.{Event, Since, never, windows, since, AllInRange, movedBy, logged, history}
 
@@ -21,7 +22,7 @@ pub record Insertion : Type 0 where
   pub datagram : List ℕ
 
 abbrev pub arrives : Insertion → Asked
-arrives k = record { settings = k .settings; call = call.UnsequencedArrival (k .arrival) (k .group); datagram = k .datagram }
+arrives k = record { settings = k .settings; call = call.Inward (inw.UnsequencedArrival (k .arrival) (k .group)); datagram = k .datagram }
 
 -- a line of a run with insertions: a call of the original run, or an arrival that was inserted
 pub data Line : Type 0 where

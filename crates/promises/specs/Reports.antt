@@ -14,6 +14,7 @@ use Rattle.parts.specs.Fresh.{noIncoming}
 use Rattle.peer.specs.Outcome.{State}
 use Rattle.peer.specs.declared.defaults.Kept.{Kept}
 use Rattle.link.specs.Runs.{Asked, comesTo, resetState}
+use Rattle.inward.specs.declared.calls.Call.the-variants as inw
 use Rattle.link.specs.declared.calls.Call.{Call}
 use Rattle.link.specs.declared.calls.Call.the-variants as call
 
@@ -28,14 +29,14 @@ numbersJoined x y =
 
 -- whether reliable packets of a channel may join dispatched by a call
 abbrev pub isOn : ℕ → Call → Bool
-isOn channel (call.ReliableArrival a) = eqb (a .channel) channel
-isOn channel (call.Dispatch c) = eqb c channel
+isOn channel (call.Inward (inw.ReliableArrival a)) = eqb (a .channel) channel
+isOn channel (call.Inward (inw.Dispatch c)) = eqb c channel
 isOn channel call.Reset = false
 isOn channel (call.Begin mtu channels) = false
 isOn channel (call.SetState state) = false
 isOn channel (call.Outward c) = false
-isOn channel (call.UnsequencedArrival a group) = false
-isOn channel call.Receive = false
+isOn channel (call.Inward (inw.UnsequencedArrival a group)) = false
+isOn channel (call.Inward inw.Receive) = false
 
 -- reset and begin, done, begin the channels anew
 abbrev pub isAnew : Call → Answer → Bool
@@ -43,10 +44,7 @@ isAnew call.Reset w = eqb (w .number) 0
 isAnew (call.Begin mtu channels) w = eqb (w .number) 0
 isAnew (call.SetState state) w = false
 isAnew (call.Outward c) w = false
-isAnew (call.UnsequencedArrival a group) w = false
-isAnew (call.ReliableArrival a) w = false
-isAnew (call.Dispatch c) w = false
-isAnew call.Receive w = false
+isAnew (call.Inward c) w = false
 
 -- the reliable numbers of a channel that joined dispatched since begin, in their order
 abbrev pub reported : ℕ → Asked → State → List ℕ → List ℕ

@@ -13,6 +13,7 @@ use Rattle.peer.specs.Outcome.{State}
 use Rattle.peer.specs.declared.settings.Settings.{Settings}
 use Rattle.peer.specs.declared.defaults.Kept.{Kept}
 use Rattle.link.specs.Runs.{Asked, comesTo, saysOne, run, resetState}
+use Rattle.inward.specs.declared.calls.Call.the-variants as inw
 use Rattle.link.specs.declared.calls.Call.{Call}
 use Rattle.link.specs.declared.calls.Call.the-variants as call
 
@@ -46,13 +47,13 @@ stores length a t = pick (saysOne a) (record { stored = t .stored + length; rece
 -- what a call that answers so adds
 abbrev pub counts : Call → Answer → Tally → Tally
 counts call.Reset a t = pick (eqb (a .number) 0) freshTally t
-counts (call.UnsequencedArrival arrival group) a t = stores (arrival .length) a t
-counts (call.ReliableArrival arrival) a t = stores (arrival .length) a t
-counts call.Receive a t = pick (saysOne a) (record { stored = t .stored; received = t .received + getD (a .values) 3 0 }) t
+counts (call.Inward (inw.UnsequencedArrival arrival group)) a t = stores (arrival .length) a t
+counts (call.Inward (inw.ReliableArrival arrival)) a t = stores (arrival .length) a t
+counts (call.Inward inw.Receive) a t = pick (saysOne a) (record { stored = t .stored; received = t .received + getD (a .values) 3 0 }) t
 counts (call.Begin mtu channels) a t = t
 counts (call.SetState state) a t = t
 counts (call.Outward c) a t = t
-counts (call.Dispatch channel) a t = t
+counts (call.Inward (inw.Dispatch channel)) a t = t
 
 unfoldable pub tallied : List Asked → State → Tally → Tally
 tallied [] x t = t

@@ -8,8 +8,7 @@ pub(crate) fn tell(reply: Reply) {
     match reply {
         Reply::Called(r) => called(r),
         Reply::Outward(r) => outward(r),
-        Reply::Arrived(r) => arrived(r),
-        Reply::Received(r) => received(r),
+        Reply::Inward(r) => inward(r),
     }
 }
 
@@ -20,6 +19,14 @@ fn outward(reply: outward::calls::Reply) {
         outward::calls::Reply::Acknowledged(r) => acknowledged(r),
         outward::calls::Reply::Checked(r) => checked(r),
         outward::calls::Reply::Throttled(r) => throttled(r),
+    }
+}
+
+fn inward(reply: inward::calls::Reply) {
+    match reply {
+        inward::calls::Reply::Arrived(r) => arrived(r),
+        inward::calls::Reply::Called(r) => called(r),
+        inward::calls::Reply::Received(r) => received(r),
     }
 }
 

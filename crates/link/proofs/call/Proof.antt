@@ -1,13 +1,14 @@
 -- `call` makes each call by its own function, so what that function ensures is carried over, one arm of the match after another.
-use Prim.Native.Nat.{ℕ, _+_}
 use mathlib.Core.Path.{refl, ap}
+use Prim.Native.Nat.{ℕ, _+_, _*_}
+use Rattle.peer.specs.Outcome.{State}
 use borrow.Author.Needs.{needs}
 use Rattle.peer.specs.Calls as calls
 use Rattle.outward.specs.Steps as outward
-use Rattle.arriving.specs.Arrivals as arriving
-use Rattle.receive.specs.Calls as receiving
+use Rattle.inward.specs.Steps as inward
+use Rattle.inward.proofs.Calling.{came-beside}
 use Rattle.link.specs.declared.calls.Reply.the-variants as vr
-use Rattle.link.proofs.Calling.{lent-store, on-record}
+use Rattle.link.proofs.Calling.{promised}
 use Rattle.link.proofs.call.Statement.{statement}
 use Rattle.link.proofs.call.Tie as tie
 
@@ -38,51 +39,42 @@ call-requires c κs = search needs
 enum-known-call-4 : tie.Need-enum-known-call-4
 enum-known-call-4 c = search needs
 
-arrive-requires : tie.Need-arrive-requires
-arrive-requires c κs = search needs
+call-requires-2 : tie.Need-call-requires-2
+call-requires-2 c κs = search needs
 
-enum-known-call-5 : tie.Need-enum-known-call-5
-enum-known-call-5 c = search needs
-
-arrive-requires-2 : tie.Need-arrive-requires-2
-arrive-requires-2 c κs = search needs
-
-enum-known-call-6 : tie.Need-enum-known-call-6
-enum-known-call-6 c = search needs
-
-dispatch-requires : tie.Need-dispatch-requires
-dispatch-requires c κs = search needs
-
-enum-told-2 : tie.Need-enum-told-2
-enum-told-2 c = search needs
-
-receive-requires : tie.Need-receive-requires
-receive-requires c κs = search needs
+plain-requires : tie.Need-plain-requires
+plain-requires c κs = search needs
 
 returns : tie.Need-returns
 returns c =
     let a = c .before .before .before .before .before .before .args in
-    on-record (a .settings) (a .call) (a .datagram .now) (record { peer = a .peer; store = a .store .now }) calls.answerOf vr.Called _
-    (c .before .before .enum-told .given .1) _ refl refl tt _ refl _ (c .before .reset .ensures)
+    let x : State = record { peer = a .peer; store = a .store .now } in
+    rw (c .plain .ensures) (promised (a .settings) (a .call) (a .datagram .now) x calls.answerOf vr.Called _ (c .before .before .enum-told .given .1) _ refl refl tt _ refl _ (came-beside x _ (c .before .reset .ensures)))
+
+plain-requires-2 : tie.Need-plain-requires-2
+plain-requires-2 c κs = search needs
 
 returns-2 : tie.Need-returns-2
 returns-2 c =
     let a = c .before .before .before .before .before .before .before .args in
-    on-record (a .settings) (a .call) (a .datagram .now) (record { peer = a .peer; store = a .store .now }) calls.answerOf vr.Called _
-    (c .before .before .before .call .given .1) _ refl refl tt _ refl _ (c .before .begin .ensures)
+    let x : State = record { peer = a .peer; store = a .store .now } in
+    rw (c .plain2 .ensures) (promised (a .settings) (a .call) (a .datagram .now) x calls.answerOf vr.Called _ (c .before .before .before .call .given .1) _ refl refl tt _ refl _ (came-beside x _ (c .before .begin .ensures)))
+
+plain-requires-3 : tie.Need-plain-requires-3
+plain-requires-3 c κs = search needs
 
 returns-3 : tie.Need-returns-3
 returns-3 c =
     let a = c .before .before .before .before .before .before .before .args in
-    on-record (a .settings) (a .call) (a .datagram .now) (record { peer = a .peer; store = a .store .now }) calls.answerOf vr.Called _
-    (c .before .before .before .call2 .given .1) _ refl refl tt _ refl _ (c .before .set-state .ensures)
+    let x : State = record { peer = a .peer; store = a .store .now } in
+    rw (c .plain3 .ensures) (promised (a .settings) (a .call) (a .datagram .now) x calls.answerOf vr.Called _ (c .before .before .before .call2 .given .1) _ refl refl tt _ refl _ (came-beside x _ (c .before .set-state .ensures)))
 
 returns-4 : tie.Need-returns-4
 returns-4 c =
     let a = c .before .before .before .before .before .before .before .args in
+    let x : State = record { peer = a .peer; store = a .store .now } in
     let own = c .before .call4 .ensures .1 in
-    on-record (a .settings) (a .call) (a .datagram .now) (record { peer = a .peer; store = a .store .now }) outward.answerOf vr.Outward _
-    (c .before .before .before .call3 .given .1) _ refl (ap (λ (n : ℕ). 3 + n) (own .kind)) (own .named) _ refl _ (c .before .call4 .ensures .0)
+    promised (a .settings) (a .call) (a .datagram .now) x outward.answerOf vr.Outward _ (c .before .before .before .call3 .given .1) _ refl (ap (λ (n : ℕ). 2 * n + 1) (own .kind)) (own .named) _ refl _ (came-beside x _ (c .before .call4 .ensures .0))
 
 same-length : tie.Need-same-length
 same-length c = search needs
@@ -90,29 +82,9 @@ same-length c = search needs
 returns-5 : tie.Need-returns-5
 returns-5 c =
     let a = c .before .before .before .before .before .before .before .before .before .before .args in
-    lent-store (a .settings) (a .call) (a .datagram .now) (record { peer = a .peer; store = a .store .now }) arriving.answerOf vr.Arrived _
-    (c .before .before .before .before .before .before .call5 .given .1) _ refl refl tt _ refl _ (c .before .before .before .arrive .ensures)
-
-same-length-2 : tie.Need-same-length-2
-same-length-2 c = search needs
-
-returns-6 : tie.Need-returns-6
-returns-6 c =
-    let a = c .before .before .before .before .before .before .before .before .before .before .args in
-    lent-store (a .settings) (a .call) (a .datagram .now) (record { peer = a .peer; store = a .store .now }) arriving.answerOf vr.Arrived _
-    (c .before .before .before .before .before .before .call6 .given .1) _ refl refl tt _ refl _ (c .before .before .before .arrive2 .ensures)
-
-returns-7 : tie.Need-returns-7
-returns-7 c =
-    let a = c .before .before .before .before .before .before .before .args in
-    on-record (a .settings) (a .call) (a .datagram .now) (record { peer = a .peer; store = a .store .now }) calls.answerOf vr.Called _
-    (c .before .before .before .call7 .given .1) _ refl refl tt _ refl _ (c .before .dispatch .ensures)
-
-returns-8 : tie.Need-returns-8
-returns-8 c =
-    let a = c .before .before .before .before .before .before .args in
-    on-record (a .settings) (a .call) (a .datagram .now) (record { peer = a .peer; store = a .store .now }) receiving.answerOf vr.Received _
-    (c .before .before .enum-told2 .given .1) _ refl refl tt _ refl _ (c .before .receive .ensures)
+    let x : State = record { peer = a .peer; store = a .store .now } in
+    let own = c .before .before .before .call6 .ensures .1 in
+    promised (a .settings) (a .call) (a .datagram .now) x inward.answerOf vr.Inward _ (c .before .before .before .before .before .before .call5 .given .1) _ refl (ap (λ (n : ℕ). 2 * n + 2) (own .kind)) tt _ refl _ (c .before .before .before .call6 .ensures .0)
 
 pub call-spec : {M : Type 1} → statement M
 call-spec =
@@ -120,27 +92,20 @@ call-spec =
     (tie.spec
     enum-told
     reset-requires
+    plain-requires
+    returns
     enum-known-call
     begin-requires
+    plain-requires-2
+    returns-2
     enum-known-call-2
     set-state-requires
+    plain-requires-3
+    returns-3
     enum-known-call-3
     call-requires
-    enum-known-call-4
-    arrive-requires
-    enum-known-call-5
-    arrive-requires-2
-    enum-known-call-6
-    dispatch-requires
-    enum-told-2
-    receive-requires
-    returns
-    returns-2
-    returns-3
     returns-4
+    enum-known-call-4
+    call-requires-2
     same-length
-    returns-5
-    same-length-2
-    returns-6
-    returns-7
-    returns-8)
+    returns-5)

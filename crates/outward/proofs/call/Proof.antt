@@ -53,20 +53,29 @@ enum-known-call-6 c = search needs
 throttle-requires : tie.Need-throttle-requires
 throttle-requires c κs = search needs
 
+plain-requires : tie.Need-plain-requires
+plain-requires c κs = search needs
+
 returns : tie.Need-returns
 returns c =
     let a = c .before .before .before .before .args in
-    promised (a .settings) (a .call) (a .peer) calls.answerOf vr.Called _ (c .before .before .enum-told .given .1) _ refl refl tt _ (c .before .ping .ensures)
+    rw (c .plain .ensures) (promised (a .settings) (a .call) (a .peer) calls.answerOf vr.Called _ (c .before .before .enum-told .given .1) _ refl refl tt _ (c .before .ping .ensures))
+
+plain-requires-2 : tie.Need-plain-requires-2
+plain-requires-2 c κs = search needs
 
 returns-2 : tie.Need-returns-2
 returns-2 c =
     let a = c .before .before .before .before .before .args in
-    promised (a .settings) (a .call) (a .peer) calls.answerOf vr.Called _ (c .before .before .before .call .given .1) _ refl refl tt _ (c .before .send .ensures)
+    rw (c .plain2 .ensures) (promised (a .settings) (a .call) (a .peer) calls.answerOf vr.Called _ (c .before .before .before .call .given .1) _ refl refl tt _ (c .before .send .ensures))
+
+plain-requires-3 : tie.Need-plain-requires-3
+plain-requires-3 c κs = search needs
 
 returns-3 : tie.Need-returns-3
 returns-3 c =
     let a = c .before .before .before .before .before .args in
-    promised (a .settings) (a .call) (a .peer) calls.answerOf vr.Called _ (c .before .before .before .call2 .given .1) _ refl refl tt _ (c .before .setup .ensures)
+    rw (c .plain3 .ensures) (promised (a .settings) (a .call) (a .peer) calls.answerOf vr.Called _ (c .before .before .before .call2 .given .1) _ refl refl tt _ (c .before .setup .ensures))
 
 returns-4 : tie.Need-returns-4
 returns-4 c =
@@ -94,22 +103,25 @@ call-spec =
     (tie.spec
     enum-told
     ping-requires
+    plain-requires
+    returns
     enum-known-call
     send-requires
+    plain-requires-2
+    returns-2
     enum-known-call-2
     setup-requires
+    plain-requires-3
+    returns-3
     enum-known-call-3
     step-requires
+    returns-4
     enum-known-call-4
     acknowledge-requires
+    returns-5
     enum-known-call-5
     check-requires
+    returns-6
     enum-known-call-6
     throttle-requires
-    returns
-    returns-2
-    returns-3
-    returns-4
-    returns-5
-    returns-6
     returns-7)
