@@ -1,0 +1,137 @@
+//! door: a host around the proved link. It connects to a gateway, sends its reports, counts what comes back, and leaves.
+//!
+//! Words: see KNOWN; after `--` the command that runs replay (`./replay --program` says it).
+
+use door::clock::{end_after, Clock};
+use door::door::{Answers, Checks, Door, End, Plan};
+use door::incoming::Room;
+use door::link::Link;
+use door::logs::Log;
+use door::look::OUTGOING_SLOTS;
+use door::words::Words;
+use door::{told, Fallible};
+use std::net::UdpSocket;
+use std::time::Duration;
+
+const KNOWN: &[&str] = &[
+    "gateway",
+    "log",
+    "seconds",
+    "seed",
+    "reliable",
+    "unsequenced",
+    "length",
+    "pace",
+    "mtu",
+    "window",
+    "spare",
+    "room",
+    "checks",
+    "answers",
+    "start",
+    "clock",
+];
+
+fn choice<T: Copy>(words: &Words, name: &str, choices: &[(&str, T)]) -> Fallible<T> {
+    let text = words.text(name, choices[0].0);
+    let found = choices.iter().find(|choice| choice.0 == text);
+    found.map(|choice| choice.1).ok_or(format!("{name}={text} is no choice"))
+}
+
+fn plan(words: &Words) -> Fallible<Plan> {
+    let window = words.number("window", 0)?;
+    Ok(Plan {
+        reliable: words.number("reliable", 500)?,
+        unsequenced: words.number("unsequenced", 500)?,
+        length: words.number("length", 48)?,
+        seed: words.number("seed", 1)?,
+        pace: words.number("pace", 2)?,
+        mtu: words.number("mtu", 1392)?,
+        window: if window == 0 { 65_536 } else { window },
+        uses_window: window != 0,
+        spare: words.number("spare", 12)?,
+        room: choice(
+            words,
+            "room",
+            &[("packets", Room::KeepPackets), ("last", Room::KeepLast), ("all", Room::TakeAll)],
+        )?,
+        checks: choice(
+            words,
+            "checks",
+            &[
+                ("turn", Checks::EveryTurn),
+                ("due", Checks::OnceDue),
+                ("compared", Checks::Compared),
+            ],
+        )?,
+        answers: choice(
+            words,
+            "answers",
+            &[
+                ("right", Answers::StoredAndPassedOver),
+                ("stored-only", Answers::StoredOnly),
+                ("refused-too", Answers::RefusedToo),
+            ],
+        )?,
+        start: words.number("start", 0)?,
+        limit: Duration::from_secs(words.number("seconds", 30)?),
+    })
+}
+
+/// What the host counted for itself must be what stands in the record.
+fn compare(door: &mut Door) -> Fallible<()> {
+    let look = door.link.look()?;
+    if look.host_count != door.outbox.queued
+        || look.free_outgoing() + door.outbox.waiting() != OUTGOING_SLOTS
+    {
+        return Err(format!(
+            "the host counted {} queued and {} waiting, the record says {} and {}",
+            door.outbox.queued,
+            door.outbox.waiting(),
+            look.host_count,
+            OUTGOING_SLOTS - look.free_outgoing()
+        ));
+    }
+    door.most("throttle", u64::from(look.packet_throttle));
+    door.most("round-trip", u64::from(look.round_trip));
+    Ok(())
+}
+
+fn finish(mut door: Door, end: End) -> Fallible<()> {
+    compare(&mut door)?;
+    door.log.sum("end", end.word())?;
+    door.log.sum("sent-reliable", door.next_reliable)?;
+    door.log.sum("sent-unsequenced", door.next_unsequenced)?;
+    door.log.sum("clock-first", door.clock.first())?;
+    door.log.sum("clock-last", door.clock.now())?;
+    door.log.sum("window", door.handshake.window)?;
+    door.log.sum("mtu", door.mtu)?;
+    door.log.sum("milliseconds", door.clock.elapsed().as_millis())?;
+    door.log.sum("calls", door.link.calls)?;
+    door.log.sum("datagrams-out", door.datagrams)?;
+    for (name, count) in std::mem::take(&mut door.counts) {
+        door.log.sum(name, count)?;
+    }
+    door.log.finish()
+}
+
+fn run() -> Fallible<()> {
+    let words = Words::read(std::env::args(), KNOWN)?;
+    let plan = plan(&words)?;
+    end_after(plan.limit + Duration::from_secs(5), "door");
+    let link = Link::start(&words.command)?;
+    let socket = UdpSocket::bind("127.0.0.1:0").map_err(told("a socket"))?;
+    socket.connect(words.text("gateway", "")).map_err(told("gateway="))?;
+    let log = Log::create(&words.text("log", "/dev/null"))?;
+    let clock = Clock::starting_at(words.number("clock", 1)?);
+    let mut door = Door::open(plan, link, socket, clock, log)?;
+    let end = door.run()?;
+    finish(door, end)
+}
+
+fn main() {
+    if let Err(error) = run() {
+        eprintln!("door: {error}");
+        std::process::exit(2);
+    }
+}

@@ -1,0 +1,103 @@
+//! The few steps of the handshake on the connecting side, after host.rs `enet_host_connect` and protocol.rs `handle_verify_connect`.
+//!
+//! Ids, sessions, connect id and window have no call in document 01 and no call reads them: the host keeps them here.
+
+use crate::datagram::{Ids, NO_PEER_ID};
+use crate::link::{Command, Link, ASKS_FOR_ACKNOWLEDGEMENT};
+use crate::look::Look;
+use crate::Fallible;
+
+pub const CONNECTING: u32 = 1;
+pub const CONNECTED: u32 = 5;
+pub const DISCONNECTING: u32 = 7;
+pub const PEER_ITSELF: u32 = 255;
+pub const CHANNELS: u32 = 2;
+/// The number that a peer's first command has.
+const CONNECT_NUMBER: u32 = 1;
+const NO_SESSION: u32 = 255;
+const WINDOW_BOUNDS: (u32, u32) = (4_096, 65_536);
+const MTU_BOUNDS: (u32, u32) = (576, 4_096);
+
+/// The host has one peer, and so this is its id for the other end.
+pub const OWN_PEER_ID: u16 = 0;
+
+pub struct Handshake {
+    pub ids: Ids,
+    pub window: u32,
+    connect_id: u32,
+    /// The clock at which the connect went out first.
+    pub connect_sent: Option<u32>,
+}
+
+pub enum Verified {
+    Yes,
+    /// The other end answers something that was not asked: the source gives the peer up.
+    No,
+}
+
+impl Handshake {
+    /// Queues the connect command on a fresh record.
+    pub fn begin(link: &mut Link, mtu: u32, window: u32, connect_id: u32) -> Fallible<Handshake> {
+        link.reset()?;
+        link.begin(mtu, CHANNELS)?;
+        link.set_state(CONNECTING)?;
+        let look = link.look()?;
+        let (interval, up, down) =
+            (look.throttle_interval, look.throttle_acceleration, look.throttle_deceleration);
+        let fields = vec![
+            u32::from(OWN_PEER_ID),
+            NO_SESSION,
+            NO_SESSION,
+            mtu,
+            window,
+            CHANNELS,
+            0,
+            0,
+            interval,
+            up,
+            down,
+            connect_id,
+            0,
+        ];
+        let connect =
+            Command { byte: 2 | ASKS_FOR_ACKNOWLEDGEMENT, channel: PEER_ITSELF, number: 0, fields };
+        link.setup(&connect)?.done("setup of the connect")?;
+        let ids = Ids {
+            outgoing_peer_id: NO_PEER_ID,
+            outgoing_session_id: 255,
+            incoming_session_id: 255,
+        };
+        Ok(Handshake { ids, window, connect_id, connect_sent: None })
+    }
+
+    /// The verify's fields: peer id, sessions, MTU, window, channels, bandwidths, throttle's three, connect id.
+    fn fits(&self, fields: &[u32], look: &Look) -> bool {
+        let throttle =
+            [look.throttle_interval, look.throttle_acceleration, look.throttle_deceleration];
+        (1..=255).contains(&fields[5]) && fields[8..11] == throttle && fields[11] == self.connect_id
+    }
+
+    /// The verify is what answers the connect. The link takes that command out by an acknowledgement of its number, with the time at which
+    /// it went out first; then the peer is connected.
+    pub fn verify(&mut self, link: &mut Link, fields: &[u32], clock: u32) -> Fallible<Verified> {
+        let look = link.look()?;
+        if !self.fits(fields, &look) {
+            return Ok(Verified::No);
+        }
+        let sent = self.connect_sent.unwrap_or(clock) & 0xffff;
+        link.acknowledgement(PEER_ITSELF, CONNECT_NUMBER, sent, clock)?
+            .done("the verify's acknowledgement")?;
+        let (outgoing_peer_id, incoming_session_id, outgoing_session_id) =
+            (fields[0] as u16, fields[1] as u8, fields[2] as u8);
+        self.ids = Ids { outgoing_peer_id, outgoing_session_id, incoming_session_id };
+        self.window = self.window.min(fields[4].clamp(WINDOW_BOUNDS.0, WINDOW_BOUNDS.1));
+        let (mtu, channels) = (fields[3].clamp(MTU_BOUNDS.0, MTU_BOUNDS.1), fields[5]);
+        if mtu < look.mtu || channels < look.channel_count {
+            // begin is the one call that sets them, and it is refused once there are channels
+            link.reset()?;
+            link.begin(mtu.min(look.mtu), channels.min(look.channel_count))?;
+        }
+        link.set_state(CONNECTED)?;
+        Ok(Verified::Yes)
+    }
+}

@@ -1,0 +1,173 @@
+//! The 12 incoming slots: what a host hands in when, so that the number that a channel waits for finds a slot.
+
+use crate::door::{Answers, Door};
+use crate::link::{Command, Reply};
+use crate::look::INCOMING_SLOTS;
+use crate::reports;
+use crate::Fallible;
+use std::collections::BTreeMap;
+
+/// How many packets the host keeps beside the link, at most.
+const KEPT_AT_MOST: usize = 4096;
+const NO_ROOM: u32 = 8;
+
+/// What a host does as slots run out.
+#[derive(Clone, Copy, PartialEq)]
+pub enum Room {
+    /// Hands in whatever comes: the mistake that loses the link.
+    TakeAll,
+    /// Keeps the last free slot for a next number, and does not answer the others: they come again.
+    KeepLast,
+    /// Keeps the last free slot likewise, keeps the others itself, answers them, and hands them in when their turn comes.
+    KeepPackets,
+}
+
+pub struct Incoming {
+    room: Room,
+    /// Slots in use: packets stored less packets received.
+    held: usize,
+    kept: BTreeMap<(u32, u32), (Command, Vec<u8>)>,
+}
+
+impl Incoming {
+    pub fn new(room: Room) -> Incoming {
+        Incoming { room, held: 0, kept: BTreeMap::new() }
+    }
+}
+
+/// What becomes of a command that arrived.
+#[derive(PartialEq)]
+pub enum Fate {
+    Answered,
+    NotAnswered,
+}
+
+impl Door {
+    /// A reliable packet. Refused is never answered; stored and passed over are.
+    pub fn reliable(&mut self, command: &Command, place: usize, datagram: &[u8]) -> Fallible<Fate> {
+        if self.must_wait(command)? {
+            return Ok(self.put_aside(command, place, datagram));
+        }
+        self.hand_in(command, place, datagram)
+    }
+
+    /// With one slot left, only a next number may have it: it is dispatched and received at once, and the slot is free again.
+    fn must_wait(&mut self, command: &Command) -> Fallible<bool> {
+        if self.incoming.room == Room::TakeAll || self.incoming.held + 1 < INCOMING_SLOTS {
+            return Ok(false);
+        }
+        let last = self.link.look()?.last_numbers.get(command.channel as usize).copied();
+        Ok(last.map_or(false, |last| command.number != (last + 1) & 0xffff))
+    }
+
+    fn put_aside(&mut self, command: &Command, place: usize, datagram: &[u8]) -> Fate {
+        let length = command.fields[0] as usize;
+        let payload = datagram.get(place..place + length);
+        match payload {
+            Some(payload)
+                if self.incoming.room == Room::KeepPackets
+                    && self.incoming.kept.len() < KEPT_AT_MOST =>
+            {
+                self.count("kept");
+                self.incoming
+                    .kept
+                    .insert((command.channel, command.number), (command.clone(), payload.to_vec()));
+                self.most("most-kept", self.incoming.kept.len() as u64);
+                Fate::Answered
+            }
+            _ => {
+                self.count("let-go");
+                Fate::NotAnswered
+            }
+        }
+    }
+
+    fn hand_in(&mut self, command: &Command, place: usize, datagram: &[u8]) -> Fallible<Fate> {
+        let reply = self.link.reliable_arrival(command, place, datagram)?;
+        let fate = self.tally(&reply);
+        self.receive()?;
+        Ok(fate)
+    }
+
+    /// What was kept goes in when it is the next number; what is a repeat by now the link passes over.
+    pub fn hand_in_kept(&mut self) -> Fallible<()> {
+        while let Some((command, payload)) = self.next_kept()? {
+            self.count("handed-in-later");
+            self.hand_in(&command, 0, &payload)?;
+        }
+        Ok(())
+    }
+
+    fn next_kept(&mut self) -> Fallible<Option<(Command, Vec<u8>)>> {
+        if self.incoming.kept.is_empty() {
+            return Ok(None);
+        }
+        let last = self.link.look()?.last_numbers;
+        let turn = |(channel, number): &&(u32, u32)| {
+            let distance = number.wrapping_sub(last[*channel as usize]) & 0xffff;
+            distance <= 1 || distance > 32_767
+        };
+        let key = self.incoming.kept.keys().find(turn).copied();
+        Ok(key.and_then(|key| self.incoming.kept.remove(&key)))
+    }
+
+    /// An unsequenced packet. It asks for no answer.
+    pub fn unsequenced(
+        &mut self,
+        command: &Command,
+        place: usize,
+        datagram: &[u8],
+    ) -> Fallible<Fate> {
+        let reply = self.link.unsequenced_arrival(command, place, datagram)?;
+        let fate = self.tally(&reply);
+        self.receive()?;
+        Ok(fate)
+    }
+
+    fn tally(&mut self, reply: &Reply) -> Fate {
+        match reply {
+            Reply::Done(values) if values[..] == [1] => {
+                self.incoming.held += 1;
+                self.most("most-held", self.incoming.held as u64);
+                Fate::Answered
+            }
+            Reply::Done(_) => {
+                self.count("passed-over");
+                if self.plan.answers == Answers::StoredOnly {
+                    Fate::NotAnswered
+                } else {
+                    Fate::Answered
+                }
+            }
+            Reply::Refused(number) => {
+                self.count(if *number == NO_ROOM { "refused-8" } else { "refused-other" });
+                if self.plan.answers == Answers::RefusedToo {
+                    Fate::Answered
+                } else {
+                    Fate::NotAnswered
+                }
+            }
+        }
+    }
+
+    /// Takes every packet that is there, so that only those before a gap hold a slot.
+    fn receive(&mut self) -> Fallible<()> {
+        while let Some((channel, bytes)) = self.link.receive()? {
+            self.incoming.held -= 1;
+            let length = self.plan.length.min(crate::reports::BACK_AT_MOST);
+            let (report, wrong) = reports::check(self.plan.seed, channel, length, &bytes);
+            match report.kind {
+                reports::Kind::Reliable => self.back.reliable += 1,
+                reports::Kind::Unsequenced => self.back.unsequenced += 1,
+            }
+            self.back.last = self.clock.elapsed();
+            self.log.event(format_args!(
+                "back {} {} {} {wrong}",
+                report.kind.letter(),
+                report.index,
+                bytes.len()
+            ))?;
+        }
+        Ok(())
+    }
+}

@@ -1,0 +1,158 @@
+/* The gateway: stock ENet (Debian's libenet) on loopback. It accepts one peer, prints what it gets, and sends it back on the same channel with
+ * the same reliability. Words: seconds= (it ends by itself), seed= (of the reports' bytes), mtu= and start= (below), wrong= (a run that must fail).
+ */
+#include <enet/enet.h>
+#include <signal.h>
+#include <stdio.h>
+#include <stdlib.h>
+#include <string.h>
+#include <time.h>
+#include <unistd.h>
+
+/* A door's link takes whole packets alone (C-11 is not built): what is longer than WHOLE comes back as its first HEAD bytes. */
+enum { WHOLE = 1000, HEAD = 48, CHANNELS = 2, WRONG_INDEX = 5 };
+
+static unsigned seconds = 60, seed = 1, mtu = 0, start = 0;
+static const char *wrong = "";
+
+static unsigned long long stamp(void) {
+    struct timespec now;
+    clock_gettime(CLOCK_REALTIME, &now);
+    return (unsigned long long)now.tv_sec * 1000000u + (unsigned long long)now.tv_nsec / 1000u;
+}
+
+static void read_words(int count, char **words) {
+    for (int i = 1; i < count; i++) {
+        char *value = strchr(words[i], '=');
+        if (value == NULL) {
+            fprintf(stderr, "gateway: %s is no name=value\n", words[i]);
+            exit(2);
+        }
+        *value++ = 0;
+        if (!strcmp(words[i], "seconds")) seconds = (unsigned)strtoul(value, NULL, 10);
+        else if (!strcmp(words[i], "seed")) seed = (unsigned)strtoul(value, NULL, 10);
+        else if (!strcmp(words[i], "mtu")) mtu = (unsigned)strtoul(value, NULL, 10);
+        else if (!strcmp(words[i], "start")) start = (unsigned)strtoul(value, NULL, 10);
+        else if (!strcmp(words[i], "wrong")) wrong = value;
+        else {
+            fprintf(stderr, "gateway: there is no word %s\n", words[i]);
+            exit(2);
+        }
+    }
+}
+
+/* A report is its kind (R or U), its index in four bytes, and a pattern of seed, kind and index; the door makes the same. */
+static unsigned report_index(const ENetPacket *packet) {
+    const enet_uint8 *at = packet->data;
+    if (packet->dataLength < 5) return 0xffffffffu;
+    return (unsigned)at[1] << 24 | (unsigned)at[2] << 16 | (unsigned)at[3] << 8 | at[4];
+}
+
+static unsigned bytes_wrong(const ENetPacket *packet) {
+    unsigned state, count = 0;
+    if (packet->dataLength < 5) return 1;
+    state = (seed * 2654435761u) ^ (report_index(packet) * 40503u) ^ packet->data[0] ^ 0x9e3779b9u;
+    for (size_t i = 5; i < packet->dataLength; i++) {
+        state = state * 1664525u + 1013904223u;
+        if (packet->data[i] != (enet_uint8)(state >> 24)) count++;
+    }
+    return count;
+}
+
+/* Counters that turn over: both ends start theirs near the end. The door sets the link's by the bench's ops, this sets stock ENet's public
+ * numbers, before the first command of a report is handled. */
+static int start_counters(ENetHost *host, ENetEvent *event) {
+    ENetPeer *peer = &host->peers[0];
+    (void)event;
+    if (start == 0 || peer->channels == NULL) return 0;
+    for (size_t c = 0; c < peer->channelCount; c++) {
+        peer->channels[c].incomingReliableSequenceNumber = (enet_uint16)start;
+        peer->channels[c].outgoingReliableSequenceNumber = (enet_uint16)start;
+    }
+    peer->outgoingUnsequencedGroup = (enet_uint16)start;
+    peer->incomingUnsequencedGroup = (enet_uint16)(start - start % 1024);
+    start = 0;
+    return 0;
+}
+
+static void send_back(ENetPeer *peer, enet_uint8 channel, const ENetPacket *packet) {
+    enet_uint32 flags = packet->flags & (ENET_PACKET_FLAG_RELIABLE | ENET_PACKET_FLAG_UNSEQUENCED);
+    size_t length = packet->dataLength > WHOLE ? HEAD : packet->dataLength;
+    ENetPacket *back = enet_packet_create(packet->data, length, flags);
+    if (back != NULL && enet_peer_send(peer, channel, back) < 0) enet_packet_destroy(back);
+}
+
+/* What comes back of reliable report WRONG_INDEX in a run that must fail; in any other run all goes back as it came. */
+static void answer(ENetPeer *peer, enet_uint8 channel, ENetPacket *packet) {
+    static ENetPacket *later = NULL;
+    int here = packet->data[0] == 'R' && report_index(packet) == WRONG_INDEX;
+    if (here && !strcmp(wrong, "missing")) return;
+    if (here && !strcmp(wrong, "swapped")) {
+        later = enet_packet_create(packet->data, packet->dataLength, packet->flags);
+        return;
+    }
+    if (here && !strcmp(wrong, "changed")) packet->data[packet->dataLength - 1] ^= 1;
+    send_back(peer, channel, packet);
+    if (here && !strcmp(wrong, "doubled")) send_back(peer, channel, packet);
+    if (later != NULL && packet->data[0] == 'R') {
+        send_back(peer, channel, later);
+        enet_packet_destroy(later);
+        later = NULL;
+    }
+}
+
+static void receive(ENetEvent *event) {
+    ENetPacket *packet = event->packet;
+    printf("%llu got %c %u %u %u %s %u\n", stamp(), packet->dataLength > 0 && packet->data[0] == 'U' ? 'U' : 'R', report_index(packet),
+           (unsigned)packet->dataLength, bytes_wrong(packet), packet->flags & ENET_PACKET_FLAG_RELIABLE ? "reliable" : "unsequenced",
+           (unsigned)event->channelID);
+    if (packet->dataLength >= 5) answer(event->peer, event->channelID, packet);
+    enet_packet_destroy(packet);
+}
+
+static ENetHost *open_host(void) {
+    ENetAddress address = {.port = ENET_PORT_ANY};
+    ENetHost *host;
+    if (enet_initialize() != 0 || enet_address_set_host_ip(&address, "127.0.0.1") != 0) return NULL;
+    host = enet_host_create(&address, 1, CHANNELS, 0, 0);
+    if (host == NULL) return NULL;
+    if (mtu != 0) host->mtu = mtu;
+    host->intercept = start_counters;
+    return host;
+}
+
+/* Ends when its peer leaves or is given up, or at its limit. Only a peer that leaves names a reason, and the door's is 13. */
+static const char *serve(ENetHost *host) {
+    unsigned long long end = stamp() + seconds * 1000000ull;
+    ENetEvent event;
+    while (stamp() < end) {
+        if (enet_host_service(host, &event, 20) <= 0) continue;
+        if (event.type == ENET_EVENT_TYPE_CONNECT) {
+            printf("%llu connected\n", stamp());
+            /* Without deceleration stock drops no unsequenced packet by itself, so that what is lost is lost on the way. The door gets it as
+             * a command for which the link has no call; a bandwidth limit, another one, stock sends by itself. */
+            enet_peer_throttle_configure(event.peer, ENET_PEER_PACKET_THROTTLE_INTERVAL, ENET_PEER_PACKET_THROTTLE_ACCELERATION, 0);
+        }
+        if (event.type == ENET_EVENT_TYPE_RECEIVE) receive(&event);
+        if (event.type == ENET_EVENT_TYPE_DISCONNECT) return event.data == 13 ? "left" : "given-up";
+    }
+    return "late";
+}
+
+int main(int count, char **words) {
+    ENetHost *host;
+    read_words(count, words);
+    alarm(seconds + 5);
+    setvbuf(stdout, NULL, _IOLBF, 0);
+    host = open_host();
+    if (host == NULL) {
+        fprintf(stderr, "gateway: no ENet host on loopback\n");
+        return 2;
+    }
+    printf("port %u\n", (unsigned)host->address.port);
+    printf("end %s\n", serve(host));
+    enet_host_flush(host);
+    enet_host_destroy(host);
+    enet_deinitialize();
+    return 0;
+}
