@@ -1,5 +1,6 @@
 /* The gateway: stock ENet (Debian's libenet) on loopback. It accepts one peer, prints what it gets, and sends it back on the same channel with
- * the same reliability. Words: seconds= (it ends by itself), seed= (of the reports' bytes), mtu= and start= (below), wrong= (a run that must fail).
+ * the same reliability. Words: seconds= (it ends by itself), seed= (of the reports' bytes), patience= (after how many
+ * milliseconds it gives a peer up, in place of ENet's 5,000), start= (counters, below), wrong= (a run that must fail).
  */
 #include <enet/enet.h>
 #include <signal.h>
@@ -12,7 +13,7 @@
 /* A door's link takes whole packets alone (C-11 is not built): what is longer than WHOLE comes back as its first HEAD bytes. */
 enum { WHOLE = 1000, HEAD = 48, CHANNELS = 2, WRONG_INDEX = 5 };
 
-static unsigned seconds = 60, seed = 1, mtu = 0, start = 0;
+static unsigned seconds = 60, seed = 1, start = 0, patience = 0;
 static const char *wrong = "";
 
 static unsigned long long stamp(void) {
@@ -31,7 +32,7 @@ static void read_words(int count, char **words) {
         *value++ = 0;
         if (!strcmp(words[i], "seconds")) seconds = (unsigned)strtoul(value, NULL, 10);
         else if (!strcmp(words[i], "seed")) seed = (unsigned)strtoul(value, NULL, 10);
-        else if (!strcmp(words[i], "mtu")) mtu = (unsigned)strtoul(value, NULL, 10);
+        else if (!strcmp(words[i], "patience")) patience = (unsigned)strtoul(value, NULL, 10);
         else if (!strcmp(words[i], "start")) start = (unsigned)strtoul(value, NULL, 10);
         else if (!strcmp(words[i], "wrong")) wrong = value;
         else {
@@ -116,7 +117,6 @@ static ENetHost *open_host(void) {
     if (enet_initialize() != 0 || enet_address_set_host_ip(&address, "127.0.0.1") != 0) return NULL;
     host = enet_host_create(&address, 1, CHANNELS, 0, 0);
     if (host == NULL) return NULL;
-    if (mtu != 0) host->mtu = mtu;
     host->intercept = start_counters;
     return host;
 }
@@ -129,6 +129,7 @@ static const char *serve(ENetHost *host) {
         if (enet_host_service(host, &event, 20) <= 0) continue;
         if (event.type == ENET_EVENT_TYPE_CONNECT) {
             printf("%llu connected\n", stamp());
+            if (patience != 0) enet_peer_timeout(event.peer, ENET_PEER_TIMEOUT_LIMIT, patience, 6 * patience);
             /* Without deceleration stock drops no unsequenced packet by itself, so that what is lost is lost on the way. The door gets it as
              * a command for which the link has no call; a bandwidth limit, another one, stock sends by itself. */
             enet_peer_throttle_configure(event.peer, ENET_PEER_PACKET_THROTTLE_INTERVAL, ENET_PEER_PACKET_THROTTLE_ACCELERATION, 0);

@@ -117,9 +117,11 @@ impl Door {
             return Ok(false);
         }
         self.outbox.release(PEER_ITSELF, 1);
-        self.mtu = self.link.look()?.mtu;
+        let look = self.link.look()?;
+        self.mtu = look.mtu;
+        self.most("channels", u64::from(look.channel_count));
         if self.plan.start != 0 {
-            self.link.start_counters(crate::handshake::CHANNELS, self.plan.start)?;
+            self.link.start_counters(look.channel_count, self.plan.start)?;
         }
         self.state = CONNECTED;
         self.connected_at = Some(self.clock.elapsed());

@@ -11,8 +11,8 @@ use std::collections::BTreeMap;
 use std::net::UdpSocket;
 use std::time::Duration;
 
-/// How long an unsequenced report that did not come back yet is waited for.
-const SILENCE: Duration = Duration::from_millis(300);
+/// How long the answer to a disconnect is waited for.
+const FAREWELL: Duration = Duration::from_millis(500);
 
 /// When the timeout check is called: at every turn, or only once next timeout has come.
 #[derive(Clone, Copy, PartialEq)]
@@ -40,6 +40,8 @@ pub struct Plan {
     /// Milliseconds between two reports of a kind.
     pub pace: u64,
     pub mtu: u32,
+    /// Asked for; the other end may grant fewer.
+    pub channels: u32,
     pub window: u32,
     /// Whether the host holds reliable packets back by throttle and window.
     pub uses_window: bool,
@@ -50,13 +52,15 @@ pub struct Plan {
     pub answers: Answers,
     /// Where the counters start, 0 for where a reset leaves them.
     pub start: u32,
+    /// How long the door stays after the last report came back; an unsequenced one that did not come yet is waited for so long.
+    pub stay: Duration,
     pub limit: Duration,
 }
 
 /// How a run ended.
 #[derive(Clone, Copy, Debug, PartialEq)]
 pub enum End {
-    /// All was said, and the disconnect was acknowledged.
+    /// All was said, and the disconnect was acknowledged or waited for.
     Left,
     /// The link's timeout check answered disconnect.
     GivenUp,
@@ -106,6 +110,7 @@ pub struct Door {
     pub last_ping: u32,
     pub datagrams: u64,
     pub connected_at: Option<Duration>,
+    leaving: Option<Duration>,
     pub counts: BTreeMap<&'static str, u64>,
     pub end: Option<End>,
 }
@@ -119,8 +124,13 @@ impl Door {
         log: Log,
     ) -> Fallible<Door> {
         socket.set_read_timeout(Some(Duration::from_millis(1))).map_err(told("the socket"))?;
-        let handshake =
-            Handshake::begin(&mut link, plan.mtu, plan.window, crate::clock::stamp() as u32 | 1)?;
+        let handshake = Handshake::begin(
+            &mut link,
+            plan.mtu,
+            plan.channels,
+            plan.window,
+            crate::clock::stamp() as u32 | 1,
+        )?;
         let mut outbox = Outbox::default();
         outbox.keep(None, Vec::new(), 1);
         let (mtu, now) = (plan.mtu, clock.now());
@@ -143,6 +153,7 @@ impl Door {
             last_ping: now,
             datagrams: 0,
             connected_at: None,
+            leaving: None,
             counts: BTreeMap::new(),
             end: None,
         })
@@ -161,6 +172,7 @@ impl Door {
     pub fn run(&mut self) -> Fallible<End> {
         while self.end.is_none() {
             self.turn()?;
+            self.end_of_leaving();
             if self.clock.elapsed() > self.plan.limit {
                 self.end = self.end.or(Some(End::Late));
             }
@@ -213,7 +225,7 @@ impl Door {
         let before = self.link.hash;
         self.count("checks");
         if self.link.timeout_check(clock)? {
-            self.end = Some(End::GivenUp);
+            self.end = Some(if self.state == DISCONNECTING { End::Left } else { End::GivenUp });
         }
         if self.link.hash != before {
             self.count("checks-that-found");
@@ -224,16 +236,12 @@ impl Door {
         Ok(())
     }
 
-    /// Nothing is left to say, every reliable report came back, and for the others silence was waited for.
+    /// Nothing is left to say, every reliable report came back, and it was silent for long enough.
     fn leave_when_done(&mut self) -> Fallible<()> {
         let said = self.next_reliable == self.plan.reliable
             && self.next_unsequenced == self.plan.unsequenced;
-        let silent = self.clock.elapsed() - self.back.last > SILENCE;
-        let unsequenced_back = self.back.unsequenced >= self.plan.unsequenced || silent;
-        if said
-            && self.outbox.waiting() == 0
-            && self.back.reliable >= self.plan.reliable
-            && unsequenced_back
+        let stayed = self.clock.elapsed() - self.back.last > self.plan.stay;
+        if said && self.outbox.waiting() == 0 && self.back.reliable >= self.plan.reliable && stayed
         {
             let disconnect = Command {
                 byte: 4 | ASKS_FOR_ACKNOWLEDGEMENT,
@@ -244,8 +252,19 @@ impl Door {
             self.link.setup(&disconnect)?.done("setup of the disconnect")?;
             self.outbox.keep(None, Vec::new(), 1);
             self.enter(DISCONNECTING)?;
+            self.leaving = Some(self.clock.elapsed());
         }
         Ok(())
+    }
+
+    /// Stock ENet forgets a peer once it has acknowledged its disconnect, so where that answer is lost no other comes.
+    fn end_of_leaving(&mut self) {
+        if self.end.is_none()
+            && self.leaving.map_or(false, |since| self.clock.elapsed() - since > FAREWELL)
+        {
+            self.count("disconnects-unanswered");
+            self.end = Some(End::Left);
+        }
     }
 
     pub fn enter(&mut self, state: u32) -> Fallible<()> {

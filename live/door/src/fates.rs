@@ -13,8 +13,9 @@ pub struct Faults {
     /// From when on, after the first datagram, nothing goes through, and for how long.
     pub outage_at: u64,
     pub outage: u64,
-    /// The one datagram of this number from the gateway is lost; 0 for none.
+    /// The datagrams from this number on from the gateway are lost, so many of them.
     pub drop_back: u64,
+    pub drop_count: u64,
 }
 
 #[derive(Debug, PartialEq, Clone)]
@@ -53,7 +54,8 @@ impl Faults {
         let (loss, doubled, held) =
             (random.percent(self.loss), random.percent(self.doubles), random.percent(self.held));
         let (late, later) = (5 + random.below(36), 1 + random.below(20));
-        if out || loss || back && number == self.drop_back {
+        let dropped = back && (self.drop_back..self.drop_back + self.drop_count).contains(&number);
+        if out || loss || dropped {
             Fate::Lost
         } else if doubled {
             Fate::Twice(self.delay, self.delay + later)
@@ -91,10 +93,16 @@ mod tests {
     }
 
     #[test]
-    fn an_outage_and_the_one_that_is_dropped() {
-        let fates = fates(Faults { outage_at: 100, outage: 50, drop_back: 7, ..Faults::default() });
+    fn an_outage_and_those_that_are_dropped() {
+        let fates = fates(Faults {
+            outage_at: 100,
+            outage: 50,
+            drop_back: 7,
+            drop_count: 2,
+            ..Faults::default()
+        });
         let lost: Vec<usize> =
             (1..=1000).filter(|number| fates[number - 1] == Fate::Lost).collect();
-        assert_eq!(lost, std::iter::once(7).chain(100..150).collect::<Vec<_>>());
+        assert_eq!(lost, (7..9).chain(100..150).collect::<Vec<_>>());
     }
 }

@@ -11,7 +11,6 @@ pub const CONNECTING: u32 = 1;
 pub const CONNECTED: u32 = 5;
 pub const DISCONNECTING: u32 = 7;
 pub const PEER_ITSELF: u32 = 255;
-pub const CHANNELS: u32 = 2;
 /// The number that a peer's first command has.
 const CONNECT_NUMBER: u32 = 1;
 const NO_SESSION: u32 = 255;
@@ -37,9 +36,15 @@ pub enum Verified {
 
 impl Handshake {
     /// Queues the connect command on a fresh record.
-    pub fn begin(link: &mut Link, mtu: u32, window: u32, connect_id: u32) -> Fallible<Handshake> {
+    pub fn begin(
+        link: &mut Link,
+        mtu: u32,
+        channels: u32,
+        window: u32,
+        connect_id: u32,
+    ) -> Fallible<Handshake> {
         link.reset()?;
-        link.begin(mtu, CHANNELS)?;
+        link.begin(mtu, channels)?;
         link.set_state(CONNECTING)?;
         let look = link.look()?;
         let (interval, up, down) =
@@ -50,7 +55,7 @@ impl Handshake {
             NO_SESSION,
             mtu,
             window,
-            CHANNELS,
+            channels,
             0,
             0,
             interval,

@@ -154,8 +154,7 @@ impl Door {
     fn receive(&mut self) -> Fallible<()> {
         while let Some((channel, bytes)) = self.link.receive()? {
             self.incoming.held -= 1;
-            let length = self.plan.length.min(crate::reports::BACK_AT_MOST);
-            let (report, wrong) = reports::check(self.plan.seed, channel, length, &bytes);
+            let (report, wrong) = reports::check(self.plan.seed, channel, self.plan.length, &bytes);
             match report.kind {
                 reports::Kind::Reliable => self.back.reliable += 1,
                 reports::Kind::Unsequenced => self.back.unsequenced += 1,

@@ -1,1 +1,207 @@
-//! soon
+//! The judge of a run: from what an end counted, whether reports are missing, doubled, out of order or changed.
+
+use crate::logs::{count_of, sum_of};
+use crate::reports::{Kind, Name};
+use crate::Fallible;
+use std::collections::HashMap;
+
+/// A report as an end counted it, in the order of counting.
+#[derive(Debug, Clone, PartialEq)]
+pub struct Got {
+    pub report: Name,
+    pub bytes_wrong: u64,
+}
+
+/// What one end counted. Of unsequenced reports some may be lost and any order is right, so those columns are of reliable ones alone.
+#[derive(Debug, Default, PartialEq)]
+pub struct Verdict {
+    pub reliable: usize,
+    pub unsequenced: usize,
+    pub missing: usize,
+    pub out_of_order: usize,
+    pub doubled: usize,
+    pub unknown: usize,
+    pub bytes_wrong: u64,
+}
+
+/// How many of each kind were sent.
+#[derive(Clone, Copy)]
+pub struct Sent {
+    pub reliable: u32,
+    pub unsequenced: u32,
+}
+
+pub fn judge(got: &[Got], sent: Sent) -> Verdict {
+    let mut verdict = Verdict::default();
+    let mut times: HashMap<Name, usize> = HashMap::new();
+    let mut next = 0;
+    for Got { report, bytes_wrong } in got {
+        verdict.bytes_wrong += bytes_wrong;
+        let limit = if report.kind == Kind::Reliable { sent.reliable } else { sent.unsequenced };
+        if report.index >= limit {
+            verdict.unknown += 1;
+            continue;
+        }
+        let seen = times.entry(*report).or_insert(0);
+        *seen += 1;
+        if *seen > 1 {
+            verdict.doubled += 1;
+        } else if report.kind == Kind::Unsequenced {
+            verdict.unsequenced += 1;
+        } else {
+            verdict.reliable += 1;
+            verdict.out_of_order += usize::from(report.index < next);
+            next = next.max(report.index + 1);
+        }
+    }
+    verdict.missing = sent.reliable as usize - verdict.reliable;
+    verdict
+}
+
+impl Verdict {
+    /// Nothing that is there is wrong; reports may be missing, as where a link was lost.
+    pub fn is_sound(&self) -> bool {
+        self.out_of_order == 0 && self.doubled == 0 && self.unknown == 0 && self.bytes_wrong == 0
+    }
+
+    pub fn is_whole(&self) -> bool {
+        self.is_sound() && self.missing == 0
+    }
+
+    /// What is wrong, in words.
+    pub fn faults(&self) -> Vec<String> {
+        let named = [
+            (self.missing as u64, "missing"),
+            (self.out_of_order as u64, "out of order"),
+            (self.doubled as u64, "doubled"),
+            (self.unknown as u64, "unknown"),
+            (self.bytes_wrong, "bytes wrong"),
+        ];
+        named
+            .iter()
+            .filter(|fault| fault.0 > 0)
+            .map(|fault| format!("{} {}", fault.0, fault.1))
+            .collect()
+    }
+}
+
+/// The reports in a log's lines `TIME got|back KIND INDEX LENGTH BYTES-WRONG [HOW CHANNEL]`. The gateway says how a report came, and one
+/// that did not come as its kind says counts as a byte wrong, as does another length than the one sent.
+pub fn counted(
+    lines: &[Vec<String>],
+    word: &str,
+    length: impl Fn(Kind) -> usize,
+) -> Fallible<Vec<Got>> {
+    let mut got = Vec::new();
+    for line in lines.iter().filter(|line| line.len() >= 6 && line[1] == word) {
+        let report: Name = format!("{}{}", line[2], line[3]).parse()?;
+        let wrong = |text: &String| format!("{text} is no number in a log");
+        let other_length =
+            line[4].parse::<usize>().map_err(|_| wrong(&line[4]))? != length(report.kind);
+        let how = if report.kind == Kind::Reliable { "reliable" } else { "unsequenced" };
+        let other_way =
+            line.len() == 8 && (line[6] != how || line[7] != report.kind.channel().to_string());
+        let bytes: u64 = line[5].parse().map_err(|_| wrong(&line[5]))?;
+        got.push(Got {
+            report,
+            bytes_wrong: bytes + u64::from(other_length) + u64::from(other_way),
+        });
+    }
+    Ok(got)
+}
+
+/// What a run is expected to be.
+#[derive(Clone, Copy, PartialEq)]
+pub enum Expected {
+    /// Every reliable report at both ends once, in order and unchanged; no unsequenced one twice; and the door left by itself.
+    Whole,
+    /// One end gives the other up; nothing that was counted before is wrong.
+    Lost,
+    /// The judge finds something wrong: a run that must fail.
+    Wrong,
+}
+
+/// What is not as expected, in words; nothing where all is.
+pub fn objections(
+    expected: Expected,
+    ends: [&Verdict; 2],
+    door: &[Vec<String>],
+    gateway: &[Vec<String>],
+) -> Vec<String> {
+    let faults: Vec<String> = ends.iter().flat_map(|end| end.faults()).collect();
+    let (left, given_up) = (sum_of(door, "end"), sum_of(gateway, "end"));
+    let lost = left.as_deref() == Some("given-up") || given_up.as_deref() == Some("given-up");
+    match expected {
+        Expected::Whole if left.as_deref() != Some("left") => faults
+            .into_iter()
+            .chain([format!("the door ended as '{}'", left.unwrap_or_default())])
+            .collect(),
+        Expected::Whole => faults,
+        Expected::Lost if !lost => vec!["the link was not lost".to_string()],
+        Expected::Lost if !ends.iter().all(|end| end.is_sound()) => faults,
+        Expected::Wrong if faults.is_empty() => vec!["nothing was found wrong".to_string()],
+        _ => vec![],
+    }
+}
+
+/// The door's sums that must not be 0 for a run to show what it is for.
+pub fn unmet(needs: &str, door: &[Vec<String>]) -> Vec<String> {
+    let names = needs.split(',').filter(|name| !name.is_empty());
+    names.filter(|name| count_of(door, name) == 0).map(|name| format!("{name} is 0")).collect()
+}
+
+#[cfg(test)]
+mod tests {
+    use super::*;
+
+    const SENT: Sent = Sent { reliable: 3, unsequenced: 2 };
+
+    fn verdict(names: &str) -> Verdict {
+        let got = |name: &str| Got { report: name.parse().unwrap(), bytes_wrong: 0 };
+        judge(&names.split(' ').map(got).collect::<Vec<_>>(), SENT)
+    }
+
+    #[test]
+    fn whole_with_an_unsequenced_one_lost_and_others_in_any_order() {
+        assert!(verdict("U1 R0 R1 U0 R2").is_whole());
+        assert!(verdict("R0 R1 R2").is_whole());
+    }
+
+    #[test]
+    fn missing_doubled_swapped_unknown() {
+        assert_eq!(verdict("R0 R2").faults(), ["1 missing"]);
+        assert_eq!(verdict("R0 R1 R1 R2").faults(), ["1 doubled"]);
+        assert_eq!(verdict("R0 R2 R1").faults(), ["1 out of order"]);
+        assert_eq!(verdict("R0 R1 R2 U1 U1").faults(), ["1 doubled"]);
+        assert_eq!(verdict("R0 R1 R2 R3").faults(), ["1 unknown"]);
+    }
+
+    #[test]
+    fn changed_bytes_lengths_and_ways_are_read_off_a_log() {
+        let lines = |text: &str| vec![text.split(' ').map(String::from).collect::<Vec<_>>()];
+        let wrong = |text: &str| counted(&lines(text), "got", |_| 48).unwrap()[0].bytes_wrong;
+        assert_eq!(wrong("1 got R 2 48 0 reliable 0"), 0);
+        assert_eq!(wrong("1 got R 2 48 7 reliable 0"), 7);
+        assert_eq!(wrong("1 got R 2 47 0 reliable 0"), 1);
+        assert_eq!(wrong("1 got R 2 48 0 unsequenced 0"), 1);
+        assert_eq!(wrong("1 got U 2 48 0 unsequenced 0"), 1);
+    }
+
+    #[test]
+    fn expectations_can_fail() {
+        let log = |end: &str| vec![vec!["end".to_string(), end.to_string()]];
+        let (whole, doubled) = (verdict("R0 R1 R2"), verdict("R0 R1 R1 R2"));
+        let say = |expected, end: &Verdict, door: &str| {
+            objections(expected, [end, &verdict("R0 R1 R2")], &log(door), &log("left"))
+        };
+        assert!(say(Expected::Whole, &whole, "left").is_empty());
+        assert!(!say(Expected::Whole, &doubled, "left").is_empty());
+        assert!(!say(Expected::Whole, &whole, "late").is_empty());
+        assert!(say(Expected::Lost, &whole, "given-up").is_empty());
+        assert!(!say(Expected::Lost, &doubled, "given-up").is_empty());
+        assert!(!say(Expected::Lost, &whole, "left").is_empty());
+        assert!(say(Expected::Wrong, &doubled, "left").is_empty());
+        assert!(!say(Expected::Wrong, &whole, "left").is_empty());
+        assert_eq!(unmet("kept,end", &[vec!["kept".to_string(), "3".to_string()]]), ["end is 0"]);
+    }
+}

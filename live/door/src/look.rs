@@ -23,6 +23,10 @@ pub struct Look {
     pub send_reliable: usize,
     pub outgoing: usize,
     pub host_count: u32,
+    pub incoming_group: u32,
+    pub outgoing_group: u32,
+    /// Each channel's outgoing reliable number: the last that was given.
+    pub given_numbers: Vec<u32>,
     /// Each channel's incoming reliable number: the last that was dispatched.
     pub last_numbers: Vec<u32>,
 }
@@ -61,11 +65,14 @@ pub fn look(row: &[u32]) -> Fallible<Look> {
     let mut rest = Row(&row[43..]);
     let (sent, send_reliable, outgoing, _dispatched) =
         (rest.list()?, rest.list()?, rest.list()?, rest.list()?);
-    rest.skip(4 + 32 + 2)?;
+    rest.skip(2)?;
+    let (incoming_group, outgoing_group) = (rest.next()?, rest.next()?);
+    rest.skip(32 + 2)?;
     let host_count = rest.next()?;
-    let mut last_numbers = Vec::new();
+    let (mut given_numbers, mut last_numbers) = (Vec::new(), Vec::new());
     for _ in 0..peer[6].min(8) {
-        rest.skip(2)?;
+        given_numbers.push(rest.next()?);
+        rest.skip(1)?;
         last_numbers.push(rest.next()?);
         rest.skip(1)?;
         rest.list()?;
@@ -87,6 +94,9 @@ pub fn look(row: &[u32]) -> Fallible<Look> {
         send_reliable,
         outgoing,
         host_count,
+        incoming_group,
+        outgoing_group,
+        given_numbers,
         last_numbers,
     })
 }
@@ -100,7 +110,8 @@ mod tests {
         let mut row: Vec<u32> = (0..43).collect();
         row[6] = 2;
         row.extend([2, 30, 31, 0, 1, 29, 1, 11]);
-        row.extend([0; 4 + 32 + 2]);
+        row.extend([1, 0, 64_512, 65_300]);
+        row.extend([0; 32 + 2]);
         row.push(77);
         row.extend([1, 2, 3, 4, 1, 11, 5, 6, 7, 8, 0]);
         let look = look(&row).unwrap();
@@ -108,7 +119,9 @@ mod tests {
             (look.sent, look.send_reliable, look.outgoing, look.free_outgoing()),
             (2, 0, 1, 29)
         );
-        assert_eq!((look.host_count, look.last_numbers, look.mtu), (77, vec![3, 7], 39));
+        assert_eq!((look.incoming_group, look.outgoing_group), (64_512, 65_300));
+        assert_eq!((look.given_numbers, look.last_numbers), (vec![1, 5], vec![3, 7]));
+        assert_eq!((look.host_count, look.mtu), (77, 39));
     }
 
     #[test]

@@ -56,8 +56,28 @@ impl FromStr for Name {
 }
 
 const HEAD: usize = 5;
-/// The gateway answers a report that is longer than the link can take back whole by its first bytes.
-pub const BACK_AT_MOST: usize = 48;
+/// A report's length where a run says nothing else; an unsequenced one never has another, since one above a fragment's length goes reliable.
+pub const SHORT: usize = 48;
+/// The gateway sends back whole what is not longer than this, and else the first bytes: the link takes no fragments.
+const WHOLE: usize = 1000;
+
+/// How long a report of a kind is where reliable ones have that length: as it goes out, and as it comes back.
+pub fn length_out(kind: Kind, length: usize) -> usize {
+    if kind == Kind::Reliable {
+        length
+    } else {
+        SHORT
+    }
+}
+
+pub fn length_back(kind: Kind, length: usize) -> usize {
+    let out = length_out(kind, length);
+    if out > WHOLE {
+        SHORT
+    } else {
+        out
+    }
+}
 
 fn pattern(seed: u32, report: Name) -> impl Iterator<Item = u8> {
     let mut state = seed.wrapping_mul(2_654_435_761)
@@ -78,7 +98,8 @@ pub fn bytes(seed: u32, report: Name, length: usize) -> Vec<u8> {
     bytes
 }
 
-/// Which report came back on a channel, and how many of its bytes are wrong; a length that is not as expected counts as one.
+/// Which report came back on a channel, and how many of its bytes are wrong; another length or channel than its own counts as one.
+/// `length` is that of reliable reports on their way out.
 pub fn check(seed: u32, channel: u32, length: usize, bytes: &[u8]) -> (Name, usize) {
     let kind = if bytes.first() == Some(&b'U') { Kind::Unsequenced } else { Kind::Reliable };
     let index =
@@ -90,7 +111,12 @@ pub fn check(seed: u32, channel: u32, length: usize, bytes: &[u8]) -> (Name, usi
         .zip(pattern(seed, report))
         .filter(|(got, made)| *got != made)
         .count();
-    (report, differ + usize::from(bytes.len() != length) + usize::from(channel != kind.channel()))
+    (
+        report,
+        differ
+            + usize::from(bytes.len() != length_back(kind, length))
+            + usize::from(channel != kind.channel()),
+    )
 }
 
 #[cfg(test)]
@@ -102,6 +128,9 @@ mod tests {
     #[test]
     fn a_report_comes_back_right() {
         assert_eq!(check(9, 1, 48, &bytes(9, REPORT, 48)), (REPORT, 0));
+        let long = Name { kind: Kind::Reliable, index: 2 };
+        assert_eq!(check(9, 0, 400, &bytes(9, long, 400)), (long, 0));
+        assert_eq!(check(9, 0, 5000, &bytes(9, long, 5000)[..48]), (long, 0));
     }
 
     #[test]

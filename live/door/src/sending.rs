@@ -6,13 +6,11 @@ use crate::handshake::CONNECTING;
 use crate::link::{Reply, Step, FROM_OUTGOING, FROM_SEND_RELIABLE};
 use crate::look::OUTGOING_SLOTS;
 use crate::outbox::commands_of;
-use crate::reports::{bytes, Kind, Name};
+use crate::reports::{bytes, length_out, Kind, Name};
 use crate::{told, Fallible};
 
 const PING_INTERVAL: u32 = 500;
 const THROTTLE_SCALE: u32 = 32;
-/// An unsequenced report is as short as this in every run, since a longer one than a fragment would go reliable.
-const SHORT: usize = 48;
 
 impl Door {
     /// Reports are made at the plan's pace; what finds no slot is made at a later turn.
@@ -21,7 +19,7 @@ impl Door {
         let due = since.as_millis() as u64 / self.plan.pace.max(1) + 1;
         while self.next_reliable < self.plan.reliable && u64::from(self.next_reliable) < due {
             let report = Name { kind: Kind::Reliable, index: self.next_reliable };
-            if !self.send(report, self.plan.length)? {
+            if !self.send(report)? {
                 break;
             }
             self.next_reliable += 1;
@@ -30,7 +28,7 @@ impl Door {
             && u64::from(self.next_unsequenced) < due
         {
             let report = Name { kind: Kind::Unsequenced, index: self.next_unsequenced };
-            if !self.send(report, SHORT.min(self.plan.length))? {
+            if !self.send(report)? {
                 break;
             }
             self.next_unsequenced += 1;
@@ -39,7 +37,8 @@ impl Door {
     }
 
     /// Whether the link took the report. Reliable ones leave the spare slots free, since they hold theirs until they are acknowledged.
-    fn send(&mut self, report: Name, length: usize) -> Fallible<bool> {
+    fn send(&mut self, report: Name) -> Fallible<bool> {
+        let length = length_out(report.kind, self.plan.length);
         let commands = commands_of(length, self.mtu);
         let spare = if report.kind == Kind::Reliable { self.plan.spare } else { 0 };
         if self.outbox.waiting() + commands as usize + spare > OUTGOING_SLOTS {

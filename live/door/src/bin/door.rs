@@ -7,7 +7,7 @@ use door::door::{Answers, Checks, Door, End, Plan};
 use door::incoming::Room;
 use door::link::Link;
 use door::logs::Log;
-use door::look::OUTGOING_SLOTS;
+use door::look::{Look, OUTGOING_SLOTS};
 use door::words::Words;
 use door::{told, Fallible};
 use std::net::UdpSocket;
@@ -23,12 +23,15 @@ const KNOWN: &[&str] = &[
     "length",
     "pace",
     "mtu",
+    "channels",
     "window",
     "spare",
     "room",
     "checks",
     "answers",
     "start",
+    "stay",
+    "stay",
     "clock",
 ];
 
@@ -47,6 +50,7 @@ fn plan(words: &Words) -> Fallible<Plan> {
         seed: words.number("seed", 1)?,
         pace: words.number("pace", 2)?,
         mtu: words.number("mtu", 1392)?,
+        channels: words.number("channels", 2)?,
         window: if window == 0 { 65_536 } else { window },
         uses_window: window != 0,
         spare: words.number("spare", 12)?,
@@ -74,6 +78,7 @@ fn plan(words: &Words) -> Fallible<Plan> {
             ],
         )?,
         start: words.number("start", 0)?,
+        stay: Duration::from_millis(words.number("stay", 300)?),
         limit: Duration::from_secs(words.number("seconds", 30)?),
     })
 }
@@ -92,9 +97,21 @@ fn compare(door: &mut Door) -> Fallible<()> {
             OUTGOING_SLOTS - look.free_outgoing()
         ));
     }
+    turned_over(door, &look);
     door.most("throttle", u64::from(look.packet_throttle));
     door.most("round-trip", u64::from(look.round_trip));
     Ok(())
+}
+
+/// Counters that started near their end, and are past it now.
+fn turned_over(door: &mut Door, look: &Look) {
+    let start = door.plan.start;
+    let below = |number: Option<&u32>| u64::from(number.map_or(false, |number| *number < start));
+    door.most("numbers-out-turned", below(look.given_numbers.first()));
+    door.most("numbers-back-turned", below(look.last_numbers.first()));
+    door.most("groups-out-turned", below(Some(&look.outgoing_group)));
+    door.most("groups-back-turned", u64::from(look.incoming_group < start - start % 1024));
+    door.most("clock-turned", u64::from(door.clock.now() < door.clock.first()));
 }
 
 fn finish(mut door: Door, end: End) -> Fallible<()> {

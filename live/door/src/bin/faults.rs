@@ -1,6 +1,6 @@
 //! faults: a network between door and gateway on loopback that loses, doubles and holds back datagrams, the same for the same seed.
 //!
-//! Words: gateway=ADDRESS log=FILE seconds= seed= loss= doubles= held= (percent) delay= outage_at= outage= (milliseconds) drop_back=
+//! Words: gateway=ADDRESS log=FILE seconds= seed= loss= doubles= held= (percent) delay= outage_at= outage= (milliseconds) drop_back= drop_count=
 
 use door::fates::Faults;
 use door::logs::Log;
@@ -24,6 +24,7 @@ const KNOWN: &[&str] = &[
     "outage_at",
     "outage",
     "drop_back",
+    "drop_count",
 ];
 
 /// One way through the network.
@@ -121,6 +122,7 @@ fn open(words: &Words) -> Fallible<Network> {
         outage_at: words.number("outage_at", 0)?,
         outage: words.number("outage", 0)?,
         drop_back: words.number("drop_back", 0)?,
+        drop_count: words.number("drop_count", 0)?,
     };
     let front = UdpSocket::bind("127.0.0.1:0").map_err(told("a socket"))?;
     let behind = UdpSocket::bind("127.0.0.1:0").map_err(told("a socket"))?;

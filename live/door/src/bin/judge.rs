@@ -1,0 +1,108 @@
+//! judge: one line of the table from a run's three logs; it fails where the run is not what it should be.
+//!
+//! Words: room=FOLDER name= expect=whole|lost|wrong reliable= unsequenced= length= needs=SUM,SUM shows=SUM,SUM; `judge head=1` says the columns.
+
+use door::judge::{counted, judge, objections, unmet, Expected, Sent, Verdict};
+use door::logs::{count_of, read};
+use door::reports::{length_back, length_out, SHORT};
+use door::words::Words;
+use door::Fallible;
+use std::path::PathBuf;
+
+const KNOWN: &[&str] =
+    &["head", "room", "name", "expect", "reliable", "unsequenced", "length", "needs", "shows"];
+
+fn row(name: &str, cells: [String; 8], rest: &str) -> String {
+    let [seconds, sent, counted, back, again, over, lost, wrong] = cells;
+    format!("{name:<36}{seconds:>6}{sent:>9}{counted:>9}{back:>9}{again:>7}{over:>8}{lost:>9}{wrong:>7}  {rest}")
+}
+
+fn head() -> String {
+    let cells =
+        ["s", "sent", "counted", "back", "again", "passed", "lost", "wrong"].map(String::from);
+    row("run", cells, "")
+}
+
+/// Sums of the door's log that a run is there to show, in words.
+fn shown(words: &Words, door: &[Vec<String>]) -> String {
+    let names = words.text("shows", "");
+    let parts = names.split(',').filter(|name| !name.is_empty());
+    parts
+        .map(|name| format!("{} {}", name.replace('-', " "), count_of(door, name)))
+        .collect::<Vec<_>>()
+        .join(", ")
+}
+
+fn pair(verdict: &Verdict) -> String {
+    format!("{}+{}", verdict.reliable, verdict.unsequenced)
+}
+
+fn run() -> Fallible<bool> {
+    let words = Words::read(std::env::args(), KNOWN)?;
+    if words.number("head", 0)? == 1 {
+        println!("{}", head());
+        return Ok(true);
+    }
+    let room = PathBuf::from(words.text("room", "."));
+    let (door, gateway) = (read(&room.join("door.log"))?, read(&room.join("gateway.log"))?);
+    let sent = Sent {
+        reliable: words.number("reliable", 500)?,
+        unsequenced: words.number("unsequenced", 500)?,
+    };
+    let length = words.number("length", SHORT)?;
+    let there = judge(&counted(&gateway, "got", |kind| length_out(kind, length))?, sent);
+    let back = judge(&counted(&door, "back", |kind| length_back(kind, length))?, sent);
+    let expected = match words.text("expect", "whole").as_str() {
+        "whole" => Expected::Whole,
+        "lost" => Expected::Lost,
+        "wrong" => Expected::Wrong,
+        other => return Err(format!("expect={other} is no choice")),
+    };
+    let mut against = objections(expected, [&there, &back], &door, &gateway);
+    against.extend(unmet(&words.text("needs", ""), &door));
+    let verdict = match (against.is_empty(), expected) {
+        (false, _) => format!("RED: {}", against.join(", ")),
+        (true, Expected::Whole) => "green".to_string(),
+        (true, Expected::Lost) => "green: the link is lost, as it must".to_string(),
+        (true, Expected::Wrong) => format!(
+            "green: found wrong, as it must: {}",
+            [there.faults(), back.faults()].concat().join(", ")
+        ),
+    };
+    let seen = shown(&words, &door);
+    let rest = if seen.is_empty() { verdict } else { format!("{verdict} ({seen})") };
+    println!("{}", row(&words.text("name", "run"), cells(&door, &there, &back), &rest));
+    Ok(against.is_empty())
+}
+
+fn cells(door: &[Vec<String>], there: &Verdict, back: &Verdict) -> [String; 8] {
+    let sent = (count_of(door, "sent-reliable"), count_of(door, "sent-unsequenced"));
+    let lost = |from: (u64, u64), to: &Verdict| {
+        (from.0 + from.1).saturating_sub((to.reliable + to.unsequenced) as u64)
+    };
+    [
+        format!("{:.1}", count_of(door, "milliseconds") as f64 / 1000.0),
+        format!("{}+{}", sent.0, sent.1),
+        pair(there),
+        pair(back),
+        count_of(door, "sent-again").to_string(),
+        count_of(door, "passed-over").to_string(),
+        format!(
+            "{}+{}",
+            lost(sent, there),
+            lost((there.reliable as u64, there.unsequenced as u64), back)
+        ),
+        (there.bytes_wrong + back.bytes_wrong).to_string(),
+    ]
+}
+
+fn main() {
+    match run() {
+        Ok(true) => {}
+        Ok(false) => std::process::exit(1),
+        Err(error) => {
+            eprintln!("judge: {error}");
+            std::process::exit(2);
+        }
+    }
+}
