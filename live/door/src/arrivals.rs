@@ -2,7 +2,7 @@
 
 use crate::datagram::{read_header, Header, NO_PEER_ID};
 use crate::door::{Door, End};
-use crate::handshake::{Verified, CONNECTED, CONNECTING, DISCONNECTING, OWN_PEER_ID, PEER_ITSELF};
+use crate::handshake::{Verified, CONNECTED, CONNECTING, DISCONNECTING, OWN_PEER_ID};
 use crate::incoming::Fate;
 use crate::link::{Command, Reply};
 use crate::Fallible;
@@ -110,13 +110,11 @@ impl Door {
         if self.state != CONNECTING {
             return Ok(true);
         }
-        if let Verified::No =
-            self.handshake.verify(&mut self.link, &command.fields, self.clock.now())?
-        {
+        if let Verified::No = self.handshake.verify(&mut self.link, &command.fields)? {
             self.end = Some(End::OtherEnd);
             return Ok(false);
         }
-        self.outbox.release(PEER_ITSELF, 1);
+        self.outbox.clear();
         let look = self.link.look()?;
         self.mtu = look.mtu;
         self.most("channels", u64::from(look.channel_count));

@@ -13,9 +13,6 @@ pub struct Faults {
     /// From when on, after the first datagram, nothing goes through, and for how long.
     pub outage_at: u64,
     pub outage: u64,
-    /// The datagrams from this number on from the gateway are lost, so many of them.
-    pub drop_back: u64,
-    pub drop_count: u64,
 }
 
 #[derive(Debug, PartialEq, Clone)]
@@ -47,15 +44,14 @@ impl Fate {
 }
 
 impl Faults {
-    /// `number` counts a way's datagrams from 1, `at` is the time since the first.
-    pub fn fate(&self, random: &mut Random, back: bool, number: u64, at: u64) -> Fate {
+    /// `at` is the time since the first datagram.
+    pub fn fate(&self, random: &mut Random, at: u64) -> Fate {
         let out = self.outage > 0 && (self.outage_at..self.outage_at + self.outage).contains(&at);
         // drawn always, so that an outage does not shift the rest
         let (loss, doubled, held) =
             (random.percent(self.loss), random.percent(self.doubles), random.percent(self.held));
         let (late, later) = (5 + random.below(36), 1 + random.below(20));
-        let dropped = back && (self.drop_back..self.drop_back + self.drop_count).contains(&number);
-        if out || loss || dropped {
+        if out || loss {
             Fate::Lost
         } else if doubled {
             Fate::Twice(self.delay, self.delay + later)
@@ -73,7 +69,7 @@ mod tests {
 
     fn fates(faults: Faults) -> Vec<Fate> {
         let mut random = Random::new(3);
-        (1..=1000).map(|number| faults.fate(&mut random, true, number, number)).collect()
+        (1..=1000).map(|at| faults.fate(&mut random, at)).collect()
     }
 
     fn share(faults: Faults, word: &str) -> usize {
@@ -93,16 +89,10 @@ mod tests {
     }
 
     #[test]
-    fn an_outage_and_those_that_are_dropped() {
-        let fates = fates(Faults {
-            outage_at: 100,
-            outage: 50,
-            drop_back: 7,
-            drop_count: 2,
-            ..Faults::default()
-        });
+    fn an_outage_lasts_its_time() {
+        let fates = fates(Faults { outage_at: 100, outage: 50, ..Faults::default() });
         let lost: Vec<usize> =
             (1..=1000).filter(|number| fates[number - 1] == Fate::Lost).collect();
-        assert_eq!(lost, (7..9).chain(100..150).collect::<Vec<_>>());
+        assert_eq!(lost, (100..150).collect::<Vec<_>>());
     }
 }

@@ -11,8 +11,6 @@ pub const CONNECTING: u32 = 1;
 pub const CONNECTED: u32 = 5;
 pub const DISCONNECTING: u32 = 7;
 pub const PEER_ITSELF: u32 = 255;
-/// The number that a peer's first command has.
-const CONNECT_NUMBER: u32 = 1;
 const NO_SESSION: u32 = 255;
 const WINDOW_BOUNDS: (u32, u32) = (4_096, 65_536);
 const MTU_BOUNDS: (u32, u32) = (576, 4_096);
@@ -24,8 +22,6 @@ pub struct Handshake {
     pub ids: Ids,
     pub window: u32,
     connect_id: u32,
-    /// The clock at which the connect went out first.
-    pub connect_sent: Option<u32>,
 }
 
 pub enum Verified {
@@ -72,7 +68,7 @@ impl Handshake {
             outgoing_session_id: 255,
             incoming_session_id: 255,
         };
-        Ok(Handshake { ids, window, connect_id, connect_sent: None })
+        Ok(Handshake { ids, window, connect_id })
     }
 
     /// The verify's fields: peer id, sessions, MTU, window, channels, bandwidths, throttle's three, connect id.
@@ -82,26 +78,22 @@ impl Handshake {
         (1..=255).contains(&fields[5]) && fields[8..11] == throttle && fields[11] == self.connect_id
     }
 
-    /// The verify is what answers the connect. The link takes that command out by an acknowledgement of its number, with the time at which
-    /// it went out first; then the peer is connected.
-    pub fn verify(&mut self, link: &mut Link, fields: &[u32], clock: u32) -> Fallible<Verified> {
+    /// The verify is what answers the connect. The source takes the connect out of sent without a sample of the round trip; the link's one call
+    /// that takes a command out is the acknowledgement, which takes one. So the record starts anew, with what the other end grants.
+    pub fn verify(&mut self, link: &mut Link, fields: &[u32]) -> Fallible<Verified> {
         let look = link.look()?;
         if !self.fits(fields, &look) {
             return Ok(Verified::No);
         }
-        let sent = self.connect_sent.unwrap_or(clock) & 0xffff;
-        link.acknowledgement(PEER_ITSELF, CONNECT_NUMBER, sent, clock)?
-            .done("the verify's acknowledgement")?;
         let (outgoing_peer_id, incoming_session_id, outgoing_session_id) =
             (fields[0] as u16, fields[1] as u8, fields[2] as u8);
         self.ids = Ids { outgoing_peer_id, outgoing_session_id, incoming_session_id };
         self.window = self.window.min(fields[4].clamp(WINDOW_BOUNDS.0, WINDOW_BOUNDS.1));
-        let (mtu, channels) = (fields[3].clamp(MTU_BOUNDS.0, MTU_BOUNDS.1), fields[5]);
-        if mtu < look.mtu || channels < look.channel_count {
-            // begin is the one call that sets them, and it is refused once there are channels
-            link.reset()?;
-            link.begin(mtu.min(look.mtu), channels.min(look.channel_count))?;
-        }
+        link.reset()?;
+        link.begin(
+            look.mtu.min(fields[3].clamp(MTU_BOUNDS.0, MTU_BOUNDS.1)),
+            look.channel_count.min(fields[5]),
+        )?;
         link.set_state(CONNECTED)?;
         Ok(Verified::Yes)
     }

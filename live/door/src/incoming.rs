@@ -61,18 +61,15 @@ impl Door {
     }
 
     fn put_aside(&mut self, command: &Command, place: usize, datagram: &[u8]) -> Fate {
-        let length = command.fields[0] as usize;
-        let payload = datagram.get(place..place + length);
+        let payload = datagram.get(place..place + command.fields[0] as usize);
+        let keeps =
+            self.incoming.room == Room::KeepPackets && self.incoming.kept.len() < KEPT_AT_MOST;
         match payload {
-            Some(payload)
-                if self.incoming.room == Room::KeepPackets
-                    && self.incoming.kept.len() < KEPT_AT_MOST =>
-            {
-                self.count("kept");
-                self.incoming
-                    .kept
-                    .insert((command.channel, command.number), (command.clone(), payload.to_vec()));
-                self.most("most-kept", self.incoming.kept.len() as u64);
+            Some(payload) if keeps => {
+                let key = (command.channel, command.number);
+                if self.incoming.kept.insert(key, (command.clone(), payload.to_vec())).is_none() {
+                    self.count("kept");
+                }
                 Fate::Answered
             }
             _ => {

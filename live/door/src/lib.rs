@@ -21,6 +21,7 @@ pub mod picture;
 pub mod random;
 pub mod reports;
 pub mod sending;
+pub mod story;
 pub mod words;
 
 /// What stops a program: a line for its reader.

@@ -51,6 +51,12 @@ impl Outbox {
         }
     }
 
+    /// After a reset nothing waits; the host count stays.
+    pub fn clear(&mut self) {
+        self.kept.clear();
+        self.numbered.clear();
+    }
+
     /// Commands that wait to go out or to be acknowledged: the outgoing slots in use.
     pub fn waiting(&self) -> usize {
         self.kept.len()

@@ -2,7 +2,6 @@
 
 use crate::datagram::Packing;
 use crate::door::Door;
-use crate::handshake::CONNECTING;
 use crate::link::{Reply, Step, FROM_OUTGOING, FROM_SEND_RELIABLE};
 use crate::look::OUTGOING_SLOTS;
 use crate::outbox::commands_of;
@@ -13,24 +12,22 @@ const PING_INTERVAL: u32 = 500;
 const THROTTLE_SCALE: u32 = 32;
 
 impl Door {
-    /// Reports are made at the plan's pace; what finds no slot is made at a later turn.
+    /// Reports are made at the plan's pace, a reliable and an unsequenced one in turn; what finds no slot is made at a later turn.
     pub fn report(&mut self) -> Fallible<()> {
-        let since = self.clock.elapsed() - self.connected_at.unwrap_or_default();
-        let due = since.as_millis() as u64 / self.plan.pace.max(1) + 1;
-        while self.next_reliable < self.plan.reliable && u64::from(self.next_reliable) < due {
-            let report = Name { kind: Kind::Reliable, index: self.next_reliable };
-            if !self.send(report)? {
-                break;
-            }
+        let since =
+            (self.clock.elapsed() - self.connected_at.unwrap_or_default()).as_millis() as u64;
+        let pace = self.plan.pace.max(1);
+        let due = |half: u64, all: u32| u64::from(all).min((since + pace - half) / pace) as u32;
+        let (reliable, unsequenced) =
+            (due(0, self.plan.reliable), due(pace / 2, self.plan.unsequenced));
+        while self.next_reliable < reliable
+            && self.send(Name { kind: Kind::Reliable, index: self.next_reliable })?
+        {
             self.next_reliable += 1;
         }
-        while self.next_unsequenced < self.plan.unsequenced
-            && u64::from(self.next_unsequenced) < due
+        while self.next_unsequenced < unsequenced
+            && self.send(Name { kind: Kind::Unsequenced, index: self.next_unsequenced })?
         {
-            let report = Name { kind: Kind::Unsequenced, index: self.next_unsequenced };
-            if !self.send(report)? {
-                break;
-            }
             self.next_unsequenced += 1;
         }
         Ok(())
@@ -78,7 +75,7 @@ impl Door {
         for list in [FROM_OUTGOING, FROM_SEND_RELIABLE] {
             while self.may_send(list)? {
                 match self.link.send_step(list, clock)? {
-                    Some(step) => self.pack(&mut packing, &step, clock)?,
+                    Some(step) => self.pack(&mut packing, &step)?,
                     None => break,
                 }
             }
@@ -90,7 +87,7 @@ impl Door {
         Ok(())
     }
 
-    fn pack(&mut self, packing: &mut Packing, step: &Step, clock: u32) -> Fallible<()> {
+    fn pack(&mut self, packing: &mut Packing, step: &Step) -> Fallible<()> {
         let (report, payload) = self.outbox.payload(step)?;
         let command = self.link.write(&step.command)?;
         let number =
@@ -105,8 +102,6 @@ impl Door {
                 report.index,
                 step.attempts
             ))?;
-        } else if self.state == CONNECTING {
-            self.handshake.connect_sent.get_or_insert(clock);
         }
         Ok(())
     }

@@ -1,6 +1,6 @@
 //! faults: a network between door and gateway on loopback that loses, doubles and holds back datagrams, the same for the same seed.
 //!
-//! Words: gateway=ADDRESS log=FILE seconds= seed= loss= doubles= held= (percent) delay= outage_at= outage= (milliseconds) drop_back= drop_count=
+//! Words: gateway=ADDRESS log=FILE seconds= seed= loss= doubles= held= (percent) delay= outage_at= outage= (milliseconds)
 
 use door::fates::Faults;
 use door::logs::Log;
@@ -23,8 +23,6 @@ const KNOWN: &[&str] = &[
     "delay",
     "outage_at",
     "outage",
-    "drop_back",
-    "drop_count",
 ];
 
 /// One way through the network.
@@ -59,7 +57,7 @@ impl Network {
         let now = Instant::now();
         let at = now - *self.first.get_or_insert(now);
         way.count += 1;
-        let fate = self.faults.fate(&mut way.random, way.back, way.count, at.as_millis() as u64);
+        let fate = self.faults.fate(&mut way.random, at.as_millis() as u64);
         *self.fates.entry(format!("{}-{}", way.name, fate.word())).or_insert(0) += 1;
         // a way's datagrams are counted from 0 in logs, as the door counts them
         self.log.event(format_args!("{} {} {}", way.name, way.count - 1, fate.word()))?;
@@ -121,8 +119,6 @@ fn open(words: &Words) -> Fallible<Network> {
         delay: words.number("delay", 0)?,
         outage_at: words.number("outage_at", 0)?,
         outage: words.number("outage", 0)?,
-        drop_back: words.number("drop_back", 0)?,
-        drop_count: words.number("drop_count", 0)?,
     };
     let front = UdpSocket::bind("127.0.0.1:0").map_err(told("a socket"))?;
     let behind = UdpSocket::bind("127.0.0.1:0").map_err(told("a socket"))?;
