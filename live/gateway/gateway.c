@@ -2,25 +2,18 @@
  * the same reliability. Words: seconds= (it ends by itself), seed= (of the reports' bytes), patience= (after how many
  * milliseconds it gives a peer up, in place of ENet's 5,000), start= (counters, below), wrong= (a run that must fail).
  */
+#include "reports.h"
 #include <enet/enet.h>
-#include <signal.h>
 #include <stdio.h>
 #include <stdlib.h>
 #include <string.h>
-#include <time.h>
 #include <unistd.h>
 
 /* A door's link takes whole packets alone (C-11 is not built): what is longer than WHOLE comes back as its first HEAD bytes. */
 enum { WHOLE = 1000, HEAD = 48, CHANNELS = 2, WRONG_INDEX = 5 };
 
-static unsigned seconds = 60, seed = 1, start = 0, patience = 0;
+static unsigned seconds = 60, start = 0, patience = 0;
 static const char *wrong = "";
-
-static unsigned long long stamp(void) {
-    struct timespec now;
-    clock_gettime(CLOCK_REALTIME, &now);
-    return (unsigned long long)now.tv_sec * 1000000u + (unsigned long long)now.tv_nsec / 1000u;
-}
 
 static void read_words(int count, char **words) {
     for (int i = 1; i < count; i++) {
@@ -40,24 +33,6 @@ static void read_words(int count, char **words) {
             exit(2);
         }
     }
-}
-
-/* A report is its kind (R or U), its index in four bytes, and a pattern of seed, kind and index; the door makes the same. */
-static unsigned report_index(const ENetPacket *packet) {
-    const enet_uint8 *at = packet->data;
-    if (packet->dataLength < 5) return 0xffffffffu;
-    return (unsigned)at[1] << 24 | (unsigned)at[2] << 16 | (unsigned)at[3] << 8 | at[4];
-}
-
-static unsigned bytes_wrong(const ENetPacket *packet) {
-    unsigned state, count = 0;
-    if (packet->dataLength < 5) return 1;
-    state = (seed * 2654435761u) ^ (report_index(packet) * 40503u) ^ packet->data[0] ^ 0x9e3779b9u;
-    for (size_t i = 5; i < packet->dataLength; i++) {
-        state = state * 1664525u + 1013904223u;
-        if (packet->data[i] != (enet_uint8)(state >> 24)) count++;
-    }
-    return count;
 }
 
 /* Counters that turn over: both ends start theirs near the end. The door sets the link's by the bench's ops, this sets stock ENet's public
@@ -86,7 +61,7 @@ static void send_back(ENetPeer *peer, enet_uint8 channel, const ENetPacket *pack
 /* What comes back of reliable report WRONG_INDEX in a run that must fail; in any other run all goes back as it came. */
 static void answer(ENetPeer *peer, enet_uint8 channel, ENetPacket *packet) {
     static ENetPacket *later = NULL;
-    int here = packet->data[0] == 'R' && report_index(packet) == WRONG_INDEX;
+    int here = packet->data[0] == 'R' && report_index(packet->data, packet->dataLength) == WRONG_INDEX;
     if (here && !strcmp(wrong, "missing")) return;
     if (here && !strcmp(wrong, "swapped")) {
         later = enet_packet_create(packet->data, packet->dataLength, packet->flags);
@@ -104,8 +79,8 @@ static void answer(ENetPeer *peer, enet_uint8 channel, ENetPacket *packet) {
 
 static void receive(ENetEvent *event) {
     ENetPacket *packet = event->packet;
-    printf("%llu got %c %u %u %u %s %u\n", stamp(), packet->dataLength > 0 && packet->data[0] == 'U' ? 'U' : 'R', report_index(packet),
-           (unsigned)packet->dataLength, bytes_wrong(packet), packet->flags & ENET_PACKET_FLAG_RELIABLE ? "reliable" : "unsequenced",
+    printf("%llu got %c %u %u %u %s %u\n", stamp(), packet->dataLength > 0 && packet->data[0] == 'U' ? 'U' : 'R', report_index(packet->data, packet->dataLength),
+           (unsigned)packet->dataLength, bytes_wrong(packet->data, packet->dataLength), packet->flags & ENET_PACKET_FLAG_RELIABLE ? "reliable" : "unsequenced",
            (unsigned)event->channelID);
     if (packet->dataLength >= 5) answer(event->peer, event->channelID, packet);
     enet_packet_destroy(packet);

@@ -56,8 +56,8 @@ impl Door {
     fn command(&mut self, command: &Command, after: usize, datagram: &[u8]) -> Fallible<Next> {
         let connected = self.state == CONNECTED;
         Ok(match command.kind() {
-            1 => self.acknowledged(command)?.then(|| (after, Fate::NotAnswered)),
-            3 => self.verified(command)?.then(|| (after, Fate::Answered)),
+            1 => self.acknowledged(command)?.then_some((after, Fate::NotAnswered)),
+            3 => self.verified(command)?.then_some((after, Fate::Answered)),
             4 => {
                 self.count("disconnects");
                 self.end = Some(End::OtherEnd);

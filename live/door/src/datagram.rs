@@ -91,7 +91,7 @@ impl Packing {
 
     fn close(&mut self) {
         if self.commands > 0 {
-            let mut datagram = write_header(self.ids, self.asks.then(|| self.time));
+            let mut datagram = write_header(self.ids, self.asks.then_some(self.time));
             datagram.append(&mut self.body);
             self.done.push(datagram);
         }

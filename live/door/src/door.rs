@@ -102,6 +102,7 @@ pub struct Door {
     pub incoming: Incoming,
     /// Acknowledgements that go out with the next datagram.
     pub answers: Vec<Command>,
+    /// How many reports of each kind were sent.
     pub next_reliable: u32,
     pub next_unsequenced: u32,
     pub back: Back,
@@ -124,13 +125,7 @@ impl Door {
         log: Log,
     ) -> Fallible<Door> {
         socket.set_read_timeout(Some(Duration::from_millis(1))).map_err(told("the socket"))?;
-        let handshake = Handshake::begin(
-            &mut link,
-            plan.mtu,
-            plan.channels,
-            plan.window,
-            crate::clock::stamp() as u32 | 1,
-        )?;
+        let handshake = Handshake::begin(&mut link, &plan)?;
         let mut outbox = Outbox::default();
         outbox.keep(None, Vec::new(), 1);
         let (mtu, now) = (plan.mtu, clock.now());
@@ -260,7 +255,7 @@ impl Door {
     /// Stock ENet forgets a peer once it has acknowledged its disconnect, so where that answer is lost no other comes.
     fn end_of_leaving(&mut self) {
         if self.end.is_none()
-            && self.leaving.map_or(false, |since| self.clock.elapsed() - since > FAREWELL)
+            && self.leaving.is_some_and(|since| self.clock.elapsed() - since > FAREWELL)
         {
             self.count("disconnects-unanswered");
             self.end = Some(End::Left);

@@ -2,7 +2,9 @@
 //!
 //! Ids, sessions, connect id and window have no call in document 01 and no call reads them: the host keeps them here.
 
+use crate::clock::stamp;
 use crate::datagram::{Ids, NO_PEER_ID};
+use crate::door::Plan;
 use crate::link::{Command, Link, ASKS_FOR_ACKNOWLEDGEMENT};
 use crate::look::Look;
 use crate::Fallible;
@@ -32,34 +34,28 @@ pub enum Verified {
 
 impl Handshake {
     /// Queues the connect command on a fresh record.
-    pub fn begin(
-        link: &mut Link,
-        mtu: u32,
-        channels: u32,
-        window: u32,
-        connect_id: u32,
-    ) -> Fallible<Handshake> {
+    pub fn begin(link: &mut Link, plan: &Plan) -> Fallible<Handshake> {
         link.reset()?;
-        link.begin(mtu, channels)?;
+        link.begin(plan.mtu, plan.channels)?;
         link.set_state(CONNECTING)?;
         let look = link.look()?;
-        let (interval, up, down) =
-            (look.throttle_interval, look.throttle_acceleration, look.throttle_deceleration);
-        let fields = vec![
+        let connect_id = stamp() as u32;
+        let mut fields = vec![
             u32::from(OWN_PEER_ID),
             NO_SESSION,
             NO_SESSION,
-            mtu,
-            window,
-            channels,
-            0,
-            0,
-            interval,
-            up,
-            down,
-            connect_id,
-            0,
+            plan.mtu,
+            plan.window,
+            plan.channels,
         ];
+        fields.extend([
+            0,
+            0,
+            look.throttle_interval,
+            look.throttle_acceleration,
+            look.throttle_deceleration,
+        ]);
+        fields.extend([connect_id, 0]);
         let connect =
             Command { byte: 2 | ASKS_FOR_ACKNOWLEDGEMENT, channel: PEER_ITSELF, number: 0, fields };
         link.setup(&connect)?.done("setup of the connect")?;
@@ -68,7 +64,7 @@ impl Handshake {
             outgoing_session_id: 255,
             incoming_session_id: 255,
         };
-        Ok(Handshake { ids, window, connect_id })
+        Ok(Handshake { ids, window: plan.window, connect_id })
     }
 
     /// The verify's fields: peer id, sessions, MTU, window, channels, bandwidths, throttle's three, connect id.

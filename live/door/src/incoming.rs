@@ -57,7 +57,7 @@ impl Door {
             return Ok(false);
         }
         let last = self.link.look()?.last_numbers.get(command.channel as usize).copied();
-        Ok(last.map_or(false, |last| command.number != (last + 1) & 0xffff))
+        Ok(last.is_some_and(|last| command.number != (last + 1) & 0xffff))
     }
 
     fn put_aside(&mut self, command: &Command, place: usize, datagram: &[u8]) -> Fate {

@@ -115,39 +115,56 @@ pub fn counted(
 pub enum Expected {
     /// Every reliable report at both ends once, in order and unchanged; no unsequenced one twice; and the door left by itself.
     Whole,
+    /// Nothing that was counted is wrong; whether the link holds is left open.
+    Sound,
     /// One end gives the other up; nothing that was counted before is wrong.
     Lost,
     /// The judge finds something wrong: a run that must fail.
     Wrong,
 }
 
-/// What is not as expected, in words; nothing where all is.
+/// What is wrong with a run, in words, and what it was to show and did not.
+#[derive(Debug, Default, PartialEq)]
+pub struct Objections {
+    pub wrong: Vec<String>,
+    pub not_shown: Vec<String>,
+}
+
+pub fn is_lost(door: &[Vec<String>], gateway: &[Vec<String>]) -> bool {
+    [door, gateway].iter().any(|log| sum_of(log, "end").as_deref() == Some("given-up"))
+}
+
+/// Nothing where all is as expected. `needs` names sums of the door's log that must not be 0.
 pub fn objections(
     expected: Expected,
     ends: [&Verdict; 2],
-    door: &[Vec<String>],
-    gateway: &[Vec<String>],
-) -> Vec<String> {
+    logs: [&[Vec<String>]; 2],
+    needs: &str,
+) -> Objections {
     let faults: Vec<String> = ends.iter().flat_map(|end| end.faults()).collect();
-    let (left, given_up) = (sum_of(door, "end"), sum_of(gateway, "end"));
-    let lost = left.as_deref() == Some("given-up") || given_up.as_deref() == Some("given-up");
+    let sound = ends.iter().all(|end| end.is_sound());
+    let needs = needs.split(',').filter(|name| !name.is_empty());
+    let unmet =
+        needs.filter(|name| count_of(logs[0], name) == 0).map(|name| format!("{name} is 0"));
+    let mut said = Objections { wrong: vec![], not_shown: unmet.collect() };
+    let end = sum_of(logs[0], "end").unwrap_or_default();
     match expected {
-        Expected::Whole if left.as_deref() != Some("left") => faults
-            .into_iter()
-            .chain([format!("the door ended as '{}'", left.unwrap_or_default())])
-            .collect(),
-        Expected::Whole => faults,
-        Expected::Lost if !lost => vec!["the link was not lost".to_string()],
-        Expected::Lost if !ends.iter().all(|end| end.is_sound()) => faults,
-        Expected::Wrong if faults.is_empty() => vec!["nothing was found wrong".to_string()],
-        _ => vec![],
+        Expected::Whole => {
+            said.wrong = faults;
+            if end != "left" {
+                said.wrong.push(format!("the door ended as '{end}'"));
+            }
+        }
+        Expected::Sound | Expected::Lost if !sound => said.wrong = faults,
+        Expected::Lost if !is_lost(logs[0], logs[1]) => {
+            said.not_shown.push("the link was not lost".to_string())
+        }
+        Expected::Wrong if faults.is_empty() => {
+            said.not_shown.push("nothing was found wrong".to_string())
+        }
+        _ => {}
     }
-}
-
-/// The door's sums that must not be 0 for a run to show what it is for.
-pub fn unmet(needs: &str, door: &[Vec<String>]) -> Vec<String> {
-    let names = needs.split(',').filter(|name| !name.is_empty());
-    names.filter(|name| count_of(door, name) == 0).map(|name| format!("{name} is 0")).collect()
+    said
 }
 
 #[cfg(test)]
@@ -189,19 +206,29 @@ mod tests {
 
     #[test]
     fn expectations_can_fail() {
-        let log = |end: &str| vec![vec!["end".to_string(), end.to_string()]];
-        let (whole, doubled) = (verdict("R0 R1 R2"), verdict("R0 R1 R1 R2"));
-        let say = |expected, end: &Verdict, door: &str| {
-            objections(expected, [end, &verdict("R0 R1 R2")], &log(door), &log("left"))
+        let log = |end: &str| {
+            vec![
+                vec!["end".to_string(), end.to_string()],
+                vec!["kept".to_string(), "3".to_string()],
+            ]
         };
-        assert!(say(Expected::Whole, &whole, "left").is_empty());
-        assert!(!say(Expected::Whole, &doubled, "left").is_empty());
-        assert!(!say(Expected::Whole, &whole, "late").is_empty());
-        assert!(say(Expected::Lost, &whole, "given-up").is_empty());
-        assert!(!say(Expected::Lost, &doubled, "given-up").is_empty());
-        assert!(!say(Expected::Lost, &whole, "left").is_empty());
-        assert!(say(Expected::Wrong, &doubled, "left").is_empty());
-        assert!(!say(Expected::Wrong, &whole, "left").is_empty());
-        assert_eq!(unmet("kept,end", &[vec!["kept".to_string(), "3".to_string()]]), ["end is 0"]);
+        let (whole, doubled, missing) =
+            (verdict("R0 R1 R2"), verdict("R0 R1 R1 R2"), verdict("R0 R1"));
+        let say = |expected, end: &Verdict, door: &str, needs: &str| {
+            let said = objections(expected, [end, &whole], [&log(door), &log("left")], needs);
+            (said.wrong.is_empty(), said.not_shown.is_empty())
+        };
+        assert_eq!(say(Expected::Whole, &whole, "left", "kept"), (true, true));
+        assert_eq!(say(Expected::Whole, &whole, "left", "kept,pings"), (true, false));
+        assert_eq!(say(Expected::Whole, &doubled, "left", ""), (false, true));
+        assert_eq!(say(Expected::Whole, &missing, "left", ""), (false, true));
+        assert_eq!(say(Expected::Whole, &whole, "late", ""), (false, true));
+        assert_eq!(say(Expected::Sound, &missing, "given-up", ""), (true, true));
+        assert_eq!(say(Expected::Sound, &doubled, "left", ""), (false, true));
+        assert_eq!(say(Expected::Lost, &missing, "given-up", ""), (true, true));
+        assert_eq!(say(Expected::Lost, &doubled, "given-up", ""), (false, true));
+        assert_eq!(say(Expected::Lost, &whole, "left", ""), (true, false));
+        assert_eq!(say(Expected::Wrong, &doubled, "left", ""), (true, true));
+        assert_eq!(say(Expected::Wrong, &whole, "left", ""), (true, false));
     }
 }

@@ -66,7 +66,7 @@ impl Outbox {
 /// How many commands a send queues: one, or pieces of the fragment length, MTU less 28.
 pub fn commands_of(length: usize, mtu: u32) -> u32 {
     let fragment = mtu as usize - 28;
-    ((length + fragment - 1) / fragment).max(1) as u32
+    length.div_ceil(fragment).max(1) as u32
 }
 
 #[cfg(test)]

@@ -235,52 +235,34 @@ fn none_or(count: usize) -> String {
     }
 }
 
+/// Reports of a kind: sent, counted, counted twice, and whether in order.
+fn count_kind(story: &Story, kind: Kind) -> (usize, usize, usize, bool) {
+    let sent = story.sendings.iter().map(|sending| sending.report);
+    let sent: BTreeSet<Name> = sent.filter(|name| name.kind == kind).collect();
+    let counted = story.counted.iter().map(|counted| counted.0);
+    let counted: Vec<Name> = counted.filter(|name| name.kind == kind).collect();
+    let distinct = counted.iter().collect::<BTreeSet<_>>().len();
+    let in_order = counted.windows(2).all(|pair| pair[0].index < pair[1].index);
+    (sent.len(), distinct, counted.len() - distinct, in_order)
+}
+
 /// What it all comes to.
 fn counts(story: &Story) -> [String; 3] {
-    let of = |kind: Kind| {
-        let sent: BTreeSet<Name> = story
-            .sendings
-            .iter()
-            .map(|sending| sending.report)
-            .filter(|name| name.kind == kind)
-            .collect();
-        let counted: Vec<Name> = story
-            .counted
-            .iter()
-            .map(|counted| counted.0)
-            .filter(|name| name.kind == kind)
-            .collect();
-        let distinct = counted.iter().collect::<BTreeSet<_>>().len();
-        let in_order = counted.windows(2).all(|pair| pair[0].index < pair[1].index);
-        (sent.len(), distinct, counted.len() - distinct, in_order)
-    };
-    let (reliable, unsequenced) = (of(Kind::Reliable), of(Kind::Unsequenced));
+    let (sent, counted, twice, in_order) = count_kind(story, Kind::Reliable);
+    let (twice, order) = (none_or(twice), if in_order { "in order" } else { "NOT in order" });
+    let reliable = format!(
+        "Reliable: {sent} reports sent, {counted} counted by the gateway, {twice} twice, {order}."
+    );
+    let (sent, counted, twice, _) = count_kind(story, Kind::Unsequenced);
+    let (twice, lost) = (none_or(twice), none_or(sent - counted));
+    let unsequenced = format!("Unsequenced: {sent} reports sent, {counted} counted by the gateway, {twice} twice, {lost} lost.");
     let fates = |word: &str| story.sendings.iter().filter(|sending| sending.fate == word).count();
+    let (lost, doubled, held) = (fates("lost"), fates("twice"), fates("held"));
     let again = story.sendings.iter().filter(|sending| sending.again).count();
     let arrivals = story.sendings.iter().flat_map(|sending| &sending.arrivals);
-    let passed_over = arrivals.filter(|arrival| arrival.passed_over).count();
-    [
-        format!(
-            "Reliable: {} reports sent, {} counted by the gateway, {} twice, {}.",
-            reliable.0,
-            reliable.1,
-            none_or(reliable.2),
-            if reliable.3 { "in order" } else { "NOT in order" }
-        ),
-        format!(
-            "Unsequenced: {} reports sent, {} counted by the gateway, {} twice, {} lost.",
-            unsequenced.0,
-            unsequenced.1,
-            none_or(unsequenced.2),
-            none_or(unsequenced.0 - unsequenced.1)
-        ),
-        format!(
-            "On the way: {} dropped, {} doubled, {} held back, {again} sent again, {passed_over} repeats passed over.",
-            fates("lost"),
-            fates("twice"),
-            fates("held")
-        ),
-    ]
+    let over = arrivals.filter(|arrival| arrival.passed_over).count();
+    let way = format!("On the way: {lost} dropped, {doubled} doubled, {held} held back, {again} sent again, {over} repeats passed over.");
+    [reliable, unsequenced, way]
 }
 
 fn draw_words(sheet: &mut Sheet, story: &Story) {

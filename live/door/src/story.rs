@@ -65,7 +65,7 @@ fn mark_repeats(sendings: &mut [Sending]) {
     }
     for sending in sendings.iter_mut() {
         for arrival in &mut sending.arrivals {
-            arrival.passed_over = first.get(&sending.report).map_or(false, |at| arrival.at > *at);
+            arrival.passed_over = first.get(&sending.report).is_some_and(|at| arrival.at > *at);
         }
     }
 }

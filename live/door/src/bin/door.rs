@@ -8,6 +8,7 @@ use door::incoming::Room;
 use door::link::Link;
 use door::logs::Log;
 use door::look::{Look, OUTGOING_SLOTS};
+use door::reports::SHORT;
 use door::words::Words;
 use door::{told, Fallible};
 use std::net::UdpSocket;
@@ -41,12 +42,22 @@ fn choice<T: Copy>(words: &Words, name: &str, choices: &[(&str, T)]) -> Fallible
     found.map(|choice| choice.1).ok_or(format!("{name}={text} is no choice"))
 }
 
+const ROOMS: &[(&str, Room)] =
+    &[("packets", Room::KeepPackets), ("last", Room::KeepLast), ("all", Room::TakeAll)];
+const CHECKS: &[(&str, Checks)] =
+    &[("turn", Checks::EveryTurn), ("due", Checks::OnceDue), ("compared", Checks::Compared)];
+const ANSWERS: &[(&str, Answers)] = &[
+    ("right", Answers::StoredAndPassedOver),
+    ("stored-only", Answers::StoredOnly),
+    ("refused-too", Answers::RefusedToo),
+];
+
 fn plan(words: &Words) -> Fallible<Plan> {
     let window = words.number("window", 0)?;
     Ok(Plan {
         reliable: words.number("reliable", 500)?,
         unsequenced: words.number("unsequenced", 500)?,
-        length: words.number("length", 48)?,
+        length: words.number("length", SHORT)?,
         seed: words.number("seed", 1)?,
         pace: words.number("pace", 2)?,
         mtu: words.number("mtu", 1392)?,
@@ -54,29 +65,9 @@ fn plan(words: &Words) -> Fallible<Plan> {
         window: if window == 0 { 65_536 } else { window },
         uses_window: window != 0,
         spare: words.number("spare", 12)?,
-        room: choice(
-            words,
-            "room",
-            &[("packets", Room::KeepPackets), ("last", Room::KeepLast), ("all", Room::TakeAll)],
-        )?,
-        checks: choice(
-            words,
-            "checks",
-            &[
-                ("turn", Checks::EveryTurn),
-                ("due", Checks::OnceDue),
-                ("compared", Checks::Compared),
-            ],
-        )?,
-        answers: choice(
-            words,
-            "answers",
-            &[
-                ("right", Answers::StoredAndPassedOver),
-                ("stored-only", Answers::StoredOnly),
-                ("refused-too", Answers::RefusedToo),
-            ],
-        )?,
+        room: choice(words, "room", ROOMS)?,
+        checks: choice(words, "checks", CHECKS)?,
+        answers: choice(words, "answers", ANSWERS)?,
         start: words.number("start", 0)?,
         stay: Duration::from_millis(words.number("stay", 300)?),
         limit: Duration::from_secs(words.number("seconds", 30)?),
@@ -106,7 +97,7 @@ fn compare(door: &mut Door) -> Fallible<()> {
 /// Counters that started near their end, and are past it now.
 fn turned_over(door: &mut Door, look: &Look) {
     let start = door.plan.start;
-    let below = |number: Option<&u32>| u64::from(number.map_or(false, |number| *number < start));
+    let below = |number: Option<&u32>| u64::from(number.is_some_and(|number| *number < start));
     door.most("numbers-out-turned", below(look.given_numbers.first()));
     door.most("numbers-back-turned", below(look.last_numbers.first()));
     door.most("groups-out-turned", below(Some(&look.outgoing_group)));

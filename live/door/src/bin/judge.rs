@@ -1,8 +1,8 @@
-//! judge: one line of the table from a run's three logs; it fails where the run is not what it should be.
+//! judge: one line of the table from a run's logs. 1 where something is wrong, 4 where the run did not show what it is for.
 //!
-//! Words: room=FOLDER name= expect=whole|lost|wrong reliable= unsequenced= length= needs=SUM,SUM shows=SUM,SUM; `judge head=1` says the columns.
+//! Words: room=FOLDER name= expect=whole|sound|lost|wrong reliable= unsequenced= length= needs=SUM,SUM shows=SUM,SUM; `judge head=1` says the columns.
 
-use door::judge::{counted, judge, objections, unmet, Expected, Sent, Verdict};
+use door::judge::{counted, is_lost, judge, objections, Expected, Objections, Sent, Verdict};
 use door::logs::{count_of, read};
 use door::reports::{length_back, length_out, SHORT};
 use door::words::Words;
@@ -37,11 +37,36 @@ fn pair(verdict: &Verdict) -> String {
     format!("{}+{}", verdict.reliable, verdict.unsequenced)
 }
 
-fn run() -> Fallible<bool> {
+fn expected(words: &Words) -> Fallible<Expected> {
+    Ok(match words.text("expect", "whole").as_str() {
+        "whole" => Expected::Whole,
+        "sound" => Expected::Sound,
+        "lost" => Expected::Lost,
+        "wrong" => Expected::Wrong,
+        other => return Err(format!("expect={other} is no choice")),
+    })
+}
+
+/// The end of a line: green, or what is against it.
+fn say(expected: Expected, against: &Objections, faults: &[String], lost: bool) -> String {
+    match expected {
+        _ if !against.wrong.is_empty() => format!("RED: {}", against.wrong.join(", ")),
+        _ if !against.not_shown.is_empty() => {
+            format!("RED, not shown: {}", against.not_shown.join(", "))
+        }
+        Expected::Whole => "green".to_string(),
+        Expected::Sound if lost => "green, but the link is lost".to_string(),
+        Expected::Sound => "green".to_string(),
+        Expected::Lost => "green: the link is lost, as it must".to_string(),
+        Expected::Wrong => format!("green: found wrong, as it must: {}", faults.join(", ")),
+    }
+}
+
+fn run() -> Fallible<i32> {
     let words = Words::read(std::env::args(), KNOWN)?;
     if words.number("head", 0)? == 1 {
         println!("{}", head());
-        return Ok(true);
+        return Ok(0);
     }
     let room = PathBuf::from(words.text("room", "."));
     let (door, gateway) = (read(&room.join("door.log"))?, read(&room.join("gateway.log"))?);
@@ -52,27 +77,19 @@ fn run() -> Fallible<bool> {
     let length = words.number("length", SHORT)?;
     let there = judge(&counted(&gateway, "got", |kind| length_out(kind, length))?, sent);
     let back = judge(&counted(&door, "back", |kind| length_back(kind, length))?, sent);
-    let expected = match words.text("expect", "whole").as_str() {
-        "whole" => Expected::Whole,
-        "lost" => Expected::Lost,
-        "wrong" => Expected::Wrong,
-        other => return Err(format!("expect={other} is no choice")),
-    };
-    let mut against = objections(expected, [&there, &back], &door, &gateway);
-    against.extend(unmet(&words.text("needs", ""), &door));
-    let verdict = match (against.is_empty(), expected) {
-        (false, _) => format!("RED: {}", against.join(", ")),
-        (true, Expected::Whole) => "green".to_string(),
-        (true, Expected::Lost) => "green: the link is lost, as it must".to_string(),
-        (true, Expected::Wrong) => format!(
-            "green: found wrong, as it must: {}",
-            [there.faults(), back.faults()].concat().join(", ")
-        ),
-    };
+    let expected = expected(&words)?;
+    let against =
+        objections(expected, [&there, &back], [&door, &gateway], &words.text("needs", ""));
+    let verdict = say(
+        expected,
+        &against,
+        &[there.faults(), back.faults()].concat(),
+        is_lost(&door, &gateway),
+    );
     let seen = shown(&words, &door);
     let rest = if seen.is_empty() { verdict } else { format!("{verdict} ({seen})") };
     println!("{}", row(&words.text("name", "run"), cells(&door, &there, &back), &rest));
-    Ok(against.is_empty())
+    Ok(if !against.wrong.is_empty() { 1 } else { 4 * i32::from(!against.not_shown.is_empty()) })
 }
 
 fn cells(door: &[Vec<String>], there: &Verdict, back: &Verdict) -> [String; 8] {
@@ -97,12 +114,8 @@ fn cells(door: &[Vec<String>], there: &Verdict, back: &Verdict) -> [String; 8] {
 }
 
 fn main() {
-    match run() {
-        Ok(true) => {}
-        Ok(false) => std::process::exit(1),
-        Err(error) => {
-            eprintln!("judge: {error}");
-            std::process::exit(2);
-        }
-    }
+    std::process::exit(run().unwrap_or_else(|error| {
+        eprintln!("judge: {error}");
+        2
+    }));
 }
