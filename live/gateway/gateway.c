@@ -1,6 +1,7 @@
 /* The gateway: stock ENet (Debian's libenet) on loopback. It accepts one peer, prints what it gets, and sends it back on the same channel with
  * the same reliability. Words: seconds= (it ends by itself), seed= (of the reports' bytes), patience= (after how many
- * milliseconds it gives a peer up, in place of ENet's 5,000), start= (counters, below), wrong= (a run that must fail).
+ * milliseconds it gives a peer up, in place of ENet's 5,000), leave= (it disconnects after so many reports), start= (counters, below),
+ * wrong= (a run that must fail).
  */
 #include "reports.h"
 #include <enet/enet.h>
@@ -12,7 +13,7 @@
 /* A door's link takes whole packets alone (C-11 is not built): what is longer than WHOLE comes back as its first HEAD bytes. */
 enum { WHOLE = 1000, HEAD = 48, CHANNELS = 2, WRONG_INDEX = 5 };
 
-static unsigned seconds = 60, start = 0, patience = 0;
+static unsigned seconds = 60, start = 0, patience = 0, leave = 0;
 static const char *wrong = "";
 
 static void read_words(int count, char **words) {
@@ -26,6 +27,7 @@ static void read_words(int count, char **words) {
         if (!strcmp(words[i], "seconds")) seconds = (unsigned)strtoul(value, NULL, 10);
         else if (!strcmp(words[i], "seed")) seed = (unsigned)strtoul(value, NULL, 10);
         else if (!strcmp(words[i], "patience")) patience = (unsigned)strtoul(value, NULL, 10);
+        else if (!strcmp(words[i], "leave")) leave = (unsigned)strtoul(value, NULL, 10);
         else if (!strcmp(words[i], "start")) start = (unsigned)strtoul(value, NULL, 10);
         else if (!strcmp(words[i], "wrong")) wrong = value;
         else {
@@ -96,26 +98,35 @@ static ENetHost *open_host(void) {
     return host;
 }
 
-/* Ends when its peer leaves or is given up, or at its limit. Only a peer that leaves names a reason, and the door's is 13. */
+static void connected(ENetPeer *peer) {
+    printf("%llu connected\n", stamp());
+    if (patience != 0) enet_peer_timeout(peer, ENET_PEER_TIMEOUT_LIMIT, patience, 6 * patience);
+    /* Without deceleration stock drops no unsequenced packet by itself, so that what is lost is lost on the way. The door gets it as a
+     * command for which the link has no call; a bandwidth limit, another one, stock sends by itself. */
+    enet_peer_throttle_configure(peer, ENET_PEER_PACKET_THROTTLE_INTERVAL, ENET_PEER_PACKET_THROTTLE_ACCELERATION, 0);
+}
+
+/* Ends when its peer leaves or is given up, or at its limit. A door that leaves names 13 as its reason; where the gateway itself leaves,
+ * a second is more than an answer takes. */
 static const char *serve(ENetHost *host) {
-    unsigned long long end = stamp() + seconds * 1000000ull;
+    unsigned long long end = stamp() + seconds * 1000000ull, left = 0;
+    unsigned count = 0;
     ENetEvent event;
     while (stamp() < end) {
         if (enet_host_service(host, &event, 20) <= 0) continue;
-        if (event.type == ENET_EVENT_TYPE_CONNECT) {
-            printf("%llu connected\n", stamp());
-            if (patience != 0) enet_peer_timeout(event.peer, ENET_PEER_TIMEOUT_LIMIT, patience, 6 * patience);
-            /* Without deceleration stock drops no unsequenced packet by itself, so that what is lost is lost on the way. The door gets it as
-             * a command for which the link has no call; a bandwidth limit, another one, stock sends by itself. */
-            enet_peer_throttle_configure(event.peer, ENET_PEER_PACKET_THROTTLE_INTERVAL, ENET_PEER_PACKET_THROTTLE_ACCELERATION, 0);
-        }
+        if (event.type == ENET_EVENT_TYPE_CONNECT) connected(event.peer);
         if (event.type == ENET_EVENT_TYPE_RECEIVE) receive(&event);
-        if (event.type == ENET_EVENT_TYPE_DISCONNECT) return event.data == 13 ? "left" : "given-up";
+        if (event.type == ENET_EVENT_TYPE_RECEIVE && ++count == leave) {
+            left = stamp();
+            enet_peer_disconnect(event.peer, 0);
+        }
+        if (event.type == ENET_EVENT_TYPE_DISCONNECT) return event.data == 13 || stamp() - left < 1000000u ? "left" : "given-up";
     }
     return "late";
 }
 
 int main(int count, char **words) {
+    ENetVersion version = enet_linked_version();
     ENetHost *host;
     read_words(count, words);
     alarm(seconds + 5);
@@ -126,6 +137,7 @@ int main(int count, char **words) {
         return 2;
     }
     printf("port %u\n", (unsigned)host->address.port);
+    printf("enet %u.%u.%u\n", ENET_VERSION_GET_MAJOR(version), ENET_VERSION_GET_MINOR(version), ENET_VERSION_GET_PATCH(version));
     printf("end %s\n", serve(host));
     enet_host_flush(host);
     enet_host_destroy(host);

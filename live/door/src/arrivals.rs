@@ -117,6 +117,7 @@ impl Door {
         self.outbox.clear();
         let look = self.link.look()?;
         self.mtu = look.mtu;
+        self.ping_interval = look.ping_interval;
         self.most("channels", u64::from(look.channel_count));
         if self.plan.start != 0 {
             self.link.start_counters(look.channel_count, self.plan.start)?;

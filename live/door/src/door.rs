@@ -98,6 +98,7 @@ pub struct Door {
     pub handshake: Handshake,
     pub state: u32,
     pub mtu: u32,
+    pub ping_interval: u32,
     pub outbox: Outbox,
     pub incoming: Incoming,
     /// Acknowledgements that go out with the next datagram.
@@ -139,6 +140,7 @@ impl Door {
             handshake,
             state: CONNECTING,
             mtu,
+            ping_interval: 0,
             outbox,
             answers: Vec::new(),
             next_reliable: 0,

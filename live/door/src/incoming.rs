@@ -48,7 +48,8 @@ impl Door {
         if self.must_wait(command)? {
             return Ok(self.put_aside(command, place, datagram));
         }
-        self.hand_in(command, place, datagram)
+        let reply = self.hand_in(command, place, datagram)?;
+        Ok(self.fate(&reply))
     }
 
     /// With one slot left, only a next number may have it: it is dispatched and received at once, and the slot is free again.
@@ -79,18 +80,18 @@ impl Door {
         }
     }
 
-    fn hand_in(&mut self, command: &Command, place: usize, datagram: &[u8]) -> Fallible<Fate> {
+    fn hand_in(&mut self, command: &Command, place: usize, datagram: &[u8]) -> Fallible<Reply> {
         let reply = self.link.reliable_arrival(command, place, datagram)?;
-        let fate = self.tally(&reply);
+        self.tally(&reply);
         self.receive()?;
-        Ok(fate)
+        Ok(reply)
     }
 
-    /// What was kept goes in when it is the next number; what is a repeat by now the link passes over.
+    /// What was kept goes in when it is the next number; what is a repeat by now the link passes over. It was answered, so none may be refused.
     pub fn hand_in_kept(&mut self) -> Fallible<()> {
         while let Some((command, payload)) = self.next_kept()? {
             self.count("handed-in-later");
-            self.hand_in(&command, 0, &payload)?;
+            self.hand_in(&command, 0, &payload)?.done("a packet that was kept and answered")?;
         }
         Ok(())
     }
@@ -116,34 +117,34 @@ impl Door {
         datagram: &[u8],
     ) -> Fallible<Fate> {
         let reply = self.link.unsequenced_arrival(command, place, datagram)?;
-        let fate = self.tally(&reply);
+        self.tally(&reply);
         self.receive()?;
-        Ok(fate)
+        Ok(self.fate(&reply))
     }
 
-    fn tally(&mut self, reply: &Reply) -> Fate {
+    fn tally(&mut self, reply: &Reply) {
         match reply {
             Reply::Done(values) if values[..] == [1] => {
                 self.incoming.held += 1;
                 self.most("most-held", self.incoming.held as u64);
-                Fate::Answered
             }
-            Reply::Done(_) => {
-                self.count("passed-over");
-                if self.plan.answers == Answers::StoredOnly {
-                    Fate::NotAnswered
-                } else {
-                    Fate::Answered
-                }
-            }
-            Reply::Refused(number) => {
-                self.count(if *number == NO_ROOM { "refused-8" } else { "refused-other" });
-                if self.plan.answers == Answers::RefusedToo {
-                    Fate::Answered
-                } else {
-                    Fate::NotAnswered
-                }
-            }
+            Reply::Done(_) => self.count("passed-over"),
+            Reply::Refused(NO_ROOM) => self.count("refused-8"),
+            Reply::Refused(_) => self.count("refused-other"),
+        }
+    }
+
+    /// The right plan answers stored and passed over; the others are the mistakes that a run shows.
+    fn fate(&self, reply: &Reply) -> Fate {
+        let answers = match (reply, self.plan.answers) {
+            (Reply::Done(values), Answers::StoredOnly) => values[..] == [1],
+            (Reply::Done(_), _) => true,
+            (Reply::Refused(_), answers) => answers == Answers::RefusedToo,
+        };
+        if answers {
+            Fate::Answered
+        } else {
+            Fate::NotAnswered
         }
     }
 

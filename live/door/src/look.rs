@@ -7,9 +7,7 @@ pub const INCOMING_SLOTS: usize = 12;
 
 #[derive(Debug, Default, Clone, PartialEq)]
 pub struct Look {
-    pub state: u32,
     pub channel_count: u32,
-    pub last_receive_time: u32,
     pub next_timeout: u32,
     pub packet_throttle: u32,
     pub throttle_acceleration: u32,
@@ -78,9 +76,7 @@ pub fn look(row: &[u32]) -> Fallible<Look> {
         rest.list()?;
     }
     Ok(Look {
-        state: peer[5],
         channel_count: peer[6],
-        last_receive_time: peer[14],
         next_timeout: peer[15],
         packet_throttle: peer[22],
         throttle_acceleration: peer[26],

@@ -8,7 +8,6 @@ use crate::outbox::commands_of;
 use crate::reports::{bytes, length_out, Kind, Name};
 use crate::{told, Fallible};
 
-const PING_INTERVAL: u32 = 500;
 const THROTTLE_SCALE: u32 = 32;
 
 impl Door {
@@ -50,8 +49,8 @@ impl Door {
     /// In silence a ping goes out at every interval, while reports wait too: its acknowledgement is what resets the earliest timeout.
     pub fn ping_in_silence(&mut self) -> Fallible<()> {
         let now = self.clock.now();
-        let silent = self.link.distance(now, self.last_heard)? >= PING_INTERVAL;
-        if !silent || self.link.distance(now, self.last_ping)? < PING_INTERVAL {
+        let silent = self.link.distance(now, self.last_heard)? >= self.ping_interval;
+        if !silent || self.link.distance(now, self.last_ping)? < self.ping_interval {
             return Ok(());
         }
         self.last_ping = now;
