@@ -60,7 +60,7 @@ static void send_back(ENetPeer *peer, enet_uint8 channel, const ENetPacket *pack
     if (back != NULL && enet_peer_send(peer, channel, back) < 0) enet_packet_destroy(back);
 }
 
-/* What comes back of reliable report WRONG_INDEX in a run that must fail; in any other run all goes back as it came. */
+/* What comes back of report WRONG_INDEX in a run that must fail; in any other run all goes back as it came. */
 static void answer(ENetPeer *peer, enet_uint8 channel, ENetPacket *packet) {
     static ENetPacket *later = NULL;
     int here = packet->data[0] == 'R' && report_index(packet->data, packet->dataLength) == WRONG_INDEX;
@@ -71,6 +71,8 @@ static void answer(ENetPeer *peer, enet_uint8 channel, ENetPacket *packet) {
     }
     if (here && !strcmp(wrong, "changed")) packet->data[packet->dataLength - 1] ^= 1;
     send_back(peer, channel, packet);
+    if (packet->data[0] == 'U' && !strcmp(wrong, "twice") && report_index(packet->data, packet->dataLength) == WRONG_INDEX)
+        send_back(peer, channel, packet);
     if (here && !strcmp(wrong, "doubled")) send_back(peer, channel, packet);
     if (later != NULL && packet->data[0] == 'R') {
         send_back(peer, channel, later);

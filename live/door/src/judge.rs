@@ -123,6 +123,13 @@ pub enum Expected {
     Wrong,
 }
 
+/// What is asked of a run: `needs` names sums of the door's log that must not be 0, `fault` what must be found wrong in one that must fail.
+pub struct Asked {
+    pub expected: Expected,
+    pub needs: String,
+    pub fault: String,
+}
+
 /// What is wrong with a run, in words, and what it was to show and did not.
 #[derive(Debug, Default, PartialEq)]
 pub struct Objections {
@@ -134,21 +141,17 @@ pub fn is_lost(door: &[Vec<String>], gateway: &[Vec<String>]) -> bool {
     [door, gateway].iter().any(|log| sum_of(log, "end").as_deref() == Some("given-up"))
 }
 
-/// Nothing where all is as expected. `needs` names sums of the door's log that must not be 0.
-pub fn objections(
-    expected: Expected,
-    ends: [&Verdict; 2],
-    logs: [&[Vec<String>]; 2],
-    needs: &str,
-) -> Objections {
+/// Nothing where all is as asked.
+pub fn objections(asked: &Asked, ends: [&Verdict; 2], logs: [&[Vec<String>]; 2]) -> Objections {
     let faults: Vec<String> = ends.iter().flat_map(|end| end.faults()).collect();
     let sound = ends.iter().all(|end| end.is_sound());
-    let needs = needs.split(',').filter(|name| !name.is_empty());
+    let needs = asked.needs.split(',').filter(|name| !name.is_empty());
     let unmet =
         needs.filter(|name| count_of(logs[0], name) == 0).map(|name| format!("{name} is 0"));
     let mut said = Objections { wrong: vec![], not_shown: unmet.collect() };
     let end = sum_of(logs[0], "end").unwrap_or_default();
-    match expected {
+    let found = faults.iter().any(|fault| fault.contains(&asked.fault));
+    match asked.expected {
         Expected::Whole => {
             said.wrong = faults;
             if end != "left" {
@@ -159,9 +162,7 @@ pub fn objections(
         Expected::Lost if !is_lost(logs[0], logs[1]) => {
             said.not_shown.push("the link was not lost".to_string())
         }
-        Expected::Wrong if faults.is_empty() => {
-            said.not_shown.push("nothing was found wrong".to_string())
-        }
+        Expected::Wrong if !found => said.not_shown.push("it was not found".to_string()),
         _ => {}
     }
     said
@@ -215,7 +216,8 @@ mod tests {
         let (whole, doubled, missing) =
             (verdict("R0 R1 R2"), verdict("R0 R1 R1 R2"), verdict("R0 R1"));
         let say = |expected, end: &Verdict, door: &str, needs: &str| {
-            let said = objections(expected, [end, &whole], [&log(door), &log("left")], needs);
+            let asked = Asked { expected, needs: needs.to_string(), fault: "doubled".to_string() };
+            let said = objections(&asked, [end, &whole], [&log(door), &log("left")]);
             (said.wrong.is_empty(), said.not_shown.is_empty())
         };
         assert_eq!(say(Expected::Whole, &whole, "left", "kept"), (true, true));
@@ -230,5 +232,6 @@ mod tests {
         assert_eq!(say(Expected::Lost, &whole, "left", ""), (true, false));
         assert_eq!(say(Expected::Wrong, &doubled, "left", ""), (true, true));
         assert_eq!(say(Expected::Wrong, &whole, "left", ""), (true, false));
+        assert_eq!(say(Expected::Wrong, &missing, "left", ""), (true, false));
     }
 }

@@ -1,16 +1,28 @@
 //! judge: one line of the table from a run's logs. 1 where something is wrong, 4 where the run did not show what it is for.
 //!
-//! Words: room=FOLDER name= expect=whole|sound|lost|wrong reliable= unsequenced= length= needs=SUM,SUM shows=SUM,SUM; `judge head=1` says the columns.
+//! Words: room=FOLDER name= expect=whole|sound|lost|wrong reliable= unsequenced= length= needs=SUM,SUM fault=WORD shows=SUM,SUM; `judge head=1` says the columns.
 
-use door::judge::{counted, is_lost, judge, objections, Expected, Objections, Sent, Verdict};
+use door::judge::{
+    counted, is_lost, judge, objections, Asked, Expected, Objections, Sent, Verdict,
+};
 use door::logs::{count_of, read};
 use door::reports::{length_back, length_out, SHORT};
 use door::words::Words;
 use door::Fallible;
 use std::path::PathBuf;
 
-const KNOWN: &[&str] =
-    &["head", "room", "name", "expect", "reliable", "unsequenced", "length", "needs", "shows"];
+const KNOWN: &[&str] = &[
+    "head",
+    "room",
+    "name",
+    "expect",
+    "reliable",
+    "unsequenced",
+    "length",
+    "needs",
+    "fault",
+    "shows",
+];
 
 fn row(name: &str, cells: [String; 8], rest: &str) -> String {
     let [seconds, sent, counted, back, again, over, lost, wrong] = cells;
@@ -78,8 +90,8 @@ fn run() -> Fallible<i32> {
     let there = judge(&counted(&gateway, "got", |kind| length_out(kind, length))?, sent);
     let back = judge(&counted(&door, "back", |kind| length_back(kind, length))?, sent);
     let expected = expected(&words)?;
-    let against =
-        objections(expected, [&there, &back], [&door, &gateway], &words.text("needs", ""));
+    let asked = Asked { expected, needs: words.text("needs", ""), fault: words.text("fault", "") };
+    let against = objections(&asked, [&there, &back], [&door, &gateway]);
     let verdict = say(
         expected,
         &against,
