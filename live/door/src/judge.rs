@@ -165,6 +165,11 @@ pub fn objections(asked: &Asked, ends: [&Verdict; 2], logs: [&[Vec<String>]; 2])
         Expected::Wrong if !found => said.not_shown.push("it was not found".to_string()),
         _ => {}
     }
+    // a stock sender gives the link nothing to refuse but for want of a slot
+    match count_of(logs[0], "refused-other") {
+        0 => {}
+        count => said.wrong.push(format!("{count} arrivals refused, not with 8")),
+    }
     said
 }
 
@@ -233,5 +238,11 @@ mod tests {
         assert_eq!(say(Expected::Wrong, &doubled, "left", ""), (true, true));
         assert_eq!(say(Expected::Wrong, &whole, "left", ""), (true, false));
         assert_eq!(say(Expected::Wrong, &missing, "left", ""), (true, false));
+        let refused = vec![
+            vec!["end".to_string(), "left".to_string()],
+            vec!["refused-other".to_string(), "1".to_string()],
+        ];
+        let asked = Asked { expected: Expected::Whole, needs: String::new(), fault: String::new() };
+        assert_eq!(objections(&asked, [&whole, &whole], [&refused, &refused]).wrong.len(), 1);
     }
 }
