@@ -3,3 +3,4 @@ pub mod Acknowledged
 pub mod Marking
 pub mod Checked
 pub mod Untouched
+pub mod Joined

@@ -1,3 +1,4 @@
 pub mod Freeing
 pub mod Moving
 pub mod Untouched
+pub mod Joining

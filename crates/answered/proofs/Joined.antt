@@ -29,9 +29,9 @@ use Rattle.peer.proofs.Clauses.{sound-clauses}
 use Rattle.overdue.specs.Walking as overdue
 use Rattle.overdue.specs.declared.step.Walk.{Walk}
 use Rattle.timeouts.specs.Calls.{answerOf, replyBy, walkedOn, checksSound, checks}
 use Rattle.lent.specs.Walking.{walkedRun}
-use Rattle.lent.specs.Joining.{taken, putBack, lentCheck}
+use Rattle.answered.specs.Joining.{taken, putBack, lentCheck}
 use Rattle.lent.specs.declared.Awaiting.{Awaiting}
 
 -- a store at a slot that is not among them leaves what they are read from
 taken-other : (slots : List Outgoing) (s : ℕ) (o : Outgoing) (xs : List ℕ) → has xs s ≡ false → taken (set slots s o) xs ≡ taken slots xs
