@@ -25,37 +25,37 @@ pub fn call(peer: Peer, settings: Settings, call: Call, store: &mut [u8], datagr
             let arrived = unsequenced::arrive(peer, settings, store, datagram, arrival, group);
             let reply = arrived.reply;
             let after = arrived.peer;
-            Taken {
+            return Taken {
                 peer: after,
                 reply: Reply::Arrived(reply),
-            }
+            };
         }
         Call::ReliableArrival { arrival } => {
             let arrived = reliable::arrive(peer, settings, store, datagram, arrival);
             let reply = arrived.reply;
             let after = arrived.peer;
-            Taken {
+            return Taken {
                 peer: after,
                 reply: Reply::Arrived(reply),
-            }
+            };
         }
         Call::Dispatch { channel } => {
             let called = dispatch::dispatch(peer, settings, channel);
             let reply = called.reply;
             let after = called.peer;
-            Taken {
+            return Taken {
                 peer: after,
                 reply: Reply::Called(reply),
-            }
+            };
         }
         Call::Receive => {
             let received = receive::receive(peer, settings);
             let reply = received.reply;
             let after = received.peer;
-            Taken {
+            return Taken {
                 peer: after,
                 reply: Reply::Received(reply),
-            }
+            };
         }
     }
 }

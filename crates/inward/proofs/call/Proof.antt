@@ -70,15 +70,15 @@ call-spec =
     (tie.spec
     enum-known-call
     arrive-requires
-    enum-known-call-2
-    arrive-requires-2
-    enum-known-call-3
-    dispatch-requires
-    enum-told
-    receive-requires
     same-length
     returns
+    enum-known-call-2
+    arrive-requires-2
     same-length-2
     returns-2
+    enum-known-call-3
+    dispatch-requires
     returns-3
+    enum-told
+    receive-requires
     returns-4)
