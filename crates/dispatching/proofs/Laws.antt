@@ -47,9 +47,9 @@ pub last-end : (slots : List Incoming) (xs : List ℕ) (n k last : ℕ) → n �
 unfolding readyLast
 last-end slots xs n k last h = rw (part-end xs k n h)
 
--- 1 from one of two numbers, or from their sum
-pub minus-in-sum : (a k : ℕ) → (k ≡ 0 → ⊥) → (a + k - 1) % 65536 ≡ (a + (k - 1)) % 65536
-minus-in-sum a k h = let e : a + k - 1 ≡ a + (k - 1) = omega (arith, h) in rw e
+-- a number that is added modulo 65,536 may be reduced first
+pub sum-reduced : (a b : ℕ) → (a + b % 65536) % 65536 ≡ (a + b) % 65536
+sum-reduced a b = omega arith
 
 -- a word of 16 bits has room for its first bit
 pub bit-stays : (x : ℕ) → x < 65536 → withBit x 0 % 65536 ≡ withBit x 0

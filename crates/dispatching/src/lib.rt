@@ -66,8 +66,8 @@ fn number_after(slot: Incoming) -> Reliable
     if slot.fragments == 0 {
         return own;
     }
-    let wide = (own.0 as u64) + (slot.fragments as u64) - 1;
-    Reliable((wide % 65536) as u16)
+    let more = ((slot.fragments - 1) % 65536) as u16;
+    Reliable(std::num::wrapping_add_u16(own.0, more))
 }
 
 fn ready(slots: [Incoming; INCOMING], held: InList, last: Reliable) -> Prefix

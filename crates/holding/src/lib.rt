@@ -9,12 +9,12 @@ use slots::INCOMING;
 use slots::incoming::InList;
 
 // How far past the last number one is still new.
-const FARTHEST: u32 = 32767;
+const FARTHEST: u16 = 32767;
 
-fn distance(last: Reliable, number: Reliable) -> u32
+fn distance(last: Reliable, number: Reliable) -> u16
     ensures { λ r. ⌜ r ≡ ahead (last .0) (number .0) ⌝ }
 {
-    (number.0 as u32 + (65536 - last.0 as u32)) % 65536
+    std::num::wrapping_sub_u16(number.0, last.0)
 }
 
 fn has_number(slots: [Incoming; INCOMING], held: InList, number: Reliable) -> bool
