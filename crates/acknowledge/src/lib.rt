@@ -25,7 +25,6 @@ pub enum Reply {
     Refused(Refusal),
 }
 
-// The record first: so it is made where the caller wants it.
 pub struct Acknowledged {
     pub peer: Peer,
     pub reply: Reply,

@@ -34,7 +34,6 @@ pub enum Reply {
     Refused(Refusal),
 }
 
-// The record first: so it is made where the caller wants it.
 pub struct Arrived {
     pub peer: Peer,
     pub reply: Reply,

@@ -1,4 +1,4 @@
-// The window, the throttle and the reader for a host in Rust or C: numbers and byte slices only.
+// The window, the throttle and the reader for a host in Rust or C: numbers, byte slices, and the numbers of a throttle that is lent.
 ghost use mathlib.Core.Path.{_≡_};
 ghost use mathlib.Core.List.{_∷_};
 ghost use Prim.Native.Nat.{_+_, _*_, _≤_, _<_};

@@ -9,7 +9,6 @@ use calls::Reply;
 use peer::record::Peer;
 use peer::settings::Settings;
 
-// The record first: so it is made where the caller wants it.
 pub struct Taken {
     pub peer: Peer,
     pub reply: Reply,

@@ -11,7 +11,6 @@ use peer::calls::Called;
 use peer::record::Peer;
 use peer::settings::Settings;
 
-// The record first: so it is made where the caller wants it.
 pub struct Linked {
     pub peer: Peer,
     pub reply: Reply,

@@ -7,7 +7,6 @@ pub enum Reply {
     Refused(Refusal),
 }
 
-// The record first: so it is made where the caller wants it.
 pub struct Called {
     pub peer: Peer,
     pub reply: Reply,

@@ -33,7 +33,6 @@ const PING: Piece = Piece {
     length: 0,
 };
 
-// 1, 5.
 fn may_ping(standing: Standing, free: usize) -> Gate
     ensures { λ r. ⌜ r ≡ pingGate standing free ⌝ }
 {

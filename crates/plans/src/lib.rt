@@ -27,7 +27,6 @@ pub enum Packet {
     Pieces(Cut),
 }
 
-// 1, 2, 3.
 fn may_send(settings: Settings, standing: Standing, channel: u8, length: u32) -> Gate
     ensures { λ r. ⌜ r ≡ sendGate settings channel length standing ⌝ }
 {
@@ -43,7 +42,6 @@ fn may_send(settings: Settings, standing: Standing, channel: u8, length: u32) ->
     Gate::Open
 }
 
-// 4, 5.
 fn may_queue(count: u32, free: usize) -> Gate
     ensures { λ r. ⌜ r ≡ queueGate count free ⌝ }
 {

@@ -27,7 +27,6 @@ fn is_channel(channel: u8, count: u32) -> bool
     channel == ITSELF
 }
 
-// 2, 5, 9.
 fn judge(x: Piece, count: u32, free: usize) -> Gate
     ensures { λ r. ⌜ r ≡ setupGate x count free ⌝ }
 {

@@ -17,7 +17,6 @@ pub enum Reply {
     Refused(Refusal),
 }
 
-// The record first: so it is made where the caller wants it.
 pub struct Throttled {
     pub peer: Peer,
     pub reply: Reply,
