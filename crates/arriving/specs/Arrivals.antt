@@ -1,5 +1,5 @@
 -- What both arrivals refuse, reply and store. "Order for every call: settings and store (11), record (13), then the table's order downward; an
--- arrival is passed over after 7 and before 8." A byte that names another command is refused with 9 straight after 13 (DESIGN.md, point 5).
+-- arrival is passed over after 7 and before 8." A byte that names another command is refused with 9 straight after 13 (decision 81).
 use Prim.Native.Nat.{ℕ, _+_, _%_}
 use mathlib.Core.Bool.{Bool, true}
 use mathlib.Core.List.{List, [], _∷_}

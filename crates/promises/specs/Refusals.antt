@@ -1,5 +1,5 @@
 -- Document 01's table, "What a call replies": which numbers but 0 a call may answer. Every call may answer 11, and every one but reset 13; an
--- arrival answers 9 where its byte names another command (DESIGN.md, point 5).
+-- arrival answers 9 where its byte names another command (decision 81).
 use Prim.Native.Nat.{ℕ}
 use mathlib.Core.Bool.{Bool}
 use mathlib.Core.List.{List, [], _∷_}

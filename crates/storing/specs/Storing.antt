@@ -1,5 +1,5 @@
 -- What "stored" means, for both arrivals: "the lowest free one is taken", "each a cell of 4,096 bytes in one lent store", "the cell's bytes past
--- the length stay", "length added to the waiting total". A stored packet has 0 fragments and 0 remaining (DESIGN.md, point 8).
+-- the length stay", "length added to the waiting total". A stored packet has 0 fragments and 0 remaining (decision 83).
 use Prim.Native.Nat.{ℕ, _+_, _*_}
 use mathlib.Core.Bool.{Bool}
 use mathlib.Core.List.{List}
