@@ -1,6 +1,6 @@
 -- "any two results it allows are proved equal": once for every call on the record, whose promise is `Came` by its reply's `answerOf`.
 -- The argument: `answerOf` tells the replies apart, so the answer settles the reply; the record is an equation. Reset, begin, set state, setup,
--- send and ping share one reply, so `call-settled` is the theorem of each.
+-- send, ping and dispatch share one reply, so `call-settled` is the theorem of each.
 use mathlib.Core.Path.{_≡_, refl, ap, sym, _∙_}
 use Prim.Native.Nat.{ℕ}
 use Rattle.numbers.specs.Answers.{Answer}
