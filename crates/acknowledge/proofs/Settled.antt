@@ -4,7 +4,7 @@ use Prim.Native.Nat.{ℕ}
 use mathlib.Core.Path.{_≡_, refl, ap, sym, _∙_}
 use mathlib.Core.List.{[], _∷_}
 use lib.ListN.{getD}
-use Rattle.numbers.specs.Answers.{Answer}
+use Rattle.numbers.specs.Answers.{Answer, numbersOf}
 use Rattle.numbers.proofs.Settled.{refused-apart, refused-not-done}
 use Rattle.peer.specs.Outcome.{Came}
 use Rattle.peer.specs.declared.settings.Settings.{Settings}
@@ -18,7 +18,7 @@ abbrev numberIn : Answer → ℕ
 numberIn a = a .number
 
 abbrev again : Answer → Reply
-again a = getD (vr.Passed ∷ vr.Done ∷ vr.Connect ∷ vr.Disconnect ∷ vr.DisconnectNow ∷ []) (getD (a .values) 0 0) vr.Passed
+again a = getD (vr.Passed ∷ vr.Done ∷ vr.Connect ∷ vr.Disconnect ∷ vr.DisconnectNow ∷ []) (getD (numbersOf a) 0 0) vr.Passed
 
 done-again : (a : Reply) → numberIn (answerOf a) ≡ 0 → again (answerOf a) ≡ a
 done-again vr.Passed z = refl

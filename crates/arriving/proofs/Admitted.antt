@@ -8,7 +8,7 @@ use lib.Dec.{eqb, ltb, leb}
 use lib.ListN.{getD}
 use borrow.Author.Tests.{eqb-true, ltb-true, leb-true}
 use Rattle.numbers.specs.Pick.{pick, both}
-use Rattle.numbers.specs.Answers.{Answer, refused}
+use Rattle.numbers.specs.Answers.{Answer, refused, numbersOf}
 use Rattle.numbers.specs.declared.refusals.Refusal.{Refusal}
 use Rattle.numbers.specs.declared.refusals.Refusal.the-variants.{NotReceiving, LengthTooLarge, BadCommand}
 use Rattle.numbers.proofs.Settled.{refused-not-done}
@@ -51,7 +51,7 @@ admitted command a s standing end e = go (names (a .byte) command) (isReceiving 
 
 -- "stored" is neither passed over nor a refusal
 pub not-passed : passedOver ≡ stored → ⊥
-not-passed e = omega (arith, ap (λ (a : Answer). getD (a .values) 0 0) e)
+not-passed e = omega (arith, ap (λ (a : Answer). getD (numbersOf a) 0 0) e)
 
 pub not-refused : (why : Refusal) → refused why ≡ stored → ⊥
 not-refused why e = refused-not-done why (ap (λ (a : Answer). a .number) e)

@@ -10,7 +10,7 @@ use lib.ListN.{getD}
 use denote.Enum.Declared.{tagOf}
 use types.Run.{OneOf, miss}
 use Rattle.numbers.specs.Pick.{pick}
-use Rattle.numbers.specs.Answers.{Answer, done}
+use Rattle.numbers.specs.Answers.{Answer, done, numbersOf}
 use Rattle.numbers.specs.declared.counters.Group.{Group}
 use Rattle.window.specs.Window.{distant, first, marked, cleared, answerOf, Judges}
 use Rattle.window.specs.declared.Judged as window
@@ -30,7 +30,7 @@ use Rattle.arriving.specs.declared.Judged.{Judged}
 
 -- 1 where the group is taken
 abbrev tells : Answer → ℕ
-tells a = getD (a .values) 0 0
+tells a = getD (numbersOf a) 0 0
 
 -- the verdicts that pass it over, by their places in the enum
 abbrev others : List ℕ

@@ -5,7 +5,7 @@ use mathlib.Core.Path.{_≡_, refl, ap, sym, _∙_}
 use mathlib.Core.List.{List}
 use native.Mathlib.Omega.{arith}
 use lib.ListN.{getD}
-use Rattle.numbers.specs.Answers.{Answer}
+use Rattle.numbers.specs.Answers.{Answer, numbersOf}
 use Rattle.numbers.proofs.Settled.{refused-apart, refused-not-done}
 use Rattle.peer.specs.Outcome.{State, Outcome, Came}
 use Rattle.peer.proofs.Settled.{reply-settled, after-settled}
@@ -18,7 +18,7 @@ abbrev number : Answer → ℕ
 number a = a .number
 
 abbrev which : Answer → ℕ
-which a = getD (a .values) 0 0
+which a = getD (numbersOf a) 0 0
 
 pub replies-apart : (a b : Reply) → answerOf a ≡ answerOf b → a ≡ b
 replies-apart Passed Passed e = refl

@@ -37,7 +37,7 @@ pub record Case : Type 0 where
 
 -- an acknowledgement's sent time at a clock: passed over 0, or 1 and the sample
 abbrev sample : ℕ → ℕ → List ℤ
-sample clock sent = map pos (sampled clock sent .values)
+sample clock sent = sampled clock sent .values
 
 -- the throttle with the public defaults: its value and the source's answer
 abbrev rolled : ℕ → ℕ → ℕ → ℕ → List ℤ
@@ -58,7 +58,7 @@ opened mtu = setsState (settings mtu) connected (begins (settings mtu) mtu 1 (fr
 -- an acknowledgement on such a peer, to which it is the first: the reply's number and which, then the round trip and the last receive time
 abbrev heard : Outcome Peer → List ℤ
 heard o =
-    pos (o .answer .number) ∷ map pos (o .answer .values ++ (o .after .trips .now ∷ o .after .times .«last_receive» ∷ []))
+    pos (o .answer .number) ∷ (o .answer .values ++ map pos (o .after .trips .now ∷ o .after .times .«last_receive» ∷ []))
 
 abbrev hears : ℕ → ℕ → List ℤ
 hears clock sent = heard (acknowledges (settings 576) 0 1 sent clock (opened 576))
@@ -80,7 +80,7 @@ paced last variance value =
 
 -- the throttle as a call on such a peer: the reply's number and which turn, then the value
 abbrev turned : Outcome Peer → List ℤ
-turned o = pos (o .answer .number) ∷ map pos (o .answer .values ++ (o .after .throttling .value ∷ []))
+turned o = pos (o .answer .number) ∷ (o .answer .values ++ (pos (o .after .throttling .value) ∷ []))
 
 abbrev paces : ℕ → ℕ → ℕ → ℕ → List ℤ
 paces last variance value trip = turned (throttles (settings 576) trip (paced last variance value))
@@ -101,7 +101,7 @@ arrives x g = arrivesUnsequenced (settings 576) arrival (record { 0 = g }) [] x
 abbrev pub landed : Outcome State → List ℤ
 landed o =
     pos (o .answer .number)
-    ∷ map pos (o .answer .values ++ (o .after .peer .groups .incoming .0 ∷ inItems (o .after .peer .lists .dispatched)))
+    ∷ (o .answer .values ++ map pos (o .after .peer .groups .incoming .0 ∷ inItems (o .after .peer .lists .dispatched)))
 
 -- the reply's number, then the lengths of what waits in send-reliable
 abbrev waiting : Outcome Peer → List ℤ
@@ -145,7 +145,7 @@ cases words store =
     ∷ record { given = hears 65541 5; stated = pos 0 ∷ pos 1 ∷ pos 1 ∷ pos 65541 ∷ [] }  -- P6 on the record
     ∷ record { given = rolled 100 10 32 121; stated = pos 30 ∷ negsuc 0 ∷ [] }  -- P7
     ∷ record { given = rolled 100 10 32 120; stated = pos 32 ∷ pos 0 ∷ [] }
-    ∷ record { given = paces 100 10 32 121; stated = pos 0 ∷ pos 2 ∷ pos 30 ∷ [] }  -- P7 on the record
+    ∷ record { given = paces 100 10 32 121; stated = pos 0 ∷ negsuc 0 ∷ pos 30 ∷ [] }  -- P7 on the record
     ∷ record { given = paces 100 10 32 120; stated = pos 0 ∷ pos 0 ∷ pos 32 ∷ [] }
     ∷ record { given = queues 576 548; stated = pos 0 ∷ pos 548 ∷ [] }  -- P8
     ∷ record { given = queues 576 549; stated = pos 0 ∷ pos 548 ∷ pos 1 ∷ [] }

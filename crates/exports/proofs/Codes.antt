@@ -9,7 +9,7 @@ use lib.IntN.{ℤ, pos, negsuc}
 use lib.ListN.{getD}
 use Rattle.numbers.specs.Pick.{pick}
 use Rattle.numbers.specs.Modulo.{sum}
-use Rattle.numbers.specs.Answers.{Answer, done}
+use Rattle.numbers.specs.Answers.{Answer, done, numbersOf}
 use Rattle.throttle.specs.Throttling as throttle
 use Rattle.throttle.specs.declared.Throttle.{Throttle}
 use Rattle.throttle.specs.declared.Turn.{Turn}
@@ -45,7 +45,7 @@ turn-small Raised = omega arith
 turn-small Lowered = omega arith
 
 abbrev verdictOf : Answer → ℕ
-verdictOf a = 2 * getD (a .values) 0 0 + getD (a .values) 1 0
+verdictOf a = 2 * getD (numbersOf a) 0 0 + getD (numbersOf a) 1 0
 
 verdict-of : (v : Verdict) → verdictCode v ≡ verdictOf (window.answerOf v)
 verdict-of Distant = refl

@@ -9,6 +9,7 @@ use lib.Dec.{leb}
 use lib.ListN.{getD, drop}
 use borrow.Author.Tests.{leb-true}
 use Rattle.numbers.specs.Answers.{Answer, done}
+use Rattle.numbers.proofs.Settled.{done-apart}
 use Rattle.table.specs.Layout.{layout, total, sizeOf}
 use Rattle.table.specs.Bytes.{rowAt, pad}
 use Rattle.command.specs.Rows.{kindOf, rowOf}
@@ -44,7 +45,7 @@ module _ (s : List ℕ) (i : ℕ) (r : Reading) (e : answerOf r ≡ readAt s i) 
         go false t = absurd (omega (arith, ap (λ (a : Answer). a .number) (simp t at found)))
 
     values : next ∷ kindOf (c .fields) ∷ rowOf c ≡ (i + sizeOf (kindAt s i)) ∷ kindAt s i ∷ rowAt s i (layout (kindAt s i))
-    values = ap (λ (a : Answer). a .values) (simp something at found)
+    values = done-apart _ _ (simp something at found)
 
     pub next-is : next ≡ i + sizeOf (kindAt s i)
     next-is = ap (λ (l : List ℕ). getD l 0 0) values

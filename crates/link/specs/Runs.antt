@@ -5,7 +5,7 @@ use mathlib.Core.List.{List, [], _∷_, _++_}
 use lib.Dec.{eqb}
 use lib.ListN.{getD, take, drop}
 use Rattle.numbers.specs.Pick.{pick, both}
-use Rattle.numbers.specs.Answers.{Answer}
+use Rattle.numbers.specs.Answers.{Answer, numbersOf}
 use Rattle.parts.specs.Sizes.{cell}
 use Rattle.peer.specs.Outcome.{State, Outcome}
 use Rattle.peer.specs.Fresh.{freshPeer}
@@ -31,12 +31,12 @@ pub record Packet : Type 0 where
 
 -- number 0, and 1 for the first value: a receive hands out a packet, an arrival was stored
 abbrev pub saysOne : Answer → Bool
-saysOne a = both (eqb (a .number) 0) (eqb (getD (a .values) 0 0) 1)
+saysOne a = both (eqb (a .number) 0) (eqb (getD (numbersOf a) 0 0) 1)
 
 -- what a receive that answers so hands out of the store: 1, channel, cell, length
 abbrev pub handed : Answer → List ℕ → List Packet
 handed a store =
-    let v = a .values in
+    let v = numbersOf a in
     pick (saysOne a) (record { channel = getD v 1 0; bytes = take (getD v 3 0) (drop (getD v 2 0 * cell) store) } ∷ []) []
 
 abbrev pub packetsOf : Call → Answer → List ℕ → List Packet

@@ -5,7 +5,7 @@ use native.Mathlib.Omega.{arith}
 use Prim.Native.Nat.{ℕ}
 use mathlib.Core.List.{List, [], _∷_}
 use lib.ListN.{getD}
-use Rattle.numbers.specs.Answers.{Answer, numberOf, refused}
+use Rattle.numbers.specs.Answers.{Answer, numberOf, done, refused, numbersOf}
 use Rattle.numbers.specs.Clock.{answerOf, sampled}
 use Rattle.numbers.specs.declared.clock.Trip.{Trip}
 use Rattle.numbers.specs.declared.clock.Trip.the-variants.{PassedOver, Taken}
@@ -68,9 +68,17 @@ refused-not-done NotRemoved e = omega (arith, e)
 refused-not-done OutOfRange e = omega (arith, e)
 refused-not-done Damaged e = omega (arith, e)
 
+-- ---- what is done
+pub numbers-of-done : (xs : List ℕ) → numbersOf (done xs) ≡ xs
+numbers-of-done [] = refl
+numbers-of-done (x ∷ xs) = ap (λ (l : List ℕ). x ∷ l) (numbers-of-done xs)
+
+pub done-apart : (xs ys : List ℕ) → done xs ≡ done ys → xs ≡ ys
+done-apart xs ys e = sym (numbers-of-done xs) ∙ ap numbersOf e ∙ numbers-of-done ys
+
 -- ---- samples
 abbrev value : ℕ → Answer → ℕ
-value i a = getD (a .values) i 0
+value i a = getD (numbersOf a) i 0
 
 pub trips-apart : (a b : Trip) → answerOf a ≡ answerOf b → a ≡ b
 trips-apart PassedOver PassedOver e = refl

@@ -1,6 +1,7 @@
 -- What a call replies: document 01's number of the table, and the values that go with it.
 use Prim.Native.Nat.{ℕ}
-use mathlib.Core.List.{List, []}
+use mathlib.Core.List.{List, [], map}
+use lib.IntN.{ℤ, pos, negsuc}
 use Rattle.numbers.specs.declared.refusals.Refusal.{Refusal}
 use Rattle.numbers.specs.declared.refusals.Refusal.the-variants.{NotConnected, InvalidChannel, PacketTooLarge, FragmentsExceeded, FailedToQueue, NotReceiving, LengthTooLarge, NotStored, BadCommand, NotRemoved, OutOfRange, Damaged}
 
@@ -21,11 +22,22 @@ numberOf Damaged = 13
 
 pub record Answer : Type 0 where
   pub number : ℕ
-  pub values : List ℕ
+  pub values : List ℤ
 
 -- done, or passed over: 0 and what the reply says
+abbrev pub says : List ℤ → Answer
+says zs = record { number = 0; values = zs }
+
 abbrev pub done : List ℕ → Answer
-done xs = record { number = 0; values = xs }
+done xs = says (map pos xs)
 
 abbrev pub refused : Refusal → Answer
 refused why = record { number = numberOf why; values = [] }
+
+-- the values as counting numbers, as a reader of a channel, a cell, a length or a place takes them; one below 0 reads as 0
+abbrev pub natural : ℤ → ℕ
+natural (pos n) = n
+natural (negsuc n) = 0
+
+abbrev pub numbersOf : Answer → List ℕ
+numbersOf a = map natural (a .values)

@@ -8,7 +8,7 @@ use lib.Dec.{eqb}
 use lib.ListN.{length, getD}
 use borrow.Author.Tests.{ne-eqb}
 use Rattle.numbers.specs.Pick.{both}
-use Rattle.numbers.specs.Answers.{Answer, numberOf, refused}
+use Rattle.numbers.specs.Answers.{Answer, numberOf, refused, numbersOf}
 use Rattle.numbers.specs.declared.counters.Group.{Group}
 use Rattle.numbers.specs.declared.refusals.Refusal.{Refusal}
 use Rattle.numbers.proofs.Settled.{refused-not-done}
@@ -33,7 +33,7 @@ use Rattle.receive.specs.Calls.{packet, receivesFrom, receivesSound, receives}
 use Rattle.link.specs.Runs.{saysOne}
 
 pub refused-one : (why : Refusal) → saysOne (refused why) ≡ false
-refused-one why = ap (λ (b : Bool). both b (eqb (getD (refused why .values) 0 0) 1)) (ne-eqb (numberOf why) 0 (refused-not-done why))
+refused-one why = ap (λ (b : Bool). both b (eqb (getD (numbersOf (refused why)) 0 0) 1)) (ne-eqb (numberOf why) 0 (refused-not-done why))
 
 -- the answer is one of a reply's
 pub record Says (a : Answer) : Type 0 where

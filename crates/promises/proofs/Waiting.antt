@@ -8,7 +8,7 @@ use mathlib.Core.List.{List, [], _∷_}
 use native.Mathlib.Omega.{arith}
 use lib.ListN.{getD}
 use Rattle.numbers.specs.Pick.{pick}
-use Rattle.numbers.specs.Answers.{Answer}
+use Rattle.numbers.specs.Answers.{Answer, numbersOf}
 use Rattle.numbers.specs.declared.refusals.Refusal.the-variants.{OutOfRange}
 use Rattle.peer.specs.Sounds.{Whole}
 use Rattle.peer.specs.Settings.{fitSettings}
@@ -72,7 +72,7 @@ receive-holds s x t h = go (receive-lowers s (x .peer))
         rw (receive-none s (x .peer) not) (same-holds (x .peer) (receives s (x .peer) .after) t e h)
     go (lowers channel cell long is e) =
         let one : saysOne (receives s (x .peer) .answer) ≡ true = ap saysOne is in
-        let n : getD (receives s (x .peer) .answer .values) 3 0 ≡ long = ap (λ (a : Answer). getD (a .values) 3 0) is in
+        let n : getD (numbersOf (receives s (x .peer) .answer)) 3 0 ≡ long = ap (λ (a : Answer). getD (numbersOf a) 3 0) is in
         rw one (omega (arith, e, h, n))
 
 call-holds : (c : Call) (s : Settings) (datagram : List ℕ) (x : State) (t : Tally) → Whole (x .peer) → Holds (x .peer) t

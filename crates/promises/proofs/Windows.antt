@@ -11,7 +11,7 @@ use lib.Dec.{ltb, eqb}
 use lib.ListN.{length, getD, length-set, length-replicate}
 use borrow.Author.Tests.{ltb-true, ltb-false, le-leb, eqb-true, eqb-false, eq-eqb}
 use Rattle.numbers.specs.Pick.{pick}
-use Rattle.numbers.specs.Answers.{Answer, done}
+use Rattle.numbers.specs.Answers.{Answer, done, numbersOf}
 use Rattle.window.specs.Window.{first, distant, marked, marking, cleared, byTests, baseAfter, wordsAfter, answerAfter, windowsMoved}
 use Rattle.window.proofs.Marks.{marked-after, marked-same}
 use Rattle.window.proofs.Moves.{taken-near, taken-base, taken-by}
@@ -180,4 +180,4 @@ module _ {w : Window} {g m : ℕ} (k : Known w g m) where
           let marked-still = k .marks none in
           let near = taken-near (w .base) (w .words) g (t .taken) in
           let here = eq-eqb (first g) (w .base) (at-home none) in
-          omega (arith, ap (λ (a : Answer). getD (a .values) 0 0) (simp (near, here, marked-still) at (t .taken)))
+          omega (arith, ap (λ (a : Answer). getD (numbersOf a) 0 0) (simp (near, here, marked-still) at (t .taken)))

@@ -6,7 +6,7 @@ use mathlib.Core.List.{List, [], _∷_}
 use lib.Dec.{eqb}
 use lib.ListN.{getD}
 use Rattle.numbers.specs.Pick.{pick}
-use Rattle.numbers.specs.Answers.{Answer}
+use Rattle.numbers.specs.Answers.{Answer, numbersOf}
 use Rattle.peer.specs.Damage.{sound}
 use Rattle.peer.specs.Settings.{fitSettings}
 use Rattle.peer.specs.Outcome.{State}
@@ -49,7 +49,7 @@ abbrev pub counts : Call → Answer → Tally → Tally
 counts call.Reset a t = pick (eqb (a .number) 0) freshTally t
 counts (call.Inward (inw.UnsequencedArrival arrival group)) a t = stores (arrival .length) a t
 counts (call.Inward (inw.ReliableArrival arrival)) a t = stores (arrival .length) a t
-counts (call.Inward inw.Receive) a t = pick (saysOne a) (record { stored = t .stored; received = t .received + getD (a .values) 3 0 }) t
+counts (call.Inward inw.Receive) a t = pick (saysOne a) (record { stored = t .stored; received = t .received + getD (numbersOf a) 3 0 }) t
 counts (call.Begin mtu channels) a t = t
 counts (call.SetState state) a t = t
 counts (call.Outward c) a t = t

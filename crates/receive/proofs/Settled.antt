@@ -4,7 +4,7 @@ use Prim.Native.Nat.{ℕ}
 use mathlib.Core.Path.{_≡_, refl, ap, sym, _∙_}
 use native.Mathlib.Omega.{arith}
 use lib.ListN.{getD}
-use Rattle.numbers.specs.Answers.{Answer}
+use Rattle.numbers.specs.Answers.{Answer, numbersOf}
 use Rattle.numbers.proofs.Settled.{refused-apart, refused-not-done}
 use Rattle.peer.specs.Outcome.{Came}
 use Rattle.peer.specs.declared.settings.Settings.{Settings}
@@ -18,7 +18,7 @@ abbrev numberIn : Answer → ℕ
 numberIn a = a .number
 
 abbrev value : ℕ → Answer → ℕ
-value i a = getD (a .values) i 0
+value i a = getD (numbersOf a) i 0
 
 abbrev packetIn : Answer → Reply
 packetIn a = vr.Packet (value 1 a) (value 2 a) (value 3 a)

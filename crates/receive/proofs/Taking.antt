@@ -5,7 +5,7 @@ use mathlib.Core.Path.{_≡_, refl, ap, sym, _∙_}
 use mathlib.Core.List.{List, [], _∷_}
 use native.Mathlib.Omega.{arith}
 use lib.ListN.{getD}
-use Rattle.numbers.specs.Answers.{Answer}
+use Rattle.numbers.specs.Answers.{Answer, numbersOf}
 use Rattle.numbers.proofs.Settled.{refused-not-done}
 use Rattle.slots.specs.Lists.{inItems}
 use Rattle.runs.specs.Runs.{first}
@@ -36,7 +36,7 @@ abbrev numberIn : Answer → ℕ
 numberIn a = a .number
 
 abbrev value : ℕ → Answer → ℕ
-value i a = getD (a .values) i 0
+value i a = getD (numbersOf a) i 0
 
 module _ (s : Settings) (p : Peer) (channel cell length : ℕ) where
   takes : (xs : List ℕ) → inItems (p .lists .dispatched) ≡ xs → receivesFrom (first xs) p .answer ≡ packet channel cell length

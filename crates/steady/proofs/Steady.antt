@@ -9,7 +9,7 @@ use native.Mathlib.Omega.{arith}
 use lib.Dec.{leb, eqb}
 use lib.ListN.{length, getD, set}
 use Rattle.numbers.specs.Pick.{pick}
-use Rattle.numbers.specs.Answers.{Answer}
+use Rattle.numbers.specs.Answers.{Answer, numbersOf}
 use Rattle.numbers.proofs.Settled.{refused-not-done}
 use Rattle.numbers.specs.declared.refusals.Refusal.the-variants.{OutOfRange}
 use Rattle.slots.specs.Lists.{outgoing, outItems, inItems}
@@ -173,7 +173,7 @@ receive-lowers s p =
     (λ e. go (sound-open (fits s lent.Nothing) (sound p) e) (inItems (p .lists .dispatched)) refl)
   where
     go : sound p ≡ true → (xs : List ℕ) → inItems (p .lists .dispatched) ≡ xs → Lowers p (receivesFrom (first xs) p)
-    go good [] e = stays refl (λ c n l e. omega (arith, ap (λ (a : Answer). getD (a .values) 0 0) e))
+    go good [] e = stays refl (λ c n l e. omega (arith, ap (λ (a : Answer). getD (numbersOf a) 0 0) e))
     go good (n ∷ rest) e =
         let i = getD (p .incoming) n noIncoming in
         let cs = below (p .channels) (p .standing .count) in

@@ -3,6 +3,7 @@
 use Prim.Native.Nat.{ℕ}
 use mathlib.Core.Path.{_≡_, refl, ap, sym, _∙_}
 use native.Mathlib.Omega.{arith}
+use lib.IntN.{ℤ, pos, negsuc}
 use lib.ListN.{getD}
 use Rattle.numbers.specs.Answers.{Answer}
 use Rattle.numbers.proofs.Settled.{refused-apart, refused-not-done}
@@ -17,8 +18,12 @@ use Rattle.throttling.specs.declared.Throttled.{Throttled}
 abbrev numberIn : Answer → ℕ
 numberIn a = a .number
 
+abbrev turnOf : ℤ → ℕ
+turnOf (pos n) = n
+turnOf (negsuc n) = 2
+
 abbrev turnIn : Answer → ℕ
-turnIn a = getD (a .values) 0 0
+turnIn a = turnOf (getD (a .values) 0 (pos 0))
 
 pub replies-apart : (a b : Reply) → answerOf a ≡ answerOf b → a ≡ b
 replies-apart vr.Held vr.Held e = refl

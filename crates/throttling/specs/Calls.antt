@@ -1,7 +1,8 @@
--- The throttle on the record's own numbers: "the source's tests in its order, sums modulo 2^32"; 0 held, 1 raised, 2 lowered.
+-- The throttle on the record's own numbers: "the source's tests in its order, sums modulo 2^32"; 0 held, 1 raised, −1 lowered.
 use Prim.Native.Nat.{ℕ}
 use mathlib.Core.List.{[], _∷_}
-use Rattle.numbers.specs.Answers.{Answer, done, refused}
+use lib.IntN.{negsuc}
+use Rattle.numbers.specs.Answers.{Answer, says, done, refused}
 use Rattle.throttle.specs.Throttling.{byTests}
 use Rattle.throttle.specs.declared.Turn.{Turn}
 use Rattle.throttle.specs.declared.Turn.the-variants as turn
@@ -17,7 +18,7 @@ use Rattle.throttling.specs.declared.Reply.the-variants as vr
 abbrev pub answerOf : Reply → Answer
 answerOf vr.Held = done (0 ∷ [])
 answerOf vr.Raised = done (1 ∷ [])
-answerOf vr.Lowered = done (2 ∷ [])
+answerOf vr.Lowered = says (negsuc 0 ∷ [])
 answerOf (vr.Refused why) = refused why
 
 -- a turn of the throttle as a reply

@@ -4,7 +4,7 @@ use Prim.Native.Nat.{ℕ}
 use mathlib.Core.Path.{_≡_, refl, ap, sym, _∙_}
 use native.Mathlib.Omega.{arith}
 use lib.ListN.{getD}
-use Rattle.numbers.specs.Answers.{Answer}
+use Rattle.numbers.specs.Answers.{Answer, numbersOf}
 use Rattle.numbers.proofs.Settled.{refused-apart, refused-not-done}
 use Rattle.peer.specs.Outcome.{Came}
 use Rattle.peer.specs.declared.settings.Settings.{Settings}
@@ -18,7 +18,7 @@ abbrev numberIn : Answer → ℕ
 numberIn a = a .number
 
 abbrev which : Answer → ℕ
-which a = getD (a .values) 0 0
+which a = getD (numbersOf a) 0 0
 
 pub replies-apart : (a b : Reply) → answerOf a ≡ answerOf b → a ≡ b
 replies-apart vr.Done vr.Done e = refl

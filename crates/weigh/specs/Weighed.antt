@@ -3,7 +3,7 @@ use Prim.Native.Nat.{ℕ, _+_}
 use mathlib.Core.Bool.{false}
 use lib.ListN.{getD}
 use Rattle.numbers.specs.Pick.{pick}
-use Rattle.numbers.specs.Answers.{Answer}
+use Rattle.numbers.specs.Answers.{Answer, numbersOf}
 use Rattle.peer.specs.Damage.{sound}
 use Rattle.peer.specs.Fresh.{freshPeer}
 use Rattle.peer.specs.Updates.{withStanding}
@@ -28,7 +28,7 @@ weighed o = pick (sound (o .after)) (o .answer .number) 99
 
 -- a refusal's number, which has no values; of a step that was done, 1 for a head and 0 for nothing to send
 abbrev pub told : Answer → ℕ
-told a = getD (a .values) 0 0 + a .number
+told a = getD (numbersOf a) 0 0 + a .number
 
 abbrev pub weighedStep : Outcome Peer → ℕ
 weighedStep o = pick (sound (o .after)) (told (o .answer)) 99

@@ -12,7 +12,7 @@ use borrow.Author.Tests.{eqb-true, leb-false, ltb-true, ltb-false}
 use Rattle.numbers.specs.Pick.{pick}
 use Rattle.numbers.specs.Modulo.{sum, minus}
 use Rattle.numbers.specs.Limits.{windowSize, freeWindows}
-use Rattle.numbers.specs.Answers.{Answer, done}
+use Rattle.numbers.specs.Answers.{Answer, done, numbersOf}
 use Rattle.window.specs.Window.{first, counted, distant, marked, baseAfter, wordsAfter, answerAfter, windowsMoved}
 use Rattle.window.proofs.Marks.{marked-cleared}
 
@@ -25,7 +25,7 @@ module _ (base : ℕ) (words : List ℕ) (g : ℕ) where
     taken-near = go (distant base g) refl
       where
         go : (b : Bool) → distant base g ≡ b → distant base g ≡ false
-        go true t = absurd (omega (arith, ap (λ (a : Answer). getD (a .values) 0 0) (simp t at taken)))
+        go true t = absurd (omega (arith, ap (λ (a : Answer). getD (numbersOf a) 0 0) (simp t at taken)))
         go false t = t
 
     -- the base is then the first group of g's window

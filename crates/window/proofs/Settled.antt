@@ -5,7 +5,7 @@ use mathlib.Core.List.{List}
 use Prim.Native.Nat.{ℕ, _+_, _*_}
 use lib.ListN.{getD}
 use native.Mathlib.Omega.{arith}
-use Rattle.numbers.specs.Answers.{Answer}
+use Rattle.numbers.specs.Answers.{Answer, numbersOf}
 use Rattle.window.specs.Window.{answerOf, Judges}
 use Rattle.numbers.specs.declared.counters.Group.{Group}
 use Rattle.window.specs.declared.Judged.{Judged}
@@ -13,7 +13,7 @@ use Rattle.window.specs.declared.Verdict.{Verdict}
 use Rattle.window.specs.declared.Verdict.the-variants.{Distant, Marked, Taken}
 
 which : Answer → ℕ
-which a = 2 * getD (a .values) 0 0 + getD (a .values) 1 0
+which a = 2 * getD (numbersOf a) 0 0 + getD (numbersOf a) 1 0
 
 pub verdicts-apart : (a b : Verdict) → answerOf a ≡ answerOf b → a ≡ b
 unfolding which

@@ -11,7 +11,8 @@ use lib.ListN.{length, getD, take, drop, length-drop}
 use lib.Seq.{sets, sets-eq, take-add, take-append-seam, take-length, drop-drop, length-take-le}
 use borrow.Author.Tests.{ltb-true, leb-true, le-leb, lt-leb, eq-eqb}
 use Rattle.numbers.specs.Pick.{pick, both}
-use Rattle.numbers.specs.Answers.{Answer, done, refused}
+use Rattle.numbers.specs.Answers.{Answer, done, refused, numbersOf}
+use Rattle.numbers.proofs.Settled.{done-apart}
 use Rattle.numbers.specs.declared.refusals.Refusal.the-variants.{BadCommand}
 use Rattle.table.specs.Layout.{known, layout, total, sizeOf}
 use Rattle.table.specs.Bytes.{numberAt, putNumber, rowAt, putRow, fits, Bytes}
@@ -164,7 +165,7 @@ write-then-read s after i next c r f w q = readings-apart r (rd.Found c next) (q
   where
     go : (b : Bool) → writable s i c ≡ b → readAt after i ≡ done (next ∷ kindOf (c .fields) ∷ rowOf c)
     go true e =
-        let n : next ≡ i + span c = ap (λ (a : Answer). getD (a .values) 0 0) (w .answer ∙ answered s i c true e) in
+        let n : next ≡ i + span c = ap (λ (a : Answer). getD (numbersOf a) 0 0) (w .answer ∙ answered s i c true e) in
         ap (λ (l : List ℕ). readAt l i) (w .buffer) ∙ write-read s i c f e ∙ ap (λ (m : ℕ). done (m ∷ kindOf (c .fields) ∷ rowOf c)) (sym n)
     go false e = absurd (apart _ _ (w .answer ∙ answered s i c false e) refl refl)
 
@@ -178,7 +179,7 @@ module _ (s : List ℕ) (i next : ℕ) (c : Command) (e : answerOf (rd.Found c n
       go false t = absurd (apart _ _ (e ∙ chosen s i false t) refl refl)
 
   values : (next ∷ kindOf (c .fields) ∷ rowOf c) ≡ ((i + sizeOf (kindAt s i)) ∷ kindAt s i ∷ rowAt s i (layout (kindAt s i)))
-  values = ap (λ (a : Answer). a .values) (e ∙ chosen s i true found-readable)
+  values = done-apart _ _ (e ∙ chosen s i true found-readable)
 
   kinds : kindOf (c .fields) ≡ kindAt s i
   kinds = ap (λ (l : List ℕ). getD l 1 0) values

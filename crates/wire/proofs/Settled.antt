@@ -1,10 +1,12 @@
 -- Any two results that the contract of the reader allows are equal, and so of the writer, with the buffer.
 -- The argument: the answers tell the cases apart, and a command is made again of its kind and its row.
 use mathlib.Core.Path.{_≡_, refl, ap, _∙_, sym}
-use mathlib.Core.List.{List}
+use mathlib.Core.List.{List, _∷_}
 use Prim.Native.Nat.{ℕ}
 use lib.ListN.{getD, drop}
-use Rattle.numbers.specs.Answers.{Answer}
+use Rattle.numbers.specs.Answers.{Answer, numbersOf}
+use Rattle.numbers.proofs.Settled.{done-apart}
+use Rattle.command.specs.Rows.{kindOf, rowOf}
 use Rattle.command.proofs.Settled.{commandFrom, command-back, apart}
 use Rattle.command.specs.declared.fields.Command.{Command}
 use Rattle.wire.specs.Reading as reading
@@ -17,14 +19,14 @@ use Rattle.wire.specs.declared.writer.Writing.the-variants as written
 pub readings-apart : (a b : Reading) → reading.answerOf a ≡ reading.answerOf b → a ≡ b
 readings-apart (read.Found c n) (read.Found d m) e =
     ap (λ (x : Command). read.Found x n) (sym (command-back c))
-    ∙ ap (λ (a : Answer). read.Found (commandFrom (drop 1 (a .values))) (getD (a .values) 0 0)) e
+    ∙ ap (λ (l : List ℕ). read.Found (commandFrom (drop 1 l)) (getD l 0 0)) (done-apart (n ∷ kindOf (c .fields) ∷ rowOf c) (m ∷ kindOf (d .fields) ∷ rowOf d) e)
     ∙ ap (λ (x : Command). read.Found x m) (command-back d)
 readings-apart (read.Found c n) read.Refused e = absurd (apart _ _ e refl refl)
 readings-apart read.Refused (read.Found d m) e = absurd (apart _ _ (sym e) refl refl)
 readings-apart read.Refused read.Refused e = refl
 
 pub writings-apart : (a b : Writing) → writing.answerOf a ≡ writing.answerOf b → a ≡ b
-writings-apart (written.Done n) (written.Done m) e = ap (λ (a : Answer). written.Done (getD (a .values) 0 0)) e
+writings-apart (written.Done n) (written.Done m) e = ap (λ (a : Answer). written.Done (getD (numbersOf a) 0 0)) e
 writings-apart (written.Done n) written.Refused e = absurd (apart _ _ e refl refl)
 writings-apart written.Refused (written.Done m) e = absurd (apart _ _ (sym e) refl refl)
 writings-apart written.Refused written.Refused e = refl
