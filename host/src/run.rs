@@ -2,17 +2,15 @@
 
 use std::hint::black_box;
 
-use crate::sent::{walk, Awaiting, Limits, Sent, Walk};
+use crate::sent::{walk, Awaiting, Limits, Numbers};
 
 /// A reliable packet that was sent once, at 1,000, with 500 to be acknowledged in.
 const AWAITING: Awaiting = Awaiting {
-    command: Sent {
-        sent: 1_000,
-        timeout: 500,
-        attempts: 1,
-        length: 100,
-        packet: true,
-    },
+    sent: 1_000,
+    timeout: 500,
+    attempts: 1,
+    length: 100,
+    packet: 1,
     mark: 0,
 };
 
@@ -25,14 +23,14 @@ const LIMITS: Limits = Limits {
     maximum: 30_000,
 };
 
-const START: Walk = Walk {
+const START: Numbers = Numbers {
     earliest: 0,
     next: 0,
     lost: 0,
     transit: 0,
-    kept: false,
-    back: false,
-    over: false,
+    kept: 0,
+    back: 0,
+    over: 0,
 };
 
 /// The making alone: what the walks have beside their call.

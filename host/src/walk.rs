@@ -1,12 +1,12 @@
 //! `lyn_walk` against `enet_protocol_check_timeouts`: runs of 0 to 40 sent commands, with 1 to 32 attempts each, as document
-//! 01's domain has them.
+//! 01's domain has them. A run is lent in two parts, often the second of none, and each flag that is true as any byte but 0.
 
 use enet::{Carried, Case, Left, Overdue, Sent};
 
 use crate::{
     clock,
     random::Random,
-    sent::{self, Awaiting, Limits, Walk},
+    sent::{self, Awaiting, Limits, Numbers},
     tally::Tally,
 };
 
@@ -20,8 +20,31 @@ const TIMES: [u32; 7] = [0, 1, 1_000, DAY, DAY.wrapping_neg(), 1 << 31, u32::MAX
 /// Timeouts that are always due, that double to 0, and that double past 2^32.
 const TIMEOUTS: [u32; 5] = [0, 1 << 31, (1 << 31) + 1, (1 << 31) - 1, u32::MAX];
 
-/// What is left, and what the walk says of it beside the numbers: whether one was kept, one went back, the peer was given up.
-type Outcome = (Left, [bool; 3]);
+#[derive(Debug, PartialEq)]
+struct Outcome {
+    left: Left,
+    /// What the walk says beside the numbers: whether one was kept, one went back, the peer was given up.
+    flags: [bool; 3],
+    /// The packets' bytes as they came back, and how many flags came back as neither 0 nor 1.
+    packets: Vec<u8>,
+    odd: usize,
+}
+
+/// What a host lends beside the case: its packets' flags, and how many commands are in the first part.
+#[derive(Debug)]
+struct Bytes {
+    packets: Vec<u8>,
+    first: usize,
+}
+
+/// A flag as a host may lend it.
+fn byte(random: &mut Random, flag: bool) -> u8 {
+    if flag {
+        1 + random.below(255) as u8
+    } else {
+        0
+    }
+}
 
 fn command(random: &mut Random, around: u32) -> Sent {
     let most = random.pick(&[4, 4, ATTEMPTS]);
@@ -88,36 +111,62 @@ fn case(random: &mut Random) -> Case {
     }
 }
 
-/// The run of a case, with a mark that the walk never makes.
-fn run(case: &Case) -> Vec<Awaiting> {
-    let awaiting = |sent: &Sent| {
-        let Sent { time, timeout, attempts, length, packet } = *sent;
-        let command = sent::Sent { sent: time, timeout, attempts, length, packet };
-        Awaiting { command, mark: 7 }
-    };
-    case.sent.iter().map(awaiting).collect()
+fn bytes(random: &mut Random, case: &Case) -> Bytes {
+    let count = case.sent.len();
+    Bytes {
+        packets: case.sent.iter().map(|sent| byte(random, sent.packet)).collect(),
+        first: if random.once_in(2) { count } else { random.below(count as u64 + 1) as usize },
+    }
 }
 
-fn walk(case: &Case, run: &mut [Awaiting]) -> Walk {
-    let Case { limit, minimum, maximum, .. } = *case;
+/// The run of a case, with a mark that the walk never makes.
+fn run(case: &Case, packet: impl Fn(usize) -> u8) -> Vec<Awaiting> {
+    let awaiting = |(place, sent): (usize, &Sent)| {
+        let Sent { time, timeout, attempts, length, .. } = *sent;
+        Awaiting { sent: time, timeout, attempts, length, packet: packet(place), mark: 7 }
+    };
+    case.sent.iter().enumerate().map(awaiting).collect()
+}
+
+fn start(case: &Case) -> Numbers {
     let Carried { earliest, next, lost, transit } = case.carried;
-    let (kept, back, over) = (false, false, false);
-    sent::walk(
-        run,
-        Limits { ping: 500, timeout: limit, minimum, maximum },
-        case.clock,
-        Walk { earliest, next, lost, transit, kept, back, over },
-    )
+    let (kept, back, over) = (0, 0, 0);
+    Numbers { earliest, next, lost, transit, kept, back, over }
+}
+
+fn walk(case: &Case, run: &mut [Awaiting], numbers: Numbers) -> Numbers {
+    let Case { limit, minimum, maximum, clock, .. } = *case;
+    sent::walk(run, Limits { ping: 500, timeout: limit, minimum, maximum }, clock, numbers)
+}
+
+/// Both parts of a run; the flags that come back from the first are lent to the second as any bytes.
+fn walked(
+    random: &mut Random,
+    case: &Case,
+    run: &mut [Awaiting],
+    first: usize,
+) -> (Numbers, usize) {
+    let (first, second) = run.split_at_mut(first);
+    let halfway = walk(case, first, start(case));
+    let [kept, back, over] = flags(&halfway).map(|flag| byte(random, flag != 0));
+    let end = walk(case, second, Numbers { kept, back, over, ..halfway });
+    let odd = [halfway, end].iter().flat_map(flags).filter(|flag| *flag > 1).count();
+    (end, odd)
+}
+
+fn flags(numbers: &Numbers) -> [u8; 3] {
+    [numbers.kept, numbers.back, numbers.over]
 }
 
 /// A host moves what is marked before what waits in its list, in the run's order.
-fn ours(case: &Case) -> Outcome {
-    let mut run = run(case);
-    let Walk { earliest, next, lost, transit, kept, back, over } = walk(case, &mut run);
+fn ours(random: &mut Random, case: &Case, bytes: &Bytes) -> Outcome {
+    let mut run = run(case, |place| bytes.packets[place]);
+    let (numbers, odd) = walked(random, case, &mut run, bytes.first);
+    let Numbers { earliest, next, lost, transit, .. } = numbers;
     let marked = |mark| (0..run.len()).filter(|place| run[*place].mark == mark).collect::<Vec<_>>();
     let command = |a: &Awaiting| {
-        let sent::Sent { sent, timeout, attempts, length, packet } = a.command;
-        Sent { time: sent, timeout, attempts, length, packet }
+        let Awaiting { sent, timeout, attempts, length, packet, .. } = *a;
+        Sent { time: sent, timeout, attempts, length, packet: packet != 0 }
     };
     let mut left = Left {
         carried: Carried { earliest, next, lost, transit },
@@ -130,16 +179,17 @@ fn ours(case: &Case) -> Outcome {
     let waiting = run.len()..run.len() + others;
     left.send_reliable.extend(waiting.end..waiting.end + reliable);
     left.outgoing.extend(waiting);
-    (left, [kept, back, over])
+    let packets = run.iter().map(|a| a.packet).collect();
+    Outcome { left, flags: flags(&numbers).map(|flag| flag != 0), packets, odd }
 }
 
-/// The source has no word for the first two: they are read off its lists.
-fn source(overdue: &mut Overdue, case: &Case) -> Outcome {
+/// The source has no word for the first two flags: they are read off its lists. The packets' bytes stay as they were lent.
+fn source(overdue: &mut Overdue, case: &Case, bytes: &Bytes) -> Outcome {
     overdue.load(case);
     let over = overdue.check();
     let left = overdue.left();
     let (kept, back) = (!left.sent.is_empty(), left.sent.len() < case.sent.len());
-    (left, [kept, back, over])
+    Outcome { left, flags: [kept, back, over], packets: bytes.packets.clone(), odd: 0 }
 }
 
 pub fn compare(random: &mut Random, more: u64) -> u64 {
@@ -147,19 +197,20 @@ pub fn compare(random: &mut Random, more: u64) -> u64 {
     let (mut some_back, mut given_up, mut both) = (0_u64, 0_u64, 0_u64);
     for _ in 0..more {
         let case = case(random);
-        let theirs = source(&mut overdue, &case);
-        let [_, back, over] = theirs.1;
+        let bytes = bytes(random, &case);
+        let theirs = source(&mut overdue, &case, &bytes);
+        let [_, back, over] = theirs.flags;
         some_back += u64::from(back);
         given_up += u64::from(over);
         both += u64::from(back && over);
-        tally.compare(&case, ours(&case), theirs);
+        tally.compare(&(&case, &bytes), ours(random, &case, &bytes), theirs);
     }
     println!("walk: some went back in {some_back} calls, given up in {given_up}, both in {both}");
     let cases: Vec<_> = (0..20_000).map(|_| case(random)).collect();
     let own = timed(
         &cases,
-        |case, place: &mut Vec<Awaiting>| *place = run(case),
-        |case, run| walk(case, run).over,
+        |case, place: &mut Vec<Awaiting>| *place = run(case, |at| case.sent[at].packet.into()),
+        |case, run| walk(case, run, start(case)).over != 0,
     );
     let theirs = timed(
         &cases,

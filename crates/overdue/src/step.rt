@@ -6,7 +6,6 @@ use numbers::wrapping;
 use parts::groups::Limits;
 
 // What the step needs of a sent command.
-#[repr(C)]
 pub struct Sent {
     pub sent: u32,
     pub timeout: u32,
@@ -16,7 +15,6 @@ pub struct Sent {
 }
 
 // The numbers that the walk carries; whether one was kept in sent, one went back, the peer was given up.
-#[repr(C)]
 pub struct Walk {
     pub earliest: u32,
     pub next: u32,

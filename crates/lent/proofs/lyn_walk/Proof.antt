@@ -1,7 +1,8 @@
--- `lyn_walk` meets its contract: a walk of its MIR, by hand. The slice is opened once, before the loop, and closed after it; a turn takes command i
--- out of the row, copies it, puts it back, calls `turn` on the copy, and stores the command and the numbers that come back.
+-- `lyn_walk` meets its contract: a walk of its MIR, by hand. The numbers are read, the slice is opened once, before the loop, and closed after it, and
+-- the numbers are written; a turn takes command i out of the row, copies it, puts it back, calls `turn` on the copy, and stores the command and the
+-- numbers that come back.
 -- The argument: after i turns the row is the run midway and the numbers are its numbers (Runs), whose ranges go from turn to turn with them.
-use mathlib.Core.Path.{_≡_, refl, sym, ap, subst}
+use mathlib.Core.Path.{_≡_, refl, sym, ap, subst, _∙_}
 use Prim.Native.Nat.{ℕ, _+_, _-_, _*_, _≤_, _<_, _^_, zero-le}
 use native.Mathlib.Numerals.{add-one-le, add-one-dec}
 use native.Mathlib.Omega.{arith}
@@ -58,18 +59,29 @@ use Rattle.parts.proofs.groups.Limits.Laws as L′
 use Rattle.overdue.specs.declared.step.Walk.{Walk}
 use Rattle.overdue.proofs.step.Walk as N
 use Rattle.overdue.proofs.step.Walk.Laws as N′
-use Rattle.lent.specs.Walking.{turnOf, Walked, Walks}
+use Rattle.lent.specs.Walking.{readOf, writtenOf, turnOf, Walked, Walks}
 use Rattle.lent.specs.declared.Awaiting.{Awaiting}
+use Rattle.lent.specs.declared.Numbers.{Numbers}
 use Rattle.lent.specs.declared.Turned.{Turned}
 use Rattle.lent.proofs.Runs.{midway, mid-start, mid-length, mid-next, mid-end}
 use Rattle.lent.proofs.Awaiting as T
 use Rattle.lent.proofs.Awaiting.Laws as T′
+use Rattle.lent.proofs.Numbers as P
+use Rattle.lent.proofs.Numbers.Laws as P′
 use Rattle.lent.proofs.Turned as Q
 use Rattle.lent.proofs.Turned.Laws as Q′
+use Rattle.lent.proofs.read as read′
+use Rattle.lent.proofs.read.Symbol as read-def
+use Rattle.lent.proofs.read.Symbol.{name as #lent·read}
+use Rattle.lent.proofs.read.Met as read-thm
 use Rattle.lent.proofs.turn as turn′
 use Rattle.lent.proofs.turn.Symbol as turn-def
 use Rattle.lent.proofs.turn.Symbol.{name as #lent·turn}
 use Rattle.lent.proofs.turn.Met as turn-thm
+use Rattle.lent.proofs.write as write′
+use Rattle.lent.proofs.write.Symbol as write-def
+use Rattle.lent.proofs.write.Symbol.{name as #lent·write}
+use Rattle.lent.proofs.write.Met as write-thm
 use Rattle.lent.proofs.lyn_walk.Key.{name as #lent·lyn-walk}
 use Rattle.lent.proofs.lyn_walk as walk′
 use Rattle.lent.proofs.lyn_walk.Statement as stated
@@ -78,9 +90,9 @@ use Rattle.lent.proofs.lyn_walk.Code.Mir as mir′
 
 abbrev stayed : Stays (walk′.ended .signature .params) (walk′.ended .kept)
 stayed =
-    (stay-slice (0 ∷ []) tt (plain (λ _. T.the-row)), (stay-none (λ _. L.the-row) yes, (stay-none (λ _. u32) yes, (stay-none (λ _. N.the-row) yes, tt))))
+    (stay-slice (0 ∷ []) tt (plain (λ _. T.the-row)), (stay-none (λ _. L.the-row) yes, (stay-none (λ _. u32) yes, (stay-none (λ _. P.the-row) yes, tt))))
 
--- the machine values of the structs: T is Awaiting, L is Limits, N is Walk, Q is Turned
+-- the machine values of the structs: T is Awaiting, L is Limits, P is Numbers, N is Walk, Q is Turned
 abbrev t-vals : Awaiting → List Val
 t-vals = LL.vals T.the-type T′.the-laws
 
@@ -89,6 +101,12 @@ l-val = LL.val L.the-type L′.the-laws
 
 abbrev l-vals : Limits → List Val
 l-vals = LL.vals L.the-type L′.the-laws
+
+abbrev p-val : Numbers → Val
+p-val = LL.val P.the-type P′.the-laws
+
+abbrev p-vals : Numbers → List Val
+p-vals = LL.vals P.the-type P′.the-laws
 
 abbrev n-val : Walk → Val
 n-val = LL.val N.the-type N′.the-laws
@@ -102,7 +120,7 @@ Ranged v = Is N.the-row v (n-vals v)
 
 -- what `getD` gives past the end
 abbrev none : Awaiting
-none = record { command = record { sent = 0; timeout = 0; attempts = 0; length = 0; packet = false }; mark = 0 }
+none = record { sent = 0; timeout = 0; attempts = 0; length = 0; packet = 0; mark = 0 }
 
 -- the types of the locals
 abbrev word : Ty
@@ -111,16 +129,41 @@ word = tyInt w64
 abbrev slice : Ty
 slice = sliceTy (tyRef (named 0) mut (pointee (T.the-row .written)))
 
--- what whoever holds a Turned knows of its fields
+-- what whoever holds a struct knows of it, and of a Turned's fields
+ranged : (v : Walk) (vs : List Val) → Is N.the-row v vs → Ranged v
+ranged v vs g = subst (λ (us : List Val). Is N.the-row v us) (LL.tells N.the-type N′.the-laws v vs g) g
+
+numbers-is : (r : Numbers) (vs : List Val) → Is P.the-row r vs → Is P.the-row r (p-vals r)
+numbers-is r vs g = subst (λ (us : List Val). Is P.the-row r us) (LL.tells P.the-type P′.the-laws r vs g) g
+
 walk-is : (r : Turned) (vs : List Val) → Is Q.the-row r vs → Ranged (r .walk)
 walk-is r vs g = LL.owed Q.the-type Q′.the-laws r vs g .0
 
 awaiting-is : (r : Turned) (vs : List Val) → Is Q.the-row r vs → Is T.the-row (r .awaiting) (t-vals (r .awaiting))
 awaiting-is r vs g = LL.owed Q.the-type Q′.the-laws r vs g .1 .0
 
--- the contract that the proof cites, and of its `ensured` the clause alone
+-- the contracts that the proof cites, and of the `ensured` of each the clause alone
+abbrev Read : {M : Type 1} (𝓤 : URA M) (H : Heap 𝓤) (A : Atoms 𝓤) (mem : Memory → SProp 𝓤) (run : Routine → Fun 𝓤) → Contract 𝓤
+Read 𝓤 H A mem run = tripleOf 𝓤 H A read′.signature (read′.spec 𝓤 H A mem run)
+
+abbrev Write : {M : Type 1} (𝓤 : URA M) (H : Heap 𝓤) (A : Atoms 𝓤) (mem : Memory → SProp 𝓤) (run : Routine → Fun 𝓤) → Contract 𝓤
+Write 𝓤 H A mem run = tripleOf 𝓤 H A write′.signature (write′.spec 𝓤 H A mem run)
+
 abbrev Turn : {M : Type 1} (𝓤 : URA M) (H : Heap 𝓤) (A : Atoms 𝓤) (mem : Memory → SProp 𝓤) (run : Routine → Fun 𝓤) → Contract 𝓤
 Turn 𝓤 H A mem run = tripleOf 𝓤 H A turn′.signature (turn′.spec 𝓤 H A mem run)
+
+abbrev Known : {M : Type 1} (𝓤 : URA M) (H : Heap 𝓤) (A : Atoms 𝓤) (mem : Memory → SProp 𝓤) (run : Routine → Fun 𝓤) → Tables 𝓤 H → Type 1
+Known 𝓤 H A mem run 𝓣 =
+    Triple 𝓤 (𝓣 .C #lent·read) (Read 𝓤 H A mem run)
+    × (Triple 𝓤 (𝓣 .C #lent·turn) (Turn 𝓤 H A mem run) × Triple 𝓤 (𝓣 .C #lent·write) (Write 𝓤 H A mem run))
+
+read-of : {M : Type 1} (𝓤 : URA M) (H : Heap 𝓤) (A : Atoms 𝓤) (mem : Memory → SProp 𝓤) (run : Routine → Fun 𝓤) (m : Numbers) (r : Walk)
+    → ent 𝓤 (ensured 𝓤 H A read′.ended (read′.clauses 𝓤 H A mem run) tt (m, tt) tt r) (fact 𝓤 (r ≡ readOf m))
+read-of 𝓤 H A mem run m r = exE 𝓤 _ (λ ws. snd∗ 𝓤 (sem 𝓤 H A (lasts read′.ended tt (m, tt) ws)) (fact 𝓤 (r ≡ readOf m)))
+
+write-of : {M : Type 1} (𝓤 : URA M) (H : Heap 𝓤) (A : Atoms 𝓤) (mem : Memory → SProp 𝓤) (run : Routine → Fun 𝓤) (v : Walk) (r : Numbers)
+    → ent 𝓤 (ensured 𝓤 H A write′.ended (write′.clauses 𝓤 H A mem run) tt (v, tt) tt r) (fact 𝓤 (r ≡ writtenOf v))
+write-of 𝓤 H A mem run v r = exE 𝓤 _ (λ ws. snd∗ 𝓤 (sem 𝓤 H A (lasts write′.ended tt (v, tt) ws)) (fact 𝓤 (r ≡ writtenOf v)))
 
 turn-of : {M : Type 1} (𝓤 : URA M) (H : Heap 𝓤) (A : Atoms 𝓤) (mem : Memory → SProp 𝓤) (run : Routine → Fun 𝓤)
     (l : Limits) (k : ℕ) (v : Walk) (a : Awaiting) (r : Turned)
@@ -129,14 +172,17 @@ turn-of 𝓤 H A mem run l k v a r =
     exE 𝓤 _ (λ ws. snd∗ 𝓤 (sem 𝓤 H A (lasts turn′.ended tt (l, (k, (v, (a, tt)))) ws)) (fact 𝓤 (r ≡ turnOf l k v a)))
 
 module _ {M : Type 1} (𝓤 : URA M) (H : Heap 𝓤) (A : Atoms 𝓤) (W : Given 𝓤 H A) (at-mem : Memory → SProp 𝓤) (run : Routine → Fun 𝓤)
-    (κ : Lft) (q : Share) (b o : ℕ) (γ : GName) (ys : List Awaiting) (l : Limits) (k : ℕ) (w : Walk)
-    (gn : Room T.the-row (length ys)) (gl : Is L.the-row l (l-vals l)) (gk : k < 2 ^ 32) (gw : Ranged w) where
+    (κ : Lft) (q : Share) (b o : ℕ) (γ : GName) (ys : List Awaiting) (l : Limits) (k : ℕ) (m : Numbers)
+    (gn : Room T.the-row (length ys)) (gl : Is L.the-row l (l-vals l)) (gk : k < 2 ^ 32) (gm : Is P.the-row m (p-vals m)) where
   -- a struct in its ranges is of its type, and is owned
   t-typed : (a : Awaiting) → Is T.the-row a (t-vals a) → Typed (T.the-row .mir) (t-vals a)
   t-typed a g = LL.lawful T.the-type T′.the-laws 𝓤 H A W .typed a _ g
 
   l-typed : Typed (L.the-row .mir) (l-vals l)
   l-typed = LL.lawful L.the-type L′.the-laws 𝓤 H A W .typed l _ gl
+
+  p-typed : (r : Numbers) → Is P.the-row r (p-vals r) → Typed (P.the-row .mir) (p-vals r)
+  p-typed r g = LL.lawful P.the-type P′.the-laws 𝓤 H A W .typed r _ g
 
   n-typed : (v : Walk) → Ranged v → Typed (N.the-row .mir) (n-vals v)
   n-typed v g = LL.lawful N.the-type N′.the-laws 𝓤 H A W .typed v _ g
@@ -147,23 +193,30 @@ module _ {M : Type 1} (𝓤 : URA M) (H : Heap 𝓤) (A : Atoms 𝓤) (W : Given
   l-makes : Makes 𝓤 H A L.the-row (Is L.the-row)
   l-makes = LL.makes L.the-type L′.the-plain 𝓤 H A
 
+  p-makes : Makes 𝓤 H A P.the-row (Is P.the-row)
+  p-makes = LL.makes P.the-type P′.the-plain 𝓤 H A
+
   n-makes : Makes 𝓤 H A N.the-row (Is N.the-row)
   n-makes = LL.makes N.the-type N′.the-plain 𝓤 H A
 
   abbrev n : ℕ
   n = length ys
 
+  -- the numbers that the walk begins with
+  abbrev w : Walk
+  w = readOf m
+
   abbrev Arg : Type 0
-  Arg = RefT (List Awaiting) × (Limits × (ℕ × (Walk × Unit {0})))
+  Arg = RefT (List Awaiting) × (Limits × (ℕ × (Numbers × Unit {0})))
 
   abbrev ref : List Awaiting → RefT (List Awaiting)
   ref zs = record { ptr = (b, o); name = γ; now = zs }
 
   abbrev x : Arg
-  x = (ref ys, (l, (k, (w, tt))))
+  x = (ref ys, (l, (k, (m, tt))))
 
   abbrev at : List Val × (List Val × (List Val × (List Val × Unit {0})))
-  at = (sliceVal (b, o) n ∷ [], (l-vals l, (vint w32 k ∷ [], (n-vals w, tt))))
+  at = (sliceVal (b, o) n ∷ [], (l-vals l, (vint w32 k ∷ [], (p-vals m, tt))))
 
   abbrev bound : walkOf 𝓤 H A walk′.ended stayed (walk′.clauses 𝓤 H A at-mem run) .Ghost
   bound = (((κ, tt), (q, tt), tt, x, at), tt)
@@ -177,22 +230,37 @@ module _ {M : Type 1} (𝓤 : URA M) (H : Heap 𝓤) (A : Atoms 𝓤) (W : Given
   abbrev lent : List Awaiting → List (Item 𝓤)
   lent zs = listed zs ∷ ‵ (fbor κ (Held T.the-row (length zs) b o γ)) ∷ ‵ (flft κ q) ∷ []
 
-  exits : (r : Walk) (zs : List Awaiting) → Walks l k w ys r zs → Ranged r → length zs ≡ n → ent 𝓤 (⋆ 𝓤 H A (lent zs)) (Post (n-val r))
+  exits : (r : Numbers) (zs : List Awaiting) → Walks l k m ys r zs → Is P.the-row r (p-vals r) → length zs ≡ n
+      → ent 𝓤 (⋆ 𝓤 H A (lent zs)) (Post (p-val r))
   exits r zs e gr len =
       qed W (lent zs) ∵
       suffices ! _ (ends-at 𝓤 H A walk′.ended stayed (walk′.clauses 𝓤 H A at-mem run)
-      W bound (n-val r) r (zs, (tt, (tt, (tt, tt)))) (len, (tt, (tt, (tt, tt))))) $
+      W bound (p-val r) r (zs, (tt, (tt, (tt, tt)))) (len, (tt, (tt, (tt, tt))))) $
       says ! e $ nothing ! $ move ! (3 ∷ 0 ∷ []) $ join ! $ frame ! $ fjoin ! $
       pureI ! (at-slice T.the-row (ref zs) (at .0)) (tt, (tt, tt)) (ap (λ (m : ℕ). sliceVal (b, o) m ∷ []) (sym len), room-at) $ fjoin ! $
-      nothing ! $ owned ! N.the-row (Is N.the-row) n-makes w _ gw $ fjoin ! $
+      nothing ! $ owned ! P.the-row (Is P.the-row) p-makes m _ gm $ fjoin ! $
       owned ! u32 (Is u32) (uint-makes 𝓤 H A W w32) k _ (refl, gk) $ fjoin ! $
       owned ! L.the-row (Is L.the-row) l-makes l _ gl $ fjoin ! $ move ! (1 ∷ 0 ∷ []) $ fjoin ! $
-      frame ! $ owned ! N.the-row (Is N.the-row) n-makes r _ gr $ done !
+      frame ! $ owned ! P.the-row (Is P.the-row) p-makes r _ gr $ done !
     where
       room-at : Room T.the-row (length zs)
       room-at = subst (λ (m : ℕ). Room T.the-row m) (sym len) gn
 
-  -- ---- the call
+  -- ---- the calls
+  abbrev to-read : Read 𝓤 H A at-mem run .Ghost
+  to-read = ((tt, tt, tt, (m, tt), (p-vals m, tt)), tt)
+
+  goes-read : ent 𝓤 (sem 𝓤 H A ftrue) (Read 𝓤 H A at-mem run .pre to-read)
+  goes-read =
+      qed W (‵ ftrue ∷ []) ∵ owned ! P.the-row (Is P.the-row) p-makes m _ gm $ join ! $ nothing ! $ join ! $ frame ! $ done !
+
+  abbrev to-write : Walk → Write 𝓤 H A at-mem run .Ghost
+  to-write v = ((tt, tt, tt, (v, tt), (n-vals v, tt)), tt)
+
+  goes-write : (v : Walk) → Ranged v → ent 𝓤 (sem 𝓤 H A ftrue) (Write 𝓤 H A at-mem run .pre (to-write v))
+  goes-write v gv =
+      qed W (‵ ftrue ∷ []) ∵ owned ! N.the-row (Is N.the-row) n-makes v _ gv $ join ! $ nothing ! $ join ! $ frame ! $ done !
+
   abbrev to-turn : Walk → Awaiting → Turn 𝓤 H A at-mem run .Ghost
   to-turn v a = ((tt, tt, tt, (l, (k, (v, (a, tt)))), (l-vals l, (vint w32 k ∷ [], (n-vals v, (t-vals a, tt))))), tt)
 
@@ -218,10 +286,10 @@ module _ {M : Type 1} (𝓤 : URA M) (H : Heap 𝓤) (A : Atoms 𝓤) (W : Given
   Nearer-wf : WellFounded Nearer
   Nearer-wf = InvImage·wf (λ (i : Upto). n - i .0) (Nat·lt-wfRel .wf)
 
-  byte-fits : (i : ℕ) → i < n → i * 20 < 2 ^ 64
-  byte-fits i h = let room : length ys * 20 < 2 ^ 63 = gn .1 in omega arith
+  byte-fits : (i : ℕ) → i < n → i * 16 < 2 ^ 64
+  byte-fits i h = let room : length ys * 16 < 2 ^ 63 = gn .1 in omega arith
 
-  module _ (𝓣 : Tables 𝓤 H) (fm : FmC 𝓤 H (W .laws) (𝓣 .C)) (known : Triple 𝓤 (𝓣 .C #lent·turn) (Turn 𝓤 H A at-mem run))
+  module _ (𝓣 : Tables 𝓤 H) (fm : FmC 𝓤 H (W .laws) (𝓣 .C)) (known : Known 𝓤 H A at-mem run 𝓣)
       (l₀ l₁ l₂ l₃ l₄ l₅ l₆ l₇ l₈ l₉ l₁₀ l₁₁ l₁₂ l₁₃ : ℕ) where
     abbrev C : Calls 𝓤 H
     C = 𝓣 .C
@@ -230,7 +298,7 @@ module _ {M : Type 1} (𝓤 : URA M) (H : Heap 𝓤) (A : Atoms 𝓤) (W : Given
     Λ = 𝓣 .Λ
 
     abbrev En : Env 𝓤 H
-    En = (N′.mir, l₀) ∷ (slice, l₁) ∷ (L′.mir, l₂) ∷ (tyInt w32, l₃) ∷ (N′.mir, l₄) ∷ (N′.mir, l₅) ∷ (word, l₆) ∷ (T′.mir, l₇) ∷ (Q′.mir, l₈) ∷ (word, l₉)
+    En = (P′.mir, l₀) ∷ (slice, l₁) ∷ (L′.mir, l₂) ∷ (tyInt w32, l₃) ∷ (P′.mir, l₄) ∷ (N′.mir, l₅) ∷ (word, l₆) ∷ (T′.mir, l₇) ∷ (Q′.mir, l₈) ∷ (word, l₉)
         ∷ (tyBool, l₁₀) ∷ (tyPtr, l₁₁) ∷ (T′.mir, l₁₂) ∷ (tyPtr, l₁₃) ∷ []
 
     -- a local without a value, and with one
@@ -246,7 +314,7 @@ module _ {M : Type 1} (𝓤 : URA M) (H : Heap 𝓤) (A : Atoms 𝓤) (W : Given
 
     abbrev passed : List (Item 𝓤) → List (Item 𝓤)
     passed rest =
-        holds N′.mir l₄ (n-val w) (holds (tyInt w32) l₃ (vint w32 k) (holds L′.mir l₂ (l-val l) (holds slice l₁ (sliceVal (b, o) n) (vacant N′.mir l₀ rest))))
+        holds P′.mir l₄ (p-val m) (holds (tyInt w32) l₃ (vint w32 k) (holds L′.mir l₂ (l-val l) (holds slice l₁ (sliceVal (b, o) n) (vacant P′.mir l₀ rest))))
 
     -- [the commands; the open borrow; obs; auth; _13 at 4; _12 at 6; _11 at 8; _10 at 10; _9 at 12; _8 at 14;
     -- _7 at 16; _6 (i) at 18; _5 (w) at 20; _4 at 22; _3 at 24; _2 at 26; _1 at 28; _0 at 30]
@@ -275,7 +343,7 @@ module _ {M : Type 1} (𝓤 : URA M) (H : Heap 𝓤) (A : Atoms 𝓤) (W : Given
         (from ! (stop !)) (store ! 12 refl (tt, record { fits = byte-fits (i .0) h })) $
         assigns ! (bin ! (load ! (from ! (fld ! refl (stop !))) (look-in ! 28 (sub ! 0 refl (whole !)))) (load ! (from ! (stop !)) (look ! 12 refl)) tt)
         (from ! (stop !)) (init ! 8 refl (tt, tt)) $
-        rewrite ! 8 (λ (p : ℕ). ‵ (fat fullShare tyPtr l₁₁ 0 (vptr b p))) (sym (place-is 20 o (i .0))) refl $
+        rewrite ! 8 (λ (p : ℕ). ‵ (fat fullShare tyPtr l₁₁ 0 (vptr b p))) (sym (place-is 16 o (i .0))) refl $
         elem-out ! T.the-row (Is T.the-row) (shows 𝓤 H A T.the-row) t-vals (LL.tells T.the-type T′.the-laws)
         fullShare (mid (i .0) .run) (i .0) none b o in-mid (λ g.
         assigns ! (of-opd ! (load ! (from ! (hop ! (look ! 10 refl) (stop !))) (look-raw ! 0 refl))) (from ! (stop !)) (init ! 8 refl (t-typed a g .0)) $
@@ -283,7 +351,7 @@ module _ {M : Type 1} (𝓤 : URA M) (H : Heap 𝓤) (A : Atoms 𝓤) (W : Given
         elem-back ! T.the-row fullShare (mid (i .0) .run) (i .0) none (t-vals a) b o in-mid $
         -- the call
         nothing ! $ use1 W (raw (Turn 𝓤 H A at-mem run .pre (to-turn v a))) (goes-turn v a (i .1 .1) g) $
-        calls-at ! fm (Turn 𝓤 H A at-mem run) known (to-turn v a)
+        calls-at ! fm (Turn 𝓤 H A at-mem run) (known .1 .0) (to-turn v a)
         (and-then ! (load ! (from ! (stop !)) (look ! 27 refl)) (and-then ! (load ! (from ! (stop !)) (look ! 25 refl))
         (and-then ! (load ! (from ! (stop !)) (look ! 21 refl)) (and-then ! (load ! (from ! (stop !)) (look ! 17 refl)) (no-more !))))) (λ u.
         use1 W (later (some (λ (r : Turned). (‵ ftrue ⊛ ‵ (Q.the-row .own r (u ∷ [])))
@@ -299,7 +367,7 @@ module _ {M : Type 1} (𝓤 : URA M) (H : Heap 𝓤) (A : Atoms 𝓤) (W : Given
         (from ! (stop !)) (store ! 12 refl (tt, record { fits = byte-fits (i .0) h })) $
         assigns ! (bin ! (load ! (from ! (fld ! refl (stop !))) (look-in ! 28 (sub ! 0 refl (whole !)))) (load ! (from ! (stop !)) (look ! 12 refl)) tt)
         (from ! (stop !)) (init ! 4 refl (tt, tt)) $
-        rewrite ! 4 (λ (p : ℕ). ‵ (fat fullShare tyPtr l₁₃ 0 (vptr b p))) (sym (place-is 20 o (i .0))) refl $
+        rewrite ! 4 (λ (p : ℕ). ‵ (fat fullShare tyPtr l₁₃ 0 (vptr b p))) (sym (place-is 16 o (i .0))) refl $
         elem-out ! T.the-row (Is T.the-row) (shows 𝓤 H A T.the-row) t-vals (LL.tells T.the-type T′.the-laws)
         fullShare (mid (i .0) .run) (i .0) none b o in-mid (λ _.
         assigns ! (of-opd ! (load ! (from ! (fld ! refl (stop !))) (look-in ! 16 (sub ! 1 refl (whole !)))))
@@ -344,7 +412,17 @@ module _ {M : Type 1} (𝓤 : URA M) (H : Heap 𝓤) (A : Atoms 𝓤) (W : Given
         (from ! (stop !)) (init ! 10 refl (tt, tt)) $
         rewrite ! 10 (λ (t : Bool). ‵ (fat fullShare tyBool l₁₀ 0 (vbool t))) (le-ltb (i .0) n h) refl $
         leaves-loop ! (load ! (from ! (stop !)) (look ! 10 refl)) $ exec ! C Λ En mir′.t-4 (atRet En Post) $
-        assigns ! (of-opd ! (load ! (from ! (stop !)) (look ! 20 refl))) (from ! (stop !)) (init ! 30 refl (n-typed (mid (i .0) .walk) (i .1 .1) .0)) $
+        -- the numbers are written
+        nothing ! $ use1 W (raw (Write 𝓤 H A at-mem run .pre (to-write v))) (goes-write v (i .1 .1)) $
+        calls-at ! fm (Write 𝓤 H A at-mem run) (known .1 .1) (to-write v) (and-then ! (load ! (from ! (stop !)) (look ! 21 refl)) (no-more !)) (λ u.
+        use1 W (later (some (λ (r : Numbers). (‵ ftrue ⊛ ‵ (P.the-row .own r (u ∷ [])))
+        ⊛ raw (ensured 𝓤 H A write′.ended (write′.clauses 𝓤 H A at-mem run) tt (v, tt) tt r)))) (id⊢ 𝓤 _) $
+        await ! tt $ pick ! (λ r.
+        split ! $ move ! (1 ∷ []) $ use1 W (raw (fact 𝓤 (r ≡ writtenOf v))) (write-of 𝓤 H A at-mem run v r) $
+        heard ! (r ≡ writtenOf v) (λ e. split ! $ drop ! $
+        peeks ! P.the-row (Is P.the-row) (shows 𝓤 H A P.the-row) r (u ∷ []) (λ is.
+        land ! (from ! (stop !)) (init ! 31 refl (LL.lawful P.the-type P′.the-laws 𝓤 H A W .typed r _ is .0)) $
+        rewrite ! 31 (λ (u : Val). ‵ (fat fullShare P′.mir l₀ 0 u)) (ap only (LL.tells P.the-type P′.the-laws r (u ∷ []) is)) refl $ drop ! $
         closes-slice ! tt T.the-row ys (mid (i .0) .run) (mid-length l k w (i .0) ys) b o $
         -- [obs; the borrow; the token; _13 at 3; …; _0 at 29]
         returns ! (look ! 29 refl) $ forget ! 9 refl $ forget ! 11 refl $ forget ! 17 refl $ forget ! 19 refl $
@@ -353,10 +431,15 @@ module _ {M : Type 1} (𝓤 : URA M) (H : Heap 𝓤) (A : Atoms 𝓤) (W : Given
         move ! (21 ∷ 22 ∷ []) $ free1 ! $ move ! (19 ∷ 20 ∷ []) $ free1 ! $ move ! (17 ∷ 18 ∷ []) $ free1 ! $ move ! (15 ∷ 16 ∷ []) $ free1 ! $
         move ! (13 ∷ 14 ∷ []) $ free1 ! $ move ! (11 ∷ 12 ∷ []) $ free1 ! $ move ! (9 ∷ 10 ∷ []) $ free1 ! $ move ! (7 ∷ 8 ∷ []) $ free1 ! $
         move ! (5 ∷ 6 ∷ []) $ free1 ! $ move ! (3 ∷ 4 ∷ []) $ free1 ! $ free0 ! $
-        keep ! (0 ∷ 1 ∷ 2 ∷ []) $ by ! (exits (mid (i .0) .walk) (mid (i .0) .run) whole-run (i .1 .1) (mid-length l k w (i .0) ys))
+        keep ! (0 ∷ 1 ∷ 2 ∷ []) $ by ! (exits r (mid (i .0) .run) (whole-run r e) (numbers-is r _ is) (mid-length l k w (i .0) ys))))))
       where
-        whole-run : Walks l k w ys (mid (i .0) .walk) (mid (i .0) .run)
-        whole-run = let e = mid-end l k w (i .0) ys h in record { walk = ap (λ (m : Walked). m .walk) e; run = ap (λ (m : Walked). m .run) e }
+        v : Walk
+        v = mid (i .0) .walk
+
+        whole-run : (r : Numbers) → r ≡ writtenOf v → Walks l k m ys r (mid (i .0) .run)
+        whole-run r e =
+            let all = mid-end l k w (i .0) ys h in
+            record { walk = e ∙ ap (λ (m : Walked). writtenOf (m .walk)) all; run = ap (λ (m : Walked). m .run) all }
 
     turns : (i : Upto) → (t : Bool) → ltb (i .0) n ≡ t → Sq W (At i) (runs C Λ En mir′.turn-1 (anyQ (Gone i)))
     turns i true e = more i (ltb-true (i .0) n e)
@@ -368,41 +451,51 @@ module _ {M : Type 1} (𝓤 : URA M) (H : Heap 𝓤) (A : Atoms 𝓤) (W : Given
 
     starts : Sq W Entry (runs C Λ En mir′.t-1 (atRet En Post))
     starts =
-        assigns ! (of-opd ! (load ! (from ! (stop !)) (look ! 18 refl))) (from ! (stop !)) (init ! 16 refl (n-typed w gw .0)) $
+        -- the numbers are read
+        nothing ! $ use1 W (raw (Read 𝓤 H A at-mem run .pre to-read)) goes-read $
+        calls-at ! fm (Read 𝓤 H A at-mem run) (known .0) to-read (and-then ! (load ! (from ! (stop !)) (look ! 19 refl)) (no-more !)) (λ u.
+        use1 W (later (some (λ (r : Walk). (‵ ftrue ⊛ ‵ (N.the-row .own r (u ∷ [])))
+        ⊛ raw (ensured 𝓤 H A read′.ended (read′.clauses 𝓤 H A at-mem run) tt (m, tt) tt r)))) (id⊢ 𝓤 _) $
+        await ! tt $ pick ! (λ r.
+        split ! $ move ! (1 ∷ []) $ use1 W (raw (fact 𝓤 (r ≡ w))) (read-of 𝓤 H A at-mem run m r) $
+        heard ! (r ≡ w) (λ e. split ! $ drop ! $
+        peeks ! N.the-row (Is N.the-row) (shows 𝓤 H A N.the-row) r (u ∷ []) (λ is.
+        land ! (from ! (stop !)) (init ! 17 refl (LL.lawful N.the-type N′.the-laws 𝓤 H A W .typed r _ is .0)) $
+        rewrite ! 17 (λ (u : Val). ‵ (fat fullShare N′.mir l₅ 0 u)) (ap only (LL.tells N.the-type N′.the-laws r (u ∷ []) is)) refl $ drop ! $
         assigns ! (of-opd ! (lit ! tt)) (from ! (stop !)) (init ! 14 refl (tt, record { fits = lit< tt })) $
-        rewrite ! 16 (λ (m : Walk). ‵ (fat fullShare N′.mir l₅ 0 (n-val m))) (ap (λ (m : Walked). m .walk) start) refl $
+        rewrite ! 16 (λ (m : Walk). ‵ (fat fullShare N′.mir l₅ 0 (n-val m))) (e ∙ ap (λ (m : Walked). m .walk) start) refl $
         move ! (28 ∷ 29 ∷ 30 ∷ []) $ opens-slice ! tt T.the-row ys b o $
         rewrite ! 0 (λ (zs : List Awaiting). ‵ (row T.the-row fullShare zs b o)) (ap (λ (m : Walked). m .run) start) refl $
-        first ! $ blocks ! $ loops ! 𝓣 Nearer Nearer-wf At (λ i. turns i (ltb (i .0) n) refl) (0, (zero-le, start-is))
+        first ! $ blocks ! $ loops ! 𝓣 Nearer Nearer-wf At (λ i. turns i (ltb (i .0) n) refl) (0, (zero-le, start-is r e is))))))
       where
         start : record { walk = w; run = ys } ≡ mid 0
         start = sym (mid-start l k w ys)
 
-        start-is : Ranged (mid 0 .walk)
-        start-is = subst (λ (m : Walked). Ranged (m .walk)) start gw
+        start-is : (r : Walk) → r ≡ w → {vs : List Val} → Is N.the-row r vs → Ranged (mid 0 .walk)
+        start-is r e {vs} is = subst Ranged (e ∙ ap (λ (m : Walked). m .walk) start) (ranged r vs is)
 
-  walk : (𝓣 : Tables 𝓤 H) (fm : FmC 𝓤 H (W .laws) (𝓣 .C)) (known : Triple 𝓤 (𝓣 .C #lent·turn) (Turn 𝓤 H A at-mem run))
+  walk : (𝓣 : Tables 𝓤 H) (fm : FmC 𝓤 H (W .laws) (𝓣 .C)) (known : Known 𝓤 H A at-mem run 𝓣)
       → ent 𝓤 (onEntry 𝓤 H A walk′.signature (κ, tt) (q, tt) x at)
-      (WpFn 𝓤 H (𝓣 .C) (𝓣 .Λ) code.function (sliceVal (b, o) n ∷ l-val l ∷ vint w32 k ∷ n-val w ∷ []) Post)
+      (WpFn 𝓤 H (𝓣 .C) (𝓣 .Λ) code.function (sliceVal (b, o) n ∷ l-val l ∷ vint w32 k ∷ p-val m ∷ []) Post)
   walk 𝓣 fm known =
-      qed W ((‵ (flft κ q) ⊛ ‵ ftrue) ∷ ‵ (owns (MutSlice (named 0) κ T.the-row ∷ L.the-row ∷ u32 ∷ N.the-row ∷ []) x at) ∷ []) ∵
+      qed W ((‵ (flft κ q) ⊛ ‵ ftrue) ∷ ‵ (owns (MutSlice (named 0) κ T.the-row ∷ L.the-row ∷ u32 ∷ P.the-row ∷ []) x at) ∷ []) ∵
       split ! $ move ! (2 ∷ []) $ fsplit ! $ fsplit ! $ move ! (1 ∷ []) $ fsplit ! $ keep ! (0 ∷ 1 ∷ 4 ∷ []) $
       -- [obs; the borrow; the token]
-      enter ! (𝓣 .C) (𝓣 .Λ) code.function (sliceVal (b, o) n ∷ l-val l ∷ vint w32 k ∷ n-val w ∷ []) _ $
+      enter ! (𝓣 .C) (𝓣 .Λ) code.function (sliceVal (b, o) n ∷ l-val l ∷ vint w32 k ∷ p-val m ∷ []) _ $
       alloc1 ! (λ l₀. alloc1 ! (λ l₁. alloc1 ! (λ l₂. alloc1 ! (λ l₃. alloc1 ! (λ l₄.
       alloc1 ! (λ l₅. alloc1 ! (λ l₆. alloc1 ! (λ l₇. alloc1 ! (λ l₈. alloc1 ! (λ l₉.
       alloc1 ! (λ l₁₀. alloc1 ! (λ l₁₁. alloc1 ! (λ l₁₂. alloc1 ! (λ l₁₃. alloc0 ! $ params1 ! $
       pass1 ! (init ! 24 refl (tt, (tt, (record { fits = gn .0 }, tt)))) $ pass1 ! (init ! 22 refl (l-typed .0)) $
-      pass1 ! (init ! 20 refl (tt, record { fits = gk })) $ pass1 ! (init ! 18 refl (n-typed w gw .0)) $ pass0 ! $
+      pass1 ! (init ! 20 refl (tt, record { fits = gk })) $ pass1 ! (init ! 18 refl (p-typed m gm .0)) $ pass0 ! $
       starts 𝓣 fm known l₀ l₁ l₂ l₃ l₄ l₅ l₆ l₇ l₈ l₉ l₁₀ l₁₁ l₁₂ l₁₃))))))))))))))
 
 module _ {M : Type 1} (𝓤 : URA M) (H : Heap 𝓤) (A : Atoms 𝓤) (W : Given 𝓤 H A) (at-mem : Memory → SProp 𝓤) (run : Routine → Fun 𝓤)
-    (𝓣 : Tables 𝓤 H) (known : Triple 𝓤 (𝓣 .C #lent·turn) (Turn 𝓤 H A at-mem run)) where
+    (𝓣 : Tables 𝓤 H) (known : Known 𝓤 H A at-mem run 𝓣) where
   walk-walks : Met 𝓤 H A walk′.ended stayed (WpFn 𝓤 H (𝓣 .C) (𝓣 .Λ) code.function) (walk′.clauses 𝓤 H A at-mem run)
   walk-walks =
       walked 𝓤 H A walk′.ended stayed (walk′.clauses 𝓤 H A at-mem run) (WpFn 𝓤 H (𝓣 .C) (𝓣 .Λ) code.function)
-      (λ κs. (slice-vals, (l-vals, (uint-vals w32, (n-vals, tt)))))
-      (λ κs. (mut-slice-tells (named 0) (κs .0) T.the-row, (LL.tells L.the-type L′.the-laws, (uint-tells w32, (LL.tells N.the-type N′.the-laws, tt)))))
+      (λ κs. (slice-vals, (l-vals, (uint-vals w32, (p-vals, tt)))))
+      (λ κs. (mut-slice-tells (named 0) (κs .0) T.the-row, (LL.tells L.the-type L′.the-laws, (uint-tells w32, (LL.tells P.the-type P′.the-laws, tt)))))
       (λ κs qs bounds a g are.
       via 𝓤 _ (fst∗ 𝓤 _ (emp 𝓤))
       (walk 𝓤 H A W at-mem run (κs .0) (qs .0) (a .0 .ptr .0) (a .0 .ptr .1) (a .0 .name) (a .0 .now) (a .1 .0) (a .1 .1 .0) (a .1 .1 .1 .0)
@@ -414,7 +507,7 @@ module _ {M : Type 1} (𝓤 : URA M) (H : Heap 𝓤) (A : Atoms 𝓤) (W : Given
         goes-slice 𝓤 H A W 1 0 tt (plain (λ _. T.the-row)),
         (
           goes-none 𝓤 H A W 1 (λ _. L.the-row) yes (λ κs x f. refl),
-          (goes-none 𝓤 H A W 1 (λ _. u32) yes (λ κs x f. refl), (goes-none 𝓤 H A W 1 (λ _. N.the-row) yes (λ κs x f. refl), tt)),
+          (goes-none 𝓤 H A W 1 (λ _. u32) yes (λ κs x f. refl), (goes-none 𝓤 H A W 1 (λ _. P.the-row) yes (λ κs x f. refl), tt)),
         ),
       )
       (walk′.clauses 𝓤 H A at-mem run) (WpFn 𝓤 H (𝓣 .C) (𝓣 .Λ) code.function) (WpFn-mono 𝓤 H (W .laws) 𝓣 code.function) walk-walks
@@ -424,5 +517,10 @@ unfolding code.routine tablesOf
 lyn-walk-spec 𝓤 H 𝓜 𝓖 𝓡 =
     entered 𝓤 H (tripleOf 𝓤 H (𝓖 .A) walk′.signature (walk′.spec 𝓤 H (𝓖 .A) (𝓜 .mem) (𝓡 .run)))
     (tables 𝓤 H 𝓜 𝓡 code.env .C) (tables 𝓤 H 𝓜 𝓡 code.env .Λ) #lent·lyn-walk code.function (code.unfolded 𝓤 H 𝓜 𝓡)
-    (walk-met 𝓤 H (𝓖 .A) (givenOf 𝓤 H 𝓜 𝓖) (𝓜 .mem) (𝓡 .run) (tablesOf 𝓤 H 𝓜 (tables 𝓤 H 𝓜 𝓡 code.env))
-    (cited 𝓤 H (Turn 𝓤 H (𝓖 .A) (𝓜 .mem) (𝓡 .run)) 𝓜 𝓡 code.env #lent·turn turn-def.routine code.calls-lent·turn (turn-thm.met 𝓤 H 𝓜 𝓖 𝓡)))
+    (walk-met 𝓤 H (𝓖 .A) (givenOf 𝓤 H 𝓜 𝓖) (𝓜 .mem) (𝓡 .run) (tablesOf 𝓤 H 𝓜 (tables 𝓤 H 𝓜 𝓡 code.env)) (
+      cited 𝓤 H (Read 𝓤 H (𝓖 .A) (𝓜 .mem) (𝓡 .run)) 𝓜 𝓡 code.env #lent·read read-def.routine code.calls-lent·read (read-thm.met 𝓤 H 𝓜 𝓖 𝓡),
+      (
+        cited 𝓤 H (Turn 𝓤 H (𝓖 .A) (𝓜 .mem) (𝓡 .run)) 𝓜 𝓡 code.env #lent·turn turn-def.routine code.calls-lent·turn (turn-thm.met 𝓤 H 𝓜 𝓖 𝓡),
+        cited 𝓤 H (Write 𝓤 H (𝓖 .A) (𝓜 .mem) (𝓡 .run)) 𝓜 𝓡 code.env #lent·write write-def.routine code.calls-lent·write (write-thm.met 𝓤 H 𝓜 𝓖 𝓡),
+      ),
+    ))
