@@ -37,8 +37,8 @@ quietly : (k : Insertion) (x : State) (rest : State → Ran) → comesTo (arrive
     → aside (arrives k) x (comesTo (arrives k) x) (rest (comesTo (arrives k) x .after)) ≡ rest x
 quietly k x rest q = ap rest q
 
-trace : (ls : List Line) (x : State) (log : List Event) → AllInRange (original ls) → Holds (windowOf x) log → Repeats ls x log
-    → played ls x ≡ run (original ls) x
+trace : (ls : List (Line Insertion)) (x : State) (log : List Event) → AllInRange (original ls) → Holds (windowOf x) log → Repeats ls x log
+    → played arrives ls x ≡ run (original ls) x
 unfolding played original run
 trace [] x log i h r = refl
 trace (own a ∷ ls) x log i h r =
@@ -52,8 +52,8 @@ trace (again k ∷ ls) x log i h r =
 pub no-trace : NoTrace
 no-trace mtu kept store lines i r = trace lines (resetState mtu kept store) [] i (reset-holds mtu kept store) r
 
-trace-original : (ls : List Line) (x : State) (log : List Event) → AllInRange (original ls) → Holds (windowOf x) log
-    → RepeatsOriginal ls x log → played ls x ≡ run (original ls) x
+trace-original : (ls : List (Line Insertion)) (x : State) (log : List Event) → AllInRange (original ls) → Holds (windowOf x) log
+    → RepeatsOriginal ls x log → played arrives ls x ≡ run (original ls) x
 unfolding played original run
 trace-original [] x log i h r = refl
 trace-original (own a ∷ ls) x log i h r =

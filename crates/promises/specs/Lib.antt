@@ -4,3 +4,8 @@ pub mod Repeats
 pub mod Standing
 pub mod Packets
 pub mod Reports
+pub mod Held
+pub mod Next
+pub mod Marks
+pub mod ReportRepeats
+pub mod Promised

@@ -24,26 +24,26 @@ pub record Insertion : Type 0 where
 abbrev pub arrives : Insertion → Asked
 arrives k = record { settings = k .settings; call = call.Inward (inw.UnsequencedArrival (k .arrival) (k .group)); datagram = k .datagram }
 
--- a line of a run with insertions: a call of the original run, or an arrival that was inserted
-pub data Line : Type 0 where
-  own : Asked → Line
-  again : Insertion → Line
+-- a line of a run with insertions: a call of the original run, or something that was inserted
+pub data Line (A : Type 0) : Type 0 where
+  own : Asked → Line A
+  again : A → Line A
 
 -- the run without what was inserted
-unfoldable pub original : List Line → List Asked
+unfoldable pub original : {A : Type 0} → List (Line A) → List Asked
 original [] = []
 original (own a ∷ ls) = a ∷ original ls
 original (again k ∷ ls) = original ls
 
--- an inserted arrival's answer is not the original calls'
+-- an inserted call's answer is not the original calls'
 abbrev pub aside : Asked → State → Outcome State → Ran → Ran
 aside a x o rest = record { answers = rest .answers; packets = packetsOf (a .call) (o .answer) (x .store) ++ rest .packets; end = rest .end }
 
--- the run of all lines: what the original calls answer in it, all packets that come out, and the end
-unfoldable pub played : List Line → State → Ran
-played [] x = ended x
-played (own a ∷ ls) x = let o = comesTo a x in before a x o (played ls (o .after))
-played (again k ∷ ls) x = let a = arrives k in let o = comesTo a x in aside a x o (played ls (o .after))
+-- the run of all lines, by the call that an insertion is: what the original calls answer in it, all packets that come out, and the end
+unfoldable pub played : {A : Type 0} → (A → Asked) → List (Line A) → State → Ran
+played by [] x = ended x
+played by (own a ∷ ls) x = let o = comesTo a x in before a x o (played by ls (o .after))
+played by (again k ∷ ls) x = let a = by k in let o = comesTo a x in aside a x o (played by ls (o .after))
 
 -- already delivered, no reset since, and at most 32 windows in all
 abbrev pub Recent : Since → Type 0
@@ -51,14 +51,14 @@ Recent never = ⊥
 Recent (windows m) = m ≤ 32
 
 -- each inserted arrival repeats a recent group, by the log of all that ran before it
-abbrev pub Repeats : List Line → State → List Event → Type 0
+abbrev pub Repeats : List (Line Insertion) → State → List Event → Type 0
 Repeats [] x log = Unit {0}
 Repeats (own a ∷ ls) x log = Repeats ls (comesTo a x .after) (logged a x log)
 Repeats (again k ∷ ls) x log =
     let a = arrives k in Recent (since (k .group .0) log) × Repeats ls (comesTo a x .after) (logged a x log)
 
 -- the same by the log of the original calls alone: since repeats leave no trace, it comes to the same
-abbrev pub RepeatsOriginal : List Line → State → List Event → Type 0
+abbrev pub RepeatsOriginal : List (Line Insertion) → State → List Event → Type 0
 RepeatsOriginal [] x log = Unit {0}
 RepeatsOriginal (own a ∷ ls) x log = RepeatsOriginal ls (comesTo a x .after) (logged a x log)
 RepeatsOriginal (again k ∷ ls) x log = Recent (since (k .group .0) log) × RepeatsOriginal ls x log
@@ -66,13 +66,13 @@ RepeatsOriginal (again k ∷ ls) x log = Recent (since (k .group .0) log) × Rep
 -- repeats leave no trace: the same answers, the same packets in the same order with the same bytes, the same record and store at the end
 abbrev pub NoTrace : Type 0
 NoTrace =
-    (mtu : ℕ) (kept : Kept) (store : List ℕ) (lines : List Line) → let x = resetState mtu kept store in
-    AllInRange (original lines) → Repeats lines x [] → played lines x ≡ run (original lines) x
+    (mtu : ℕ) (kept : Kept) (store : List ℕ) (lines : List (Line Insertion)) → let x = resetState mtu kept store in
+    AllInRange (original lines) → Repeats lines x [] → played arrives lines x ≡ run (original lines) x
 
 abbrev pub NoTraceOriginal : Type 0
 NoTraceOriginal =
-    (mtu : ℕ) (kept : Kept) (store : List ℕ) (lines : List Line) → let x = resetState mtu kept store in
-    AllInRange (original lines) → RepeatsOriginal lines x [] → played lines x ≡ run (original lines) x
+    (mtu : ℕ) (kept : Kept) (store : List ℕ) (lines : List (Line Insertion)) → let x = resetState mtu kept store in
+    AllInRange (original lines) → RepeatsOriginal lines x [] → played arrives lines x ≡ run (original lines) x
 
 -- after any calls, an arrival is stored whose group was delivered before, no reset since: m windows since its latest delivery, and those of its
 -- own move

@@ -1,5 +1,6 @@
--- What stands along a run from a reset: the record is sound, and the waiting total is what was stored and not yet received.
-use Prim.Native.Nat.{ℕ, _+_}
+-- What stands along a run from a reset: the record is sound, the waiting total is what was stored and not yet received, and what is in transit is what the
+-- packets in sent carry.
+use Prim.Native.Nat.{ℕ, _+_, _%_, _^_, _<_}
 use mathlib.Core.Path.{_≡_}
 use mathlib.Core.Bool.{true}
 use mathlib.Core.List.{List, [], _∷_}
@@ -7,12 +8,16 @@ use lib.Dec.{eqb}
 use lib.ListN.{getD}
 use Rattle.numbers.specs.Pick.{pick}
 use Rattle.numbers.specs.Answers.{Answer, numbersOf}
+use Rattle.slots.specs.Lists.{outItems}
 use Rattle.peer.specs.Damage.{sound}
 use Rattle.peer.specs.Settings.{fitSettings}
 use Rattle.peer.specs.Outcome.{State}
 use Rattle.peer.specs.declared.settings.Settings.{Settings}
 use Rattle.peer.specs.declared.defaults.Kept.{Kept}
+use Rattle.transit.specs.Transit.{limit, loads}
 use Rattle.link.specs.Runs.{Asked, comesTo, saysOne, run, resetState}
+use Rattle.outward.specs.declared.calls.Call.{Call as Outward}
+use Rattle.outward.specs.declared.calls.Call.the-variants as out
 use Rattle.inward.specs.declared.calls.Call.the-variants as inw
 use Rattle.link.specs.declared.calls.Call.{Call}
 use Rattle.link.specs.declared.calls.Call.the-variants as call
@@ -65,3 +70,31 @@ Waits =
     (mtu : ℕ) (kept : Kept) (store : List ℕ) (calls : List Asked) → let x = resetState mtu kept store in
     let t = tallied calls x freshTally in
     run calls x .end .peer .waiting .total + t .received ≡ t .stored
+
+-- a setup's piece length has 16 bits, as its type in the program says; here a number may be any
+abbrev pub ShortPiece : Outward → Type 0
+ShortPiece (out.Setup x) = x .length < limit
+ShortPiece out.Ping = Unit {0}
+ShortPiece (out.Send channel length flags) = Unit {0}
+ShortPiece (out.SendStep queue time) = Unit {0}
+ShortPiece (out.Acknowledgement channel number sent clock) = Unit {0}
+ShortPiece (out.TimeoutCheck clock) = Unit {0}
+ShortPiece (out.Throttle sample) = Unit {0}
+
+abbrev pub Short : Call → Type 0
+Short (call.Outward c) = ShortPiece c
+Short (call.Inward c) = Unit {0}
+Short call.Reset = Unit {0}
+Short (call.Begin mtu channels) = Unit {0}
+Short (call.SetState state) = Unit {0}
+
+abbrev pub AllShort : List Asked → Type 0
+AllShort [] = Unit {0}
+AllShort (a ∷ rest) = Short (a .call) × AllShort rest
+
+-- what is in transit is the sum of the piece lengths of the packets in sent, modulo 2^32
+abbrev pub InTransit : Type 0
+InTransit =
+    (mtu : ℕ) (kept : Kept) (store : List ℕ) (calls : List Asked) → AllShort calls
+    → let p = run calls (resetState mtu kept store) .end .peer in
+    p .flow .transit ≡ loads (p .outgoing) (outItems (p .lists .sent)) % 2 ^ 32

@@ -1,0 +1,76 @@
+-- What is next is delivered. In state 5, with its length in bounds and room: a reliable arrival of the next number is stored and joins dispatched at
+-- once, with all that was held behind it without a gap; an unsequenced arrival whose group is near and not marked is stored.
+use Prim.Native.Nat.{ℕ, suc, _<_}
+use mathlib.Core.Path.{_≡_}
+use mathlib.Core.Bool.{true, false}
+use mathlib.Core.List.{List}
+use mathlib.Core.Logic.{_⊎_}
+use lib.ListN.{length}
+use Rattle.numbers.specs.Counters.{step}
+use Rattle.numbers.specs.declared.counters.Group.{Group}
+use Rattle.runs.specs.declared.Free.the-variants.{Full}
+use Rattle.parts.specs.Sizes.{storeLength}
+use Rattle.peer.specs.Damage.{sound}
+use Rattle.peer.specs.Settings.{fitSettings}
+use Rattle.peer.specs.States.{connected}
+use Rattle.peer.specs.Outcome.{State, Outcome}
+use Rattle.peer.specs.declared.settings.Settings.{Settings}
+use Rattle.peer.specs.declared.defaults.Kept.{Kept}
+use Rattle.storing.specs.Storing.{freeSlot}
+use Rattle.window.specs.Window.{first, distant, marked}
+use Rattle.arriving.specs.Arrivals.{names, isWhole, stored}
+use Rattle.arriving.specs.declared.Arrival.{Arrival}
+use Rattle.unsequenced.specs.Calls.{sendUnsequenced}
+use Rattle.reliable.specs.Calls.{sendReliable}
+use Rattle.link.specs.Runs.{Asked, comesTo, run, resetState}
+use Rattle.inward.specs.declared.calls.Call.the-variants as inw
+use Rattle.link.specs.declared.calls.Call.{Call}
+use Rattle.link.specs.declared.calls.Call.the-variants as call
+use Rattle.promises.specs.History.{baseOf}
+use Rattle.promises.specs.Reports.{numbersJoined, series}
+use Rattle.promises.specs.Held.{lastIn, NoneReady, AllNumbered}
+
+-- nothing of an arrival's own, nor of the room for it, is in its way: settings and store fit, its byte names its command, its channel is there, the
+-- state is 5, its length is in bounds, the waiting total is below the setting and a slot is free
+pub record Fits (command : ℕ) (s : Settings) (a : Arrival) (datagram : List ℕ) (x : State) : Type 0 where
+  pub settings : fitSettings s ≡ true
+  pub store : length (x .store) ≡ storeLength
+  pub byte : names (a .byte) command ≡ true
+  pub on : a .channel < x .peer .standing .count
+  pub state : x .peer .standing .state ≡ connected
+  pub whole : isWhole a s (length datagram) ≡ true
+  pub below : x .peer .waiting .total < s .waiting
+  pub slot : freeSlot (x .peer .lists) (x .peer .channels) (x .peer .standing .count) ≡ Full → ⊥
+
+-- a reliable arrival with its settings and its datagram
+abbrev pub reliably : Settings → Arrival → List ℕ → Asked
+reliably s a datagram = record { settings = s; call = call.Inward (inw.ReliableArrival a); datagram = datagram }
+
+-- it is stored; it and what follows it without a gap join dispatched; and nothing that is ready is left
+pub record Delivers (channel : ℕ) (x : State) (o : Outcome State) : Type 0 where
+  pub answer : o .answer ≡ stored
+  pub more : ℕ
+  pub joined : numbersJoined x (o .after) ≡ series (lastIn x channel) (suc more)
+  pub left : NoneReady (o .after) channel
+
+abbrev pub NextDelivered : Type 0
+NextDelivered =
+    (t : Settings) (kept : Kept) (store : List ℕ) (calls : List Asked) (s : Settings) (a : Arrival) (datagram : List ℕ) → fitSettings t ≡ true
+    → AllNumbered calls
+    → let y = run calls (resetState (t .mtu) kept store) .end in
+    Fits sendReliable s a datagram y
+    → a .number .0 ≡ step (lastIn y (a .channel))
+    → Delivers (a .channel) y (comesTo (reliably s a datagram) y)
+
+-- an unsequenced arrival with its settings and its datagram
+abbrev pub unsequencedly : Settings → Arrival → Group → List ℕ → Asked
+unsequencedly s a g datagram = record { settings = s; call = call.Inward (inw.UnsequencedArrival a g); datagram = datagram }
+
+-- of any sound record: near, and in another window than the base's or not marked
+abbrev pub NearStored : Type 0
+NearStored =
+    (s : Settings) (a : Arrival) (g : Group) (datagram : List ℕ) (x : State) → sound (x .peer) ≡ true
+    → Fits sendUnsequenced s a datagram x
+    → distant (baseOf x) (g .0) ≡ false
+    → (first (g .0) ≡ baseOf x → ⊥) ⊎ (marked (x .peer .groups .words) (g .0) ≡ false)
+    → comesTo (unsequencedly s a g datagram) x .answer ≡ stored
