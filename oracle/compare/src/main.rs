@@ -202,13 +202,11 @@ fn write_vectors(script: &str, lines: &str) -> Result<ExitCode, String> {
     })
 }
 
-type Files = Output<io::BufWriter<fs::File>, io::BufWriter<fs::File>>;
-
 /// Both files, filled side by side.
 fn written(
     script: &str,
     lines: &str,
-    fill: impl FnOnce(&mut Files) -> io::Result<()>,
+    fill: impl FnOnce(&mut Output) -> io::Result<()>,
 ) -> Result<ExitCode, String> {
     let mut output = Output::new(create(script)?, create(lines)?);
     fill(&mut output).and_then(|()| output.finish()).map_err(|why| why.to_string())?;

@@ -1,6 +1,6 @@
 //! Random sequences in which a clock goes on: commands are sent, acknowledged or timed out, and sent again.
 
-use std::io::{self, Write};
+use std::io;
 
 use enet::record::{place, Record};
 
@@ -28,11 +28,7 @@ const ACKNOWLEDGING_CONNECT: u32 = 2;
 const DISCONNECTING: u32 = 7;
 
 /// A script of so many calls of ops 1 to 9 and 14, in sequences that start from new or random records.
-pub fn write<S: Write, L: Write>(
-    output: &mut Output<S, L>,
-    seed: u64,
-    count: u64,
-) -> io::Result<()> {
+pub fn write(output: &mut Output, seed: u64, count: u64) -> io::Result<()> {
     let mut random = Random::new(seed);
     let mut left = count;
     while left > 0 {
@@ -75,11 +71,7 @@ impl Sequence {
     }
 
     /// The settings of the start, and a record to start from: mostly a new one, since it takes few frames.
-    fn open<S: Write, L: Write>(
-        &self,
-        output: &mut Output<S, L>,
-        random: &mut Random,
-    ) -> io::Result<()> {
+    fn open(&self, output: &mut Output, random: &mut Random) -> io::Result<()> {
         output.put(&settings(1_392, PACKET))?;
         let record = match random.below(48) {
             0 => harm::any(random),
@@ -114,11 +106,7 @@ impl Sequence {
     }
 
     /// A call, now and then with numbers missing, or under settings that refuse it.
-    fn call<S: Write, L: Write>(
-        &mut self,
-        output: &mut Output<S, L>,
-        random: &mut Random,
-    ) -> io::Result<()> {
+    fn call(&mut self, output: &mut Output, random: &mut Random) -> io::Result<()> {
         self.pass(random);
         let mut asked = self.drawn(&output.model, random);
         if random.once_in(96) {
@@ -178,7 +166,7 @@ impl Sequence {
 }
 
 /// A new record with open channels; mostly it gives up sooner than one of the defaults.
-fn begin<S: Write, L: Write>(output: &mut Output<S, L>, random: &mut Random) -> io::Result<()> {
+fn begin(output: &mut Output, random: &mut Random) -> io::Result<()> {
     output.put(&frame(1, vec![]))?;
     output.put(&frame(2, vec![1_392, random.pick(&[1, 1, 2, 8])]))?;
     output.put(&frame(3, vec![CONNECTED]))?;

@@ -8,7 +8,7 @@ mod sets;
 pub mod taken;
 mod unsequenced;
 
-use std::io::{self, Write};
+use std::io;
 
 use enet::record::{place, Record};
 
@@ -27,7 +27,7 @@ pub use sequences::write;
 pub const NAMES: [&str; 4] = ["dispatch", "receive", "unsequenced", "reliable"];
 
 /// A set by its name on the command line.
-pub fn named<S: Write, L: Write>(name: &str) -> Option<Set<S, L>> {
+pub fn named(name: &str) -> Option<Set> {
     match name {
         "dispatch" => Some(sets::write_dispatch),
         "receive" => Some(sets::write_receive),
@@ -38,11 +38,7 @@ pub fn named<S: Write, L: Write>(name: &str) -> Option<Set<S, L>> {
 }
 
 /// What the repository stores of arrivals: so many calls in sequences, and a thin slice of each set.
-pub fn write_arrivals<S: Write, L: Write>(
-    output: &mut Output<S, L>,
-    seed: u64,
-    count: u64,
-) -> io::Result<()> {
+pub fn write_arrivals(output: &mut Output, seed: u64, count: u64) -> io::Result<()> {
     sequences::write(output, seed, count, Mix::Stored)?;
     unsequenced::write_slice(output)?;
     reliable::write_slice(output)
@@ -54,7 +50,7 @@ fn whole_store() -> Frame {
 }
 
 /// Asks, and answers whether a packet was stored.
-fn stores<S: Write, L: Write>(output: &mut Output<S, L>, asked: &Frame) -> io::Result<bool> {
+fn stores(output: &mut Output, asked: &Frame) -> io::Result<bool> {
     let line = output.ask(asked)?;
     Ok([10, 11].contains(&asked.op) && line.starts_with(&format!("{} 0 1 ", asked.op)))
 }
@@ -68,7 +64,7 @@ fn connected(channels: u32) -> Record {
 }
 
 /// The settings of the start.
-fn start<S: Write, L: Write>(output: &mut Output<S, L>) -> io::Result<()> {
+fn start(output: &mut Output) -> io::Result<()> {
     output.put(&set(&Settings::START))
 }
 

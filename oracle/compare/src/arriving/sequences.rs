@@ -1,6 +1,6 @@
 //! Random sequences of every call, most of them arrivals.
 
-use std::io::{self, Write};
+use std::io;
 
 use enet::record::place;
 
@@ -22,12 +22,7 @@ const REMEMBERED: usize = 8;
 
 /// A script of so many calls of ops 1 to 7 and 10 to 13, and of 8, 9 and 14 where the mix has them, in sequences
 /// that start from new or random records.
-pub fn write<S: Write, L: Write>(
-    output: &mut Output<S, L>,
-    seed: u64,
-    count: u64,
-    mix: Mix,
-) -> io::Result<()> {
+pub fn write(output: &mut Output, seed: u64, count: u64, mix: Mix) -> io::Result<()> {
     let mut random = Random::new(seed);
     let mut left = count;
     while left > 0 {
@@ -43,7 +38,7 @@ pub fn write<S: Write, L: Write>(
 }
 
 /// The settings of the start, and a record to start from: mostly a new one, since it takes few frames.
-fn open<S: Write, L: Write>(output: &mut Output<S, L>, random: &mut Random) -> io::Result<()> {
+fn open(output: &mut Output, random: &mut Random) -> io::Result<()> {
     start(output)?;
     let mut record = match random.below(32) {
         0 => harm::any(random),
@@ -58,7 +53,7 @@ fn open<S: Write, L: Write>(output: &mut Output<S, L>, random: &mut Random) -> i
 }
 
 /// A new record with open channels, its window and its last numbers anywhere or close to where they turn.
-fn begin<S: Write, L: Write>(output: &mut Output<S, L>, random: &mut Random) -> io::Result<()> {
+fn begin(output: &mut Output, random: &mut Random) -> io::Result<()> {
     output.put(&frame(1, vec![]))?;
     let channels = random.pick(&[1, 1, 2, 3, 8]);
     output.put(&frame(2, vec![1_392, channels]))?;
@@ -98,11 +93,7 @@ impl Sequence {
     }
 
     /// A call, now and then with numbers missing, or under other settings; then a look at what it left.
-    fn call<S: Write, L: Write>(
-        &mut self,
-        output: &mut Output<S, L>,
-        random: &mut Random,
-    ) -> io::Result<()> {
+    fn call(&mut self, output: &mut Output, random: &mut Random) -> io::Result<()> {
         let mut asked = self.drawn(&output.model, random);
         if random.once_in(64) {
             miscount(&mut asked, random);
@@ -189,11 +180,7 @@ fn others(model: &Model, random: &mut Random, asked: &Frame) -> Option<Settings>
 }
 
 /// The whole store's hash, and now and then the bytes of the cell that was written.
-fn look<S: Write, L: Write>(
-    output: &mut Output<S, L>,
-    random: &mut Random,
-    slot: usize,
-) -> io::Result<()> {
+fn look(output: &mut Output, random: &mut Random, slot: usize) -> io::Result<()> {
     output.put(&whole_store())?;
     if random.once_in(6) {
         let length = output.model.record.incoming_slots[slot].length;

@@ -1,6 +1,6 @@
 //! Random sequences of dispatch and receive.
 
-use std::io::{self, Write};
+use std::io;
 
 use enet::record::{place, Record, INCOMING};
 
@@ -18,11 +18,7 @@ use crate::{
 };
 
 /// A script of so many calls of ops 12 and 13, in sequences that start from random records.
-pub fn write<S: Write, L: Write>(
-    output: &mut Output<S, L>,
-    seed: u64,
-    count: u64,
-) -> io::Result<()> {
+pub fn write(output: &mut Output, seed: u64, count: u64) -> io::Result<()> {
     let mut random = Random::new(seed);
     let mut left = count;
     while left > 0 {
@@ -46,7 +42,7 @@ pub fn write<S: Write, L: Write>(
 }
 
 /// A call, now and then with numbers missing, or under settings that refuse it.
-fn call<S: Write, L: Write>(output: &mut Output<S, L>, random: &mut Random) -> io::Result<()> {
+fn call(output: &mut Output, random: &mut Random) -> io::Result<()> {
     let mut asked = drawn(random, output.model.record.numbers[place::CHANNEL_COUNT]);
     if random.once_in(32) {
         miscount(&mut asked, random);

@@ -3,7 +3,7 @@
 pub mod rules;
 pub mod sets;
 
-use std::io::{self, Write};
+use std::io;
 
 use enet::record::place;
 
@@ -36,12 +36,7 @@ const COUNTERS: &[usize] = &[
 
 /// A script of so many calls of ops 4 to 7, with acknowledgements between where the mix has them, in sequences
 /// that start from random records.
-pub fn write<S: Write, L: Write>(
-    output: &mut Output<S, L>,
-    seed: u64,
-    count: u64,
-    mix: Mix,
-) -> io::Result<()> {
+pub fn write(output: &mut Output, seed: u64, count: u64, mix: Mix) -> io::Result<()> {
     let mut random = Random::new(seed);
     let mut left = count;
     while left > 0 {
@@ -59,7 +54,7 @@ pub fn write<S: Write, L: Write>(
 }
 
 /// Settings that fit, and a record to start from: mostly a new one, since it takes few frames.
-fn start<S: Write, L: Write>(output: &mut Output<S, L>, random: &mut Random) -> io::Result<()> {
+fn start(output: &mut Output, random: &mut Random) -> io::Result<()> {
     let any = 1 + random.up_to(LARGEST - 1);
     let packet = random.pick(&[PACKET, PACKET, LARGEST, any]);
     output.put(&settings(random, packet))?;
@@ -83,7 +78,7 @@ fn settings(random: &mut Random, packet: u32) -> Frame {
 }
 
 /// A new record with open channels, mostly connected, and some of its counters anywhere.
-fn begin<S: Write, L: Write>(output: &mut Output<S, L>, random: &mut Random) -> io::Result<()> {
+fn begin(output: &mut Output, random: &mut Random) -> io::Result<()> {
     output.put(&records::frame(1, vec![]))?;
     let any = 576 + random.up_to(4_096 - 576);
     let mtu = random.pick(&[576, 1_051, 1_392, 4_096, any]);
@@ -112,11 +107,7 @@ fn edge(random: &mut Random, limit: u32) -> u32 {
 }
 
 /// A call, now and then with numbers missing, or under settings that refuse it.
-fn call<S: Write, L: Write>(
-    output: &mut Output<S, L>,
-    random: &mut Random,
-    mix: Mix,
-) -> io::Result<()> {
+fn call(output: &mut Output, random: &mut Random, mix: Mix) -> io::Result<()> {
     let mut frame = match mix.more(&output.model, random, 3) {
         Some(frame) => frame,
         None => drawn(&output.model, random),

@@ -6,7 +6,7 @@ mod network;
 mod sequences;
 mod start;
 
-use std::io::{self, Write};
+use std::io;
 
 use crate::{output::Output, random::Random};
 use network::Mood;
@@ -17,11 +17,7 @@ const SHORTEST: u64 = 200;
 const LONGEST: u64 = 2_400;
 
 /// A script of so many calls of ops 1 to 14, in sequences of the mood and the start that the seed says.
-pub fn write<S: Write, L: Write>(
-    output: &mut Output<S, L>,
-    seed: u64,
-    count: u64,
-) -> io::Result<()> {
+pub fn write(output: &mut Output, seed: u64, count: u64) -> io::Result<()> {
     let mut random = Random::new(seed);
     let mut left = count;
     while left > 0 {

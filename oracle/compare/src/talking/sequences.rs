@@ -1,9 +1,6 @@
 //! A talk: the calls on the near side's peer by a clock that goes on, and between them the network and the far side.
 
-use std::{
-    collections::VecDeque,
-    io::{self, Write},
-};
+use std::{collections::VecDeque, io};
 
 use enet::record::{place, Record};
 
@@ -26,8 +23,8 @@ use crate::{
 const UNDER_WAY: usize = 12;
 
 /// So many calls, from the settings and the record of a start.
-pub fn write<S: Write, L: Write>(
-    output: &mut Output<S, L>,
+pub fn write(
+    output: &mut Output,
     random: &mut Random,
     calls: u64,
     mood: Mood,
@@ -55,12 +52,7 @@ struct Talk {
 }
 
 impl Talk {
-    fn open<S: Write, L: Write>(
-        output: &mut Output<S, L>,
-        random: &mut Random,
-        mood: Mood,
-        from: Start,
-    ) -> io::Result<Self> {
+    fn open(output: &mut Output, random: &mut Random, mood: Mood, from: Start) -> io::Result<Self> {
         output.put(&set(&start::settings(random)))?;
         let mut talk = Talk::new(random, mood, Far::facing(&output.model.record));
         match from {
@@ -116,11 +108,7 @@ impl Talk {
     }
 
     /// A call, after what happened since the last one, and a look at the store where it may have changed.
-    fn call<S: Write, L: Write>(
-        &mut self,
-        output: &mut Output<S, L>,
-        random: &mut Random,
-    ) -> io::Result<()> {
+    fn call(&mut self, output: &mut Output, random: &mut Random) -> io::Result<()> {
         self.pass(random);
         self.far_side(random, &output.model);
         let asked = self.drawn(&output.model, random);
@@ -217,11 +205,7 @@ fn sent(line: &str) -> Option<Came> {
 }
 
 /// The whole store's hash after a stored arrival and a receive, and the bytes that a receive names.
-fn look<S: Write, L: Write>(
-    output: &mut Output<S, L>,
-    asked: &Frame,
-    line: &str,
-) -> io::Result<()> {
+fn look(output: &mut Output, asked: &Frame, line: &str) -> io::Result<()> {
     if asked.op == 13 || line.starts_with("10 0 1 ") || line.starts_with("11 0 1 ") {
         output.put(&frame(16, vec![0, STORE as u32]))?;
     }
