@@ -7,6 +7,8 @@ mod damage;
 mod events;
 mod frame;
 mod lines;
+#[cfg(test)]
+mod met;
 mod mix;
 mod model;
 mod ops;
@@ -18,6 +20,7 @@ mod records;
 mod repeats;
 mod script;
 mod sending;
+mod sequence;
 mod talking;
 
 use std::{env, fs, io, process::ExitCode};

@@ -294,7 +294,7 @@ fn write_unfit(output: &mut Output) -> io::Result<()> {
 #[cfg(test)]
 mod tests {
     use super::*;
-    use crate::acknowledging::assert_met;
+    use crate::acknowledging::assert_meets;
     use std::collections::BTreeSet;
 
     #[test]
@@ -311,10 +311,7 @@ mod tests {
     fn the_set_and_its_slice_meet_every_reply() {
         let replies =
             ["8 0 0", "8 0 1", "8 0 2", "8 0 3", "8 0 4", "8 10", "8 11", "8 13", "8 bad"];
-        let (mut all, mut slice) = (Vec::new(), Vec::new());
-        write(&mut Output::new(io::sink(), &mut all)).unwrap();
-        write_slice(&mut Output::new(io::sink(), &mut slice)).unwrap();
-        assert_met(&all, &replies, 60_000);
-        assert_met(&slice, &replies, 2_000);
+        assert_meets(write, &replies, 60_000);
+        assert_meets(write_slice, &replies, 2_000);
     }
 }

@@ -76,13 +76,11 @@ pub fn drawn(model: &Model, random: &mut Random) -> Frame {
     }
 }
 
-/// That these lines meet each of these replies, and are no more than this.
+/// That this set meets each of these replies, in no more lines than this.
 #[cfg(test)]
-fn assert_met(lines: &[u8], replies: &[&str], most: usize) {
-    let met = crate::arriving::met(lines);
-    for reply in replies {
-        assert!(met.contains_key(*reply), "{reply}: {met:?}");
-    }
+fn assert_meets(set: Set, replies: &[&str], most: usize) {
+    let met = crate::met::replies(set);
+    crate::met::assert_met(&met, 1, replies);
     let count: usize = met.values().sum();
     assert!(count <= most, "{count} lines");
 }

@@ -110,15 +110,12 @@ fn samples(last: u32, variance: u32) -> Vec<u32> {
 #[cfg(test)]
 mod tests {
     use super::*;
-    use crate::acknowledging::assert_met;
+    use crate::acknowledging::assert_meets;
 
     #[test]
     fn the_set_and_its_slice_meet_every_reply() {
         let replies = ["14 0 0", "14 0 1", "14 0 2", "14 11", "14 13"];
-        let (mut all, mut slice) = (Vec::new(), Vec::new());
-        write(&mut Output::new(io::sink(), &mut all)).unwrap();
-        write_slice(&mut Output::new(io::sink(), &mut slice)).unwrap();
-        assert_met(&all, &replies, 60_000);
-        assert_met(&slice, &replies, 600);
+        assert_meets(write, &replies, 60_000);
+        assert_meets(write_slice, &replies, 600);
     }
 }

@@ -351,15 +351,12 @@ fn write_states(output: &mut Output) -> io::Result<()> {
 #[cfg(test)]
 mod tests {
     use super::*;
-    use crate::acknowledging::assert_met;
+    use crate::acknowledging::assert_meets;
 
     #[test]
     fn the_set_and_its_slice_meet_every_reply() {
         let replies = ["9 0 1", "9 0 3", "9 11", "9 13"];
-        let (mut all, mut slice) = (Vec::new(), Vec::new());
-        write(&mut Output::new(io::sink(), &mut all)).unwrap();
-        write_slice(&mut Output::new(io::sink(), &mut slice)).unwrap();
-        assert_met(&all, &replies, 60_000);
-        assert_met(&slice, &replies, 1_600);
+        assert_meets(write, &replies, 60_000);
+        assert_meets(write_slice, &replies, 1_600);
     }
 }

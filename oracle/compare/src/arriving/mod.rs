@@ -67,14 +67,3 @@ fn connected(channels: u32) -> Record {
 fn start(output: &mut Output) -> io::Result<()> {
     output.put(&set(&Settings::START))
 }
-
-/// How often each op answered what: the op, then all before the hash, cut to three words.
-#[cfg(test)]
-pub fn met(lines: &[u8]) -> std::collections::BTreeMap<String, usize> {
-    let mut met = std::collections::BTreeMap::new();
-    for line in String::from_utf8(lines.to_vec()).unwrap().lines() {
-        let reply: Vec<&str> = line.split(" # ").next().unwrap().split(' ').take(3).collect();
-        *met.entry(reply.join(" ")).or_insert(0) += 1;
-    }
-    met
-}

@@ -161,21 +161,17 @@ fn arrival(random: &mut Random, number: u16) -> Frame {
 mod tests {
     use super::*;
     use crate::{
-        arriving::met,
+        met::{assert_met, replies},
         model::Model,
         ops::{self, reliable::LAST},
     };
 
     #[test]
     fn the_set_meets_every_reply() {
-        let mut lines = Vec::new();
-        write(&mut Output::new(io::sink(), &mut lines)).unwrap();
-        let met = met(&lines);
-        for reply in
-            ["11 0 0", "11 0 1", "11 6", "11 7", "11 8", "11 9", "11 11", "11 13", "11 bad"]
-        {
-            assert!(met.get(reply).is_some_and(|count| *count >= 1), "{reply}: {met:?}");
-        }
+        let met = replies(write);
+        let replies =
+            ["11 0 0", "11 0 1", "11 6", "11 7", "11 8", "11 9", "11 11", "11 13", "11 bad"];
+        assert_met(&met, 1, &replies);
     }
 
     /// The line, without its hash, of this number on channel 1.

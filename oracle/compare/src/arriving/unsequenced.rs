@@ -159,16 +159,15 @@ fn arrival(random: &mut Random, group: u16) -> Frame {
 #[cfg(test)]
 mod tests {
     use super::*;
-    use crate::{arriving::met, model::Model, ops};
+    use crate::{
+        met::{assert_met, replies},
+        model::Model,
+        ops,
+    };
 
     #[test]
     fn the_slice_meets_every_reply() {
-        let mut lines = Vec::new();
-        write_slice(&mut Output::new(io::sink(), &mut lines)).unwrap();
-        let met = met(&lines);
-        for reply in ["10 0 0", "10 0 1", "10 8"] {
-            assert!(met.get(reply).is_some_and(|count| *count >= 10), "{reply}: {met:?}");
-        }
+        assert_met(&replies(write_slice), 10, &["10 0 0", "10 0 1", "10 8"]);
     }
 
     #[test]
