@@ -6,7 +6,7 @@ use enet::record::{place, Record};
 
 use crate::{
     frame::Frame,
-    model::{Model, CONNECTED, DISCONNECT_LATER},
+    model::{Model, ACKNOWLEDGING_CONNECT, CONNECTED, DISCONNECTING, DISCONNECT_LATER},
     ops::{
         self,
         acknowledgement::{self, DAY},
@@ -23,10 +23,6 @@ use crate::{
     script::miscount,
     sequence,
 };
-
-/// States in which an acknowledgement answers more than done.
-const ACKNOWLEDGING_CONNECT: u32 = 2;
-const DISCONNECTING: u32 = 7;
 
 /// A script of so many calls of ops 1 to 9 and 14, in sequences that start from new or random records.
 pub fn write(output: &mut Output, seed: u64, count: u64) -> io::Result<()> {

@@ -15,7 +15,7 @@ use enet::record::{place, Record};
 use crate::{
     frame::Frame,
     mix::Mix,
-    model::{Settings, CONNECTED, STORE},
+    model::{Settings, CELL, CONNECTED, STORE},
     output::Output,
     records::{frame, set},
     sending::sets::Set,
@@ -45,8 +45,25 @@ pub fn write_arrivals(output: &mut Output, seed: u64, count: u64) -> io::Result<
 }
 
 /// The whole store's hash.
-fn whole_store() -> Frame {
+pub fn whole_store() -> Frame {
     frame(16, vec![0, STORE as u32])
+}
+
+/// What is looked at after this line: the whole store's hash after a stored arrival and a receive, and the bytes that a
+/// receive names.
+pub fn looks(line: &str) -> Vec<Frame> {
+    let mut looks = Vec::new();
+    if ["10 0 1 ", "11 0 1 ", "13 0 "].iter().any(|start| line.starts_with(start)) {
+        looks.push(whole_store());
+    }
+    if let Some(taken) = line.strip_prefix("13 0 1 ") {
+        let mut words = taken.split(' ').map(|word| word.parse::<u32>());
+        let (Some(Ok(cell)), Some(Ok(length))) = (words.nth(1), words.next()) else {
+            unreachable!("a receive names channel, cell and length: {line}");
+        };
+        looks.push(frame(17, vec![cell * CELL as u32, length.min(48)]));
+    }
+    looks
 }
 
 /// Asks, and answers whether a packet was stored.

@@ -7,7 +7,9 @@ use enet::{
     record::{place, Outgoing, OUTGOING},
 };
 
+use super::LARGEST;
 use crate::{
+    build::set_outgoing,
     frame::Frame,
     model::CONNECTED,
     ops::{
@@ -23,8 +25,6 @@ use crate::{
 const TURNS: [u32; 3] = [0, 65_534, 65_535];
 /// The seed of the numbers that a set leaves open.
 const SEED: u64 = 1;
-/// The largest maximum packet size.
-const LARGEST: u32 = 1 << 30;
 /// The flags of a send: all of the low four bits, and some with others above them.
 const FLAGS: [u32; 24] = [
     0,
@@ -223,8 +223,8 @@ fn write_ping(output: &mut Output) -> io::Result<()> {
 }
 
 /// The slots of the step's set: of the command that waits, and of one that was sent.
-const WAITING: u32 = 5;
-const SENT: u32 = 9;
+const WAITING: usize = 5;
+const SENT: usize = 9;
 
 /// A send step of every kind of command with every two flags, from both lists, with a packet or without, where
 /// attempts and timeout turn, after another sent command or none.
@@ -233,7 +233,7 @@ fn write_step(output: &mut Output) -> io::Result<()> {
     output.put(&settings(1_392, LARGEST))?;
     begin(output, 1_392, 1)?;
     let sent = Outgoing { byte: 133, channel: 255, kind: 5, attempts: 1, ..Outgoing::default() };
-    output.put(&slot(SENT, &sent))?;
+    output.put(&set_outgoing(SENT, &sent))?;
     for kind in 1..=12 {
         for flags in [0, 64, 128, 192] {
             write_head(output, &mut random, kind, kind | flags)?;
@@ -261,10 +261,10 @@ fn step_each(output: &mut Output, random: &mut Random, waiting: &Outgoing) -> io
         for sent in [0, 1] {
             // The lists by their numbers in op 21, where outgoing is 2 and send-reliable 1.
             let lists = [(0, sent, SENT), (2 - list, 1, WAITING)];
-            output.put(&slot(WAITING, waiting))?;
+            output.put(&set_outgoing(WAITING, waiting))?;
             for (which, length, first) in lists {
                 output.put(&frame(21, vec![which, 0, length]))?;
-                output.put(&frame(21, vec![which, 1, first]))?;
+                output.put(&frame(21, vec![which, 1, first as u32]))?;
             }
             for place in [place::ROUND_TRIP, place::ROUND_TRIP_VARIANCE] {
                 output.put(&frame(20, vec![place as u32, random.up_to(u32::MAX)]))?;
@@ -290,15 +290,6 @@ fn command(random: &mut Random, kind: u8, byte: u8) -> Outgoing {
         fields: limits(kind).iter().map(|limit| random.up_to(*limit)).collect(),
         ..Outgoing::default()
     }
-}
-
-/// The frame that sets this slot.
-fn slot(number: u32, to: &Outgoing) -> Frame {
-    let mut numbers = vec![number];
-    numbers.extend(to.numbers());
-    numbers.push(to.kind.into());
-    numbers.extend(&to.fields);
-    frame(23, numbers)
 }
 
 #[cfg(test)]

@@ -11,12 +11,13 @@ use super::{
     start::{self, Start},
 };
 use crate::{
+    arriving::looks,
     frame::Frame,
-    model::{Model, CELL, STORE},
+    model::{Model, CELL},
     ops::{acknowledgement::DAY, step::ACKNOWLEDGE},
     output::Output,
     random::Random,
-    records::{self, frame, set},
+    records::{self, set},
 };
 
 /// How much may be under way to the near side while the far side goes on to send.
@@ -100,18 +101,18 @@ impl Talk {
 
     /// A call, and a look at the store where it may have changed.
     pub fn call(&mut self, output: &mut Output, random: &mut Random) -> io::Result<()> {
-        let (asked, line) = self.ask(output, random)?;
-        look(output, &asked, &line)
+        let line = self.ask(output, random)?;
+        looks(&line).iter().try_for_each(|look| output.put(look))
     }
 
     /// A call, after what happened since the last one, and its line.
-    fn ask(&mut self, output: &mut Output, random: &mut Random) -> io::Result<(Frame, String)> {
+    fn ask(&mut self, output: &mut Output, random: &mut Random) -> io::Result<String> {
         self.pass(random);
         self.far_side(random, &output.model);
         let asked = self.drawn(&output.model, random);
         let line = output.ask(&asked)?;
         self.answered(random, &asked, &line, &output.model.record);
-        Ok((asked, line))
+        Ok(line)
     }
 
     /// Lets some time go by, more while nothing comes through.
@@ -201,19 +202,6 @@ fn sent(line: &str) -> Option<Came> {
     asks.then_some(Came::Command { channel, number, sent_time })
 }
 
-/// The whole store's hash after a stored arrival and a receive, and the bytes that a receive names.
-fn look(output: &mut Output, asked: &Frame, line: &str) -> io::Result<()> {
-    if asked.op == 13 || line.starts_with("10 0 1 ") || line.starts_with("11 0 1 ") {
-        output.put(&frame(16, vec![0, STORE as u32]))?;
-    }
-    if let Some(taken) = line.strip_prefix("13 0 1 ") {
-        let mut taken = taken.split(' ').map(|word| word.parse::<u32>().unwrap_or(0));
-        let (cell, length) = (taken.nth(1).expect("a cell"), taken.next().expect("a length"));
-        output.put(&frame(17, vec![cell * CELL as u32, length.min(48)]))?;
-    }
-    Ok(())
-}
-
 #[cfg(test)]
 mod tests {
     use super::*;
@@ -261,10 +249,7 @@ mod tests {
                 let open = |output: &mut Output, random: &mut Random| {
                     Talk::open(output, random, mood, from)
                 };
-                let ask = |talk: &mut Talk, output: &mut Output, random: &mut Random| {
-                    Ok(talk.ask(output, random)?.1)
-                };
-                let done = done((40, 1_000), open, ask, seen);
+                let done = done((40, 1_000), open, Talk::ask, seen);
                 assert!(done.values().all(|count| *count >= 5), "{done:?}");
             }
         }
