@@ -6,34 +6,16 @@ use crate::sent::{walk, Awaiting, Limits, Sent, Walk};
 
 /// A reliable packet that was sent once, at 1,000, with 500 to be acknowledged in.
 const AWAITING: Awaiting = Awaiting {
-    command: Sent {
-        sent: 1_000,
-        timeout: 500,
-        attempts: 1,
-        length: 100,
-        packet: true,
-    },
+    command: Sent { sent: 1_000, timeout: 500, attempts: 1, length: 100, packet: true },
     mark: 0,
 };
 
 static RUN: [Awaiting; 32] = [AWAITING; 32];
 
-const LIMITS: Limits = Limits {
-    ping: 500,
-    timeout: 32,
-    minimum: 5_000,
-    maximum: 30_000,
-};
+const LIMITS: Limits = Limits { ping: 500, timeout: 32, minimum: 5_000, maximum: 30_000 };
 
-const START: Walk = Walk {
-    earliest: 0,
-    next: 0,
-    lost: 0,
-    transit: 0,
-    kept: false,
-    back: false,
-    over: false,
-};
+const START: Walk =
+    Walk { earliest: 0, next: 0, lost: 0, transit: 0, kept: false, back: false, over: false };
 
 /// The making alone: what the walks have beside their call.
 pub fn make() -> u32 {

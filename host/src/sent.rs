@@ -40,7 +40,8 @@ pub struct Walk {
 }
 
 extern "C" {
-    fn lyn_walk(sent: *mut Awaiting, length: usize, limits: Limits, clock: u32, walk: Walk) -> Walk;
+    fn lyn_walk(sent: *mut Awaiting, length: usize, limits: Limits, clock: u32, walk: Walk)
+        -> Walk;
 }
 
 /// The numbers after the walk; the run changes in place.

@@ -161,11 +161,8 @@ pub fn compare(random: &mut Random, more: u64) -> u64 {
         |case, place: &mut Vec<Awaiting>| *place = run(case),
         |case, run| walk(case, run).over,
     );
-    let theirs = timed(
-        &cases,
-        |case, place: &mut Overdue| place.load(case),
-        |_, overdue| overdue.check(),
-    );
+    let theirs =
+        timed(&cases, |case, place: &mut Overdue| place.load(case), |_, overdue| overdue.check());
     tally.close("walk", own, theirs)
 }
 
