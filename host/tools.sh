@@ -1,4 +1,6 @@
-# Sourced by host/run and host/weigh, with $top set: where results go, and the compiler, linker and emulator for x86-64.
+# shellcheck shell=bash
+# Sourced by host/run and host/weigh: where results go, and the compiler, linker and emulator for x86-64.
+top=$(cd "$(dirname "${BASH_SOURCE[0]}")/.." && pwd)
 out=$top/target/host
 target=x86_64-unknown-linux-gnu
 machine=$(uname -m)
@@ -15,6 +17,7 @@ find_rustc() {
     done
     return 1
 }
+# shellcheck disable=SC2034 # what sources this runs by $emulator
 find_tools() {
     if [ "$machine" = x86_64 ]; then
         linker=cc emulator=()

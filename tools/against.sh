@@ -1,4 +1,6 @@
+# shellcheck shell=bash
 # Sourced by tools/compare and tools/scale: the oracle, built, and replay's lines for its scripts.
+# shellcheck disable=SC2154 # $out is assigned there
 top=$(cd "$(dirname "${BASH_SOURCE[0]}")/.." && pwd)
 (cd "$top/oracle" && cargo build --release --quiet)
 oracle=$top/oracle/target/release/compare

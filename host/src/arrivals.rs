@@ -54,9 +54,8 @@ fn arrive(made: impl Fn(u16) -> Datagram) -> (f64, u32) {
     let (mut receiver, mut wrong) = (Receiver::default(), 0);
     let datagrams = turns().map(made);
     let time = least(|| {
-        let time = clock::time(&datagrams, |datagram| {
-            wrong += u32::from(receiver.arrive(datagram) != 0)
-        });
+        let time =
+            clock::time(&datagrams, |datagram| wrong += u32::from(receiver.arrive(datagram) != 0));
         receiver.renew();
         time
     });
@@ -69,12 +68,5 @@ fn turns() -> [u16; TURNS] {
 
 fn datagram(byte: u8, number: u16, group: u16) -> Datagram {
     let length = DATAGRAM.len() as u16;
-    Receiver::make(&Arrival {
-        byte,
-        channel: 0,
-        number,
-        group,
-        length,
-        rest: &DATAGRAM,
-    })
+    Receiver::make(&Arrival { byte, channel: 0, number, group, length, rest: &DATAGRAM })
 }

@@ -13,12 +13,7 @@ const PLACES: [usize; PEERS] = [0, 1, 2, 3];
 /// Of the first of so many that are sent.
 pub fn acknowledge(count: u16) -> (f64, u32) {
     let (first, rest) = (Awaiting::make(1), usize::from(count) - 1);
-    timed(
-        count,
-        |peer| peer.acknowledge(&first),
-        |peer| peer.put_back(1),
-        [rest, 0],
-    )
+    timed(count, |peer| peer.acknowledge(&first), |peer| peer.put_back(1), [rest, 0])
 }
 
 /// Of none of them.
@@ -48,9 +43,7 @@ fn timed(
 ) -> (f64, u32) {
     let (mut peers, mut wrong) = (PLACES.map(|_| Awaiting::new(count, true)), 0);
     let time = turns(|| {
-        let time = clock::time(&PLACES, |place| {
-            wrong += u32::from(call(&mut peers[*place]) != 0)
-        });
+        let time = clock::time(&PLACES, |place| wrong += u32::from(call(&mut peers[*place]) != 0));
         for peer in &mut peers {
             wrong += u32::from(peer.counts() != left);
             again(peer);

@@ -37,29 +37,11 @@ static mut STORE: [u8; ROOM] = [0; ROOM];
 pub static DATAGRAM: [u8; WHOLE as usize] = [1; WHOLE as usize];
 
 pub fn unsequenced(group: u16) -> u32 {
-    unsafe {
-        weigh_unsequenced(
-            store(),
-            ROOM,
-            DATAGRAM.as_ptr(),
-            DATAGRAM.len(),
-            group,
-            WHOLE,
-        )
-    }
+    unsafe { weigh_unsequenced(store(), ROOM, DATAGRAM.as_ptr(), DATAGRAM.len(), group, WHOLE) }
 }
 
 pub fn reliable(number: u16) -> u32 {
-    unsafe {
-        weigh_reliable(
-            store(),
-            ROOM,
-            DATAGRAM.as_ptr(),
-            DATAGRAM.len(),
-            number,
-            WHOLE,
-        )
-    }
+    unsafe { weigh_reliable(store(), ROOM, DATAGRAM.as_ptr(), DATAGRAM.len(), number, WHOLE) }
 }
 
 pub fn receive() -> u32 {

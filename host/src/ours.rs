@@ -21,15 +21,7 @@ extern "C" {
 /// The new value and the turn: 0 held, 1 raised, 2 lowered.
 pub fn throttle(t: Throttle, sample: u32) -> (u32, u32) {
     let reply = unsafe {
-        lyn_throttle(
-            t.value,
-            t.limit,
-            t.acceleration,
-            t.deceleration,
-            t.last,
-            t.variance,
-            sample,
-        )
+        lyn_throttle(t.value, t.limit, t.acceleration, t.deceleration, t.last, t.variance, sample)
     };
     (reply as u32, (reply >> 32) as u32)
 }
@@ -62,8 +54,5 @@ pub fn to_bytes<const N: usize>(numbers: &[u32]) -> [u8; N] {
 }
 
 pub fn to_numbers(bytes: &[u8]) -> Vec<u32> {
-    bytes
-        .chunks_exact(4)
-        .map(|four| u32::from_be_bytes(four.try_into().unwrap()))
-        .collect()
+    bytes.chunks_exact(4).map(|four| u32::from_be_bytes(four.try_into().unwrap())).collect()
 }

@@ -41,7 +41,5 @@ fn cover(paint: u8) {
 #[inline(never)]
 fn lowest(top: usize, paint: u8) -> usize {
     let floor = top - AREA + 4096;
-    (floor..top)
-        .find(|at| unsafe { (*at as *const u8).read_volatile() } != paint)
-        .unwrap_or(top)
+    (floor..top).find(|at| unsafe { (*at as *const u8).read_volatile() } != paint).unwrap_or(top)
 }

@@ -2,12 +2,7 @@
 
 use enet::Bench;
 
-use crate::{
-    clock::time,
-    ours,
-    random::Random,
-    tally::Tally,
-};
+use crate::{clock::time, ours, random::Random, tally::Tally};
 
 /// Size, kind and row of the command at a place, or the refusal.
 type Outcome = Result<Vec<u32>, u32>;

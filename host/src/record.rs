@@ -1,7 +1,5 @@
 //! The record field by field, laid out as C does: its size is held to the bytes that the compiled calls copy.
 
-#![allow(dead_code)]
-
 const OUTGOING: usize = 32;
 const INCOMING: usize = 12;
 const CHANNELS: usize = 8;
@@ -102,16 +100,8 @@ struct Peer {
 pub fn print_sizes() {
     use std::mem::size_of;
     println!("record: {} bytes", size_of::<Peer>());
-    println!(
-        "  outgoing pool: {} x {} bytes",
-        OUTGOING,
-        size_of::<Outgoing>()
-    );
-    println!(
-        "  incoming pool: {} x {} bytes",
-        INCOMING,
-        size_of::<Incoming>()
-    );
+    println!("  outgoing pool: {} x {} bytes", OUTGOING, size_of::<Outgoing>());
+    println!("  incoming pool: {} x {} bytes", INCOMING, size_of::<Incoming>());
     println!("  channels: {} x {} bytes", CHANNELS, size_of::<Channel>());
     println!("  lists: {} bytes", size_of::<Lists>());
     println!("  groups: {} bytes", size_of::<Groups>());

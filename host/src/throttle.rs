@@ -58,7 +58,11 @@ fn source(bench: &mut Bench, t: &mut Throttle, sample: u32) -> u32 {
 }
 
 /// The numbers after a call, and the turn.
-fn after(mut t: Throttle, sample: u32, call: impl FnOnce(&mut Throttle, u32) -> u32) -> (Throttle, u32) {
+fn after(
+    mut t: Throttle,
+    sample: u32,
+    call: impl FnOnce(&mut Throttle, u32) -> u32,
+) -> (Throttle, u32) {
     let turn = call(&mut t, sample);
     (t, turn)
 }
@@ -87,7 +91,8 @@ pub fn compare(bench: &mut Bench, random: &mut Random, more: u64) -> u64 {
     let inputs: Vec<_> = (0..100_000).map(|_| input(random)).collect();
     let theirs = timed(&inputs, |t, sample| source(bench, t, sample));
     let [value, lend] = [timed(&inputs, by_value), timed(&inputs, ours::turn)];
-    let differences = valued.close("throttle", value, theirs) + lent.close("throttle, lent", lend, theirs);
+    let differences =
+        valued.close("throttle", value, theirs) + lent.close("throttle, lent", lend, theirs);
     println!("throttle: lent {lend:.1} ns, by value {value:.1} ns, ratio {:.2}", lend / value);
     differences
 }

@@ -212,11 +212,8 @@ pub fn compare(random: &mut Random, more: u64) -> u64 {
         |case, place: &mut Vec<Awaiting>| *place = run(case, |at| case.sent[at].packet.into()),
         |case, run| walk(case, run, start(case)).over != 0,
     );
-    let theirs = timed(
-        &cases,
-        |case, place: &mut Overdue| place.load(case),
-        |_, overdue| overdue.check(),
-    );
+    let theirs =
+        timed(&cases, |case, place: &mut Overdue| place.load(case), |_, overdue| overdue.check());
     tally.close("walk", own, theirs)
 }
 

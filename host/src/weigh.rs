@@ -7,6 +7,7 @@ mod awaiting;
 mod clock;
 mod lent;
 mod paint;
+#[allow(dead_code)] // its structs are there for their sizes, and no field is read
 mod record;
 mod run;
 mod sends;
@@ -90,60 +91,28 @@ const CALLS: [Weighed; 27] = [
     weighed("set state, 11", || unsafe { weigh_state(0, CONNECTED) }, 11),
     weighed("send, 11", || unsafe { weigh_send(0, WHOLE, RELIABLE) }, 11),
     weighed("unsequenced arrival", || lent::unsequenced(GROUP), 1),
-    weighed(
-        "unsequenced arrival, passed over",
-        || lent::unsequenced(DISTANT),
-        0,
-    ),
+    weighed("unsequenced arrival, passed over", || lent::unsequenced(DISTANT), 0),
     weighed("reliable arrival", || lent::reliable(NEXT), 1),
     weighed("reliable arrival, passed over", || lent::reliable(LAST), 0),
-    weighed(
-        "dispatch, 1 ready",
-        || unsafe { weigh_dispatch(NEXT, WHOLE) },
-        0,
-    ),
-    weighed(
-        "dispatch, 1 waits",
-        || unsafe { weigh_dispatch(LATER, WHOLE) },
-        0,
-    ),
+    weighed("dispatch, 1 ready", || unsafe { weigh_dispatch(NEXT, WHOLE) }, 0),
+    weighed("dispatch, 1 waits", || unsafe { weigh_dispatch(LATER, WHOLE) }, 0),
     weighed("receive", lent::receive, 1).less(UNSEQUENCED),
     weighed("sound, 1 sent", || unsafe { weigh_sent(1) }, 1).less(SENT_ONE),
     weighed("sound, 32 sent", || unsafe { weigh_sent(ALL) }, 1).less(SENT_ALL),
-    weighed(
-        "acknowledgement, 1 sent",
-        || unsafe { weigh_acknowledge(1, SENT, HEARD) },
-        1,
-    )
-    .less(SENT_ONE),
-    weighed(
-        "acknowledgement, 32 sent",
-        || unsafe { weigh_acknowledge(ALL, SENT, HEARD) },
-        1,
-    )
-    .less(SENT_ALL),
+    weighed("acknowledgement, 1 sent", || unsafe { weigh_acknowledge(1, SENT, HEARD) }, 1)
+        .less(SENT_ONE),
+    weighed("acknowledgement, 32 sent", || unsafe { weigh_acknowledge(ALL, SENT, HEARD) }, 1)
+        .less(SENT_ALL),
     weighed(
         "acknowledgement, none removed",
         || unsafe { weigh_acknowledge(ALL, UNSENT, HEARD) },
         1,
     )
     .less(SENT_ALL),
-    weighed(
-        "timeouts, 32 wait",
-        || unsafe { weigh_check(ALL, EARLY) },
-        1,
-    )
-    .less(SENT_ALL),
-    weighed(
-        "timeouts, 32 go back",
-        || unsafe { weigh_check(ALL, LATE) },
-        1,
-    )
-    .less(SENT_ALL),
+    weighed("timeouts, 32 wait", || unsafe { weigh_check(ALL, EARLY) }, 1).less(SENT_ALL),
+    weighed("timeouts, 32 go back", || unsafe { weigh_check(ALL, LATE) }, 1).less(SENT_ALL),
     weighed("run of 32", run::make, 32).less(RUN),
-    weighed("lent walk, 32 wait", || run::walked(EARLY), 0)
-        .less(RUN)
-        .beside("timeouts, 32 wait"),
+    weighed("lent walk, 32 wait", || run::walked(EARLY), 0).less(RUN).beside("timeouts, 32 wait"),
     weighed("lent walk, 32 go back", || run::walked(LATE), 32)
         .less(RUN)
         .beside("timeouts, 32 go back"),
@@ -153,35 +122,21 @@ const SOURCES: [Source; 14] = [
     source("send, 100 bytes", || sends::source(WHOLE)),
     source("send, 32 pieces", || sends::source(PIECES)),
     source("unsequenced arrival", || arrivals::unsequenced(|turn| turn)),
-    source("unsequenced arrival, passed over", || {
-        arrivals::unsequenced(|_| DISTANT)
-    }),
-    source("reliable arrival", || {
-        arrivals::reliable(|turn| turn + NEXT)
-    }),
-    source("reliable arrival, passed over", || {
-        arrivals::reliable(|_| LAST)
-    }),
+    source("unsequenced arrival, passed over", || arrivals::unsequenced(|_| DISTANT)),
+    source("reliable arrival", || arrivals::reliable(|turn| turn + NEXT)),
+    source("reliable arrival, passed over", || arrivals::reliable(|_| LAST)),
     source("dispatch, 1 ready", || arrivals::dispatch(true)),
     source("dispatch, 1 waits", || arrivals::dispatch(false)),
     source("receive", arrivals::receive),
     source("acknowledgement, 1 sent", || awaiting::acknowledge(1)),
     source("acknowledgement, 32 sent", || awaiting::acknowledge(ALL)),
-    source("acknowledgement, none removed", || {
-        awaiting::acknowledge_none(ALL)
-    }),
+    source("acknowledgement, none removed", || awaiting::acknowledge_none(ALL)),
     source("timeouts, 32 wait", || awaiting::check(ALL, false)),
     source("timeouts, 32 go back", || awaiting::check(ALL, true)),
 ];
 
 const fn weighed(name: &'static str, call: fn() -> u32, answer: u32) -> Weighed {
-    Weighed {
-        name,
-        call,
-        answer,
-        less: SOUND,
-        beside: name,
-    }
+    Weighed { name, call, answer, less: SOUND, beside: name }
 }
 
 impl Weighed {

@@ -2,12 +2,7 @@
 
 use enet::{Bench, Verdict};
 
-use crate::{
-    clock::time,
-    ours,
-    random::Random,
-    tally::Tally,
-};
+use crate::{clock::time, ours, random::Random, tally::Tally};
 
 const CONNECTED: u32 = 5;
 const DISCONNECT_LATER: u32 = 6;
@@ -56,14 +51,15 @@ fn marks(group: u16) -> [[u32; 32]; 4] {
 
 fn edges() -> Vec<Arrival> {
     let bases = (0..64).map(|k| k * 1024).chain(ODD_BASES);
-    let groups: Vec<u16> = (0..64u16)
-        .flat_map(|k| [0, 1, 31, 32, 511, 1022, 1023].map(|i| k * 1024 + i))
-        .collect();
+    let groups: Vec<u16> =
+        (0..64u16).flat_map(|k| [0, 1, 31, 32, 511, 1022, 1023].map(|i| k * 1024 + i)).collect();
     let mut all = Vec::new();
     for base in bases {
         for &group in &groups {
             for words in marks(group) {
-                for (room, state) in [(true, CONNECTED), (false, CONNECTED), (true, DISCONNECT_LATER)] {
+                for (room, state) in
+                    [(true, CONNECTED), (false, CONNECTED), (true, DISCONNECT_LATER)]
+                {
                     all.push(Arrival { base, words, group, room, state });
                 }
             }

@@ -68,7 +68,7 @@ refused-not-done NotRemoved e = omega (arith, e)
 refused-not-done OutOfRange e = omega (arith, e)
 refused-not-done Damaged e = omega (arith, e)
 
--- ---- what is done
+-- ---- what is done: the counting numbers that an answer is made of are found again
 pub numbers-of-done : (xs : List ℕ) → numbersOf (done xs) ≡ xs
 numbers-of-done [] = refl
 numbers-of-done (x ∷ xs) = ap (λ (l : List ℕ). x ∷ l) (numbers-of-done xs)

@@ -28,6 +28,7 @@ pub record Answer : Type 0 where
 abbrev pub says : List ℤ → Answer
 says zs = record { number = 0; values = zs }
 
+-- the same of counting numbers
 abbrev pub done : List ℕ → Answer
 done xs = says (map pos xs)
 

@@ -10,7 +10,8 @@ use Rattle.throttle.specs.declared.Throttle.{Throttle}
 use Rattle.throttle.specs.declared.Turn.{Turn}
 use Rattle.throttle.specs.declared.Turn.the-variants.{Held, Raised, Lowered}
 
-abbrev which : ℤ → ℕ
+-- a turn's answer as a counting number, −1 as 2
+abbrev pub which : ℤ → ℕ
 which (pos n) = n
 which (negsuc n) = 2
 

@@ -1,16 +1,20 @@
--- A turn whose answer is the rule's has the rule's reply. The argument: the answers tell the turns apart, so the turn is the one that the tests
--- pick, and a function of what they pick is what they pick of the function's values.
+-- A turn whose answer is the rule's has the rule's reply, and the call answers what the throttle itself does. The argument: the answers tell the
+-- turns apart, so the turn is the one that the tests pick, and a function of what they pick is what they pick of the function's values.
 use Prim.Native.Nat.{ℕ}
 use mathlib.Core.Path.{_≡_, refl, ap, sym, _∙_}
 use mathlib.Core.Bool.{Bool, true, false}
+use mathlib.Core.List.{[], _∷_}
 use lib.Dec.{ltb, leb}
+use lib.IntN.{ℤ, pos, negsuc}
 use Rattle.numbers.specs.Pick.{pick}
 use Rattle.numbers.specs.Modulo.{sum}
+use Rattle.numbers.specs.Answers.{says}
 use Rattle.throttle.specs.Throttling.{byTests, answerOf, answerAfter}
 use Rattle.throttle.specs.declared.Throttle.{Throttle}
 use Rattle.throttle.specs.declared.Turn.{Turn}
 use Rattle.throttle.specs.declared.Turn.the-variants as turn
 use Rattle.throttle.proofs.Settled.{turns-apart}
+use Rattle.throttling.specs.Calls as calls
 use Rattle.throttling.specs.Calls.{replyOf}
 use Rattle.throttling.specs.declared.Reply.the-variants as vr
 
@@ -34,3 +38,9 @@ module _ (t : Throttle) (sample : ℕ) where
   reply-of-turn u e =
       ap replyOf (turns-apart u turned (e ∙ sym (tests-of answerOf turn.Held turn.Raised turn.Lowered turn.Held)))
       ∙ tests-of replyOf turn.Held turn.Raised turn.Lowered turn.Held
+
+  -- `answerOf` is on both sides of the call's contract: this holds it to the throttle's own 0, 1 and −1
+  pub answers-as-throttle : calls.answerOf (byTests t sample vr.Held vr.Raised vr.Lowered vr.Held) ≡ says (answerAfter t sample ∷ [])
+  answers-as-throttle =
+      tests-of calls.answerOf vr.Held vr.Raised vr.Lowered vr.Held
+      ∙ sym (tests-of (λ (z : ℤ). says (z ∷ [])) (pos 0) (pos 1) (negsuc 0) (pos 0))

@@ -3,10 +3,11 @@
 use Prim.Native.Nat.{ℕ}
 use mathlib.Core.Path.{_≡_, refl, ap, sym, _∙_}
 use native.Mathlib.Omega.{arith}
-use lib.IntN.{ℤ, pos, negsuc}
+use lib.IntN.{pos}
 use lib.ListN.{getD}
 use Rattle.numbers.specs.Answers.{Answer}
 use Rattle.numbers.proofs.Settled.{refused-apart, refused-not-done}
+use Rattle.throttle.proofs.Settled.{which}
 use Rattle.peer.specs.Outcome.{Came}
 use Rattle.peer.specs.declared.settings.Settings.{Settings}
 use Rattle.peer.specs.declared.record.Peer.{Peer}
@@ -18,12 +19,8 @@ use Rattle.throttling.specs.declared.Throttled.{Throttled}
 abbrev numberIn : Answer → ℕ
 numberIn a = a .number
 
-abbrev turnOf : ℤ → ℕ
-turnOf (pos n) = n
-turnOf (negsuc n) = 2
-
 abbrev turnIn : Answer → ℕ
-turnIn a = turnOf (getD (a .values) 0 (pos 0))
+turnIn a = which (getD (a .values) 0 (pos 0))
 
 pub replies-apart : (a b : Reply) → answerOf a ≡ answerOf b → a ≡ b
 replies-apart vr.Held vr.Held e = refl

@@ -81,7 +81,7 @@ impl Door {
     }
 
     fn hand_in(&mut self, command: &Command, place: usize, datagram: &[u8]) -> Fallible<Reply> {
-        let reply = self.link.reliable_arrival(command, place, datagram)?;
+        let reply = self.link.arrival(command, place, datagram)?;
         self.tally(&reply);
         self.receive()?;
         Ok(reply)
@@ -116,9 +116,7 @@ impl Door {
         place: usize,
         datagram: &[u8],
     ) -> Fallible<Fate> {
-        let reply = self.link.unsequenced_arrival(command, place, datagram)?;
-        self.tally(&reply);
-        self.receive()?;
+        let reply = self.hand_in(command, place, datagram)?;
         Ok(self.fate(&reply))
     }
 

@@ -10,6 +10,9 @@ pub const FROM_OUTGOING: u32 = 0;
 pub const FROM_SEND_RELIABLE: u32 = 1;
 pub const ASKS_FOR_ACKNOWLEDGEMENT: u32 = 128;
 
+/// The command of an unsequenced packet.
+const UNSEQUENCED: u32 = 9;
+
 /// A command as reader, writer and send step have it: byte, channel, number, and the fields in the source's order.
 #[derive(Debug, Clone, PartialEq)]
 pub struct Command {
@@ -163,30 +166,13 @@ impl Link {
         Ok(self.call(9, &[clock], &[])?.done("timeout check")? == [3])
     }
 
-    /// The fields of command 9 are its group and its length.
-    pub fn unsequenced_arrival(
-        &mut self,
-        command: &Command,
-        place: usize,
-        datagram: &[u8],
-    ) -> Fallible<Reply> {
+    /// The unsequenced arrival of command 9, whose fields are its group and its length, or the reliable one of command 6, whose field is its length.
+    pub fn arrival(&mut self, command: &Command, place: usize, datagram: &[u8]) -> Fallible<Reply> {
+        let op = if command.kind() == UNSEQUENCED { 10 } else { 11 };
         let mut numbers = vec![command.byte, command.channel, command.number];
         numbers.extend(&command.fields);
         numbers.push(place as u32);
-        self.call(10, &numbers, datagram)
-    }
-
-    /// The field of command 6 is its length.
-    pub fn reliable_arrival(
-        &mut self,
-        command: &Command,
-        place: usize,
-        datagram: &[u8],
-    ) -> Fallible<Reply> {
-        let mut numbers = vec![command.byte, command.channel, command.number];
-        numbers.extend(&command.fields);
-        numbers.push(place as u32);
-        self.call(11, &numbers, datagram)
+        self.call(op, &numbers, datagram)
     }
 
     /// The next packet's channel, and its bytes from its cell of the store.

@@ -94,7 +94,8 @@ fn outgoing(from: &Record, to: &Record) -> Vec<Frame> {
         .collect()
 }
 
-fn set_outgoing(slot: usize, to: &Outgoing) -> Frame {
+/// The frame that sets this slot.
+pub fn set_outgoing(slot: usize, to: &Outgoing) -> Frame {
     let mut frame = frame(23, [slot as u32]);
     frame.numbers.extend(to.numbers());
     frame.numbers.push(to.kind.into());

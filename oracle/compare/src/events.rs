@@ -1,10 +1,7 @@
 //! Acknowledgement and timeout check with all that the source does when it notifies or disconnects, beside document
 //! 01's, where the answer stands for that and the record stays as it is just before.
-//!
-//! What the source does otherwise is a list of kinds. Each says exactly what it changes, so that any other
-//! difference shows.
 
-use std::{collections::BTreeMap, fmt};
+use std::fmt;
 
 use enet::{
     record::{place, Record},
@@ -19,6 +16,7 @@ use crate::{
     },
     random::Random,
     records::sound,
+    tally::Tally,
 };
 
 /// The source's types of events.
@@ -54,19 +52,10 @@ impl fmt::Display for Kind {
     }
 }
 
-/// What was compared.
-#[derive(Default)]
-struct Tally {
-    calls: u64,
-    same: u64,
-    kinds: BTreeMap<Kind, u64>,
-    others: u64,
-}
-
 /// Compares so many acknowledgements and as many checks; whether each difference is of a kind.
 pub fn compare(seed: u64, count: u64) -> bool {
     let (mut random, mut bench) = (Random::new(seed), Bench::new());
-    let mut tally = Tally::default();
+    let mut tally = Tally::new();
     for _ in 0..count {
         let record = drawn(&mut random);
         let clock = timeouts::drawn(&mut random, &record).number(0);
@@ -75,35 +64,10 @@ pub fn compare(seed: u64, count: u64) -> bool {
         let asked = acknowledgement::drawn(&mut random, &record);
         if let Some(came) = acknowledgement::came(&asked) {
             let (kind, same) = acknowledge(&mut bench, &record, came);
-            let kinds = kind.into_iter().collect();
-            tally.add(kinds, same, || format!("{came:?}: {record:?}"));
+            tally.add(kind.into_iter().collect(), same, || format!("{came:?}: {record:?}"));
         }
     }
-    tally.print();
-    tally.others == 0
-}
-
-impl Tally {
-    fn add(&mut self, kinds: Vec<Kind>, same: bool, what: impl Fn() -> String) {
-        self.calls += 1;
-        self.same += u64::from(kinds.is_empty());
-        if !same {
-            self.others += 1;
-            println!("{}", what());
-        }
-        for kind in kinds {
-            *self.kinds.entry(kind).or_default() += 1;
-        }
-    }
-
-    fn print(&self) {
-        println!("{} acknowledgements and timeout checks", self.calls);
-        println!("{} as document 01 says", self.same);
-        for (kind, count) in &self.kinds {
-            println!("{count} {kind}");
-        }
-        println!("{} differences of no kind", self.others);
-    }
+    tally.close("acknowledgements and timeout checks", "document 01")
 }
 
 /// By what kinds the source's check differs, and whether it does just what they say.

@@ -7,6 +7,8 @@ mod damage;
 mod events;
 mod frame;
 mod lines;
+#[cfg(test)]
+mod met;
 mod mix;
 mod model;
 mod ops;
@@ -18,7 +20,9 @@ mod records;
 mod repeats;
 mod script;
 mod sending;
+mod sequence;
 mod talking;
+mod tally;
 
 use std::{env, fs, io, process::ExitCode};
 
@@ -33,22 +37,16 @@ fn main() -> ExitCode {
     let done = match words.as_slice() {
         ["script", seed, count, script, lines] => write(seed, count, script, lines, None),
         ["script", seed, count, script, lines, ops] => write(seed, count, script, lines, Some(ops)),
-        ["records", seed, count, script, lines] => write_records(seed, count, script, lines),
-        ["damage", script, lines] => write_damage(script, lines),
-        ["sending", seed, count, script, lines] => write_sending(seed, count, script, lines),
-        ["arriving", seed, count, script, lines] => write_arriving(seed, count, script, lines),
-        ["acknowledging", seed, count, script, lines] => {
-            write_acknowledging(seed, count, script, lines)
-        }
-        ["talking", seed, count, script, lines] => write_talking(seed, count, script, lines),
+        ["damage", script, lines] => written(script, lines, records::write_damage),
+        [name, seed, count, script, lines] => write_drawn(name, seed, count, script, lines),
         ["repeats", seed, count, script, plain, inserted, lines] => {
             write_repeats(seed, count, [script, plain, inserted, lines])
         }
         ["without", inserted, got] => leave_out(inserted, got),
         ["every", set, script, lines] => write_every(set, script, lines),
-        ["packing", seed, count] => pack(seed, count),
-        ["reliable", seed, count] => queue(seed, count),
-        ["events", seed, count] => notify(seed, count),
+        ["packing", seed, count] => beside(packing::compare, seed, count),
+        ["reliable", seed, count] => beside(queueing::compare, seed, count),
+        ["events", seed, count] => beside(events::compare, seed, count),
         ["vectors", script, lines] => write_vectors(script, lines),
         ["lines", expected, got] => compare(expected, got),
         _ => Err(usage()),
@@ -106,39 +104,24 @@ fn write(
     written(script, lines, |output| plan.write(output))
 }
 
-fn write_records(seed: &str, count: &str, script: &str, lines: &str) -> Result<ExitCode, String> {
-    let (seed, count) = (number(seed)?, number(count)?);
-    written(script, lines, |output| records::write(output, seed, count, Mix::All))
-}
-
-fn write_damage(script: &str, lines: &str) -> Result<ExitCode, String> {
-    written(script, lines, records::write_damage)
-}
-
-fn write_sending(seed: &str, count: &str, script: &str, lines: &str) -> Result<ExitCode, String> {
-    let (seed, count) = (number(seed)?, number(count)?);
-    written(script, lines, |output| sending::write(output, seed, count, Mix::All))
-}
-
-fn write_arriving(seed: &str, count: &str, script: &str, lines: &str) -> Result<ExitCode, String> {
-    let (seed, count) = (number(seed)?, number(count)?);
-    written(script, lines, |output| arriving::write(output, seed, count, Mix::All))
-}
-
-fn write_acknowledging(
+/// A random script of so many records or calls.
+fn write_drawn(
+    name: &str,
     seed: &str,
     count: &str,
     script: &str,
     lines: &str,
 ) -> Result<ExitCode, String> {
+    let write: fn(&mut Output, u64, u64) -> io::Result<()> = match name {
+        "records" => |output, seed, count| records::write(output, seed, count, Mix::All),
+        "sending" => |output, seed, count| sending::write(output, seed, count, Mix::All),
+        "arriving" => |output, seed, count| arriving::write(output, seed, count, Mix::All),
+        "acknowledging" => acknowledging::write,
+        "talking" => talking::write,
+        _ => return Err(usage()),
+    };
     let (seed, count) = (number(seed)?, number(count)?);
-    written(script, lines, |output| acknowledging::write(output, seed, count))
-}
-
-/// Two peers that talk.
-fn write_talking(seed: &str, count: &str, script: &str, lines: &str) -> Result<ExitCode, String> {
-    let (seed, count) = (number(seed)?, number(count)?);
-    written(script, lines, |output| talking::write(output, seed, count))
+    written(script, lines, |output| write(output, seed, count))
 }
 
 /// Runs with inserted repeats, and the same without them.
@@ -162,22 +145,13 @@ fn write_every(set: &str, script: &str, lines: &str) -> Result<ExitCode, String>
     written(script, lines, write)
 }
 
-/// The source's packing of datagrams beside the send step.
-fn pack(seed: &str, count: &str) -> Result<ExitCode, String> {
-    let same = packing::compare(number(seed)?, number(count)?);
-    Ok(if same { ExitCode::SUCCESS } else { ExitCode::FAILURE })
-}
-
-/// The source's reliable arrival beside document 01's.
-fn queue(seed: &str, count: &str) -> Result<ExitCode, String> {
-    let same = queueing::compare(number(seed)?, number(count)?);
-    Ok(if same { ExitCode::SUCCESS } else { ExitCode::FAILURE })
-}
-
-/// What the source does when it notifies or disconnects, beside document 01's answers.
-fn notify(seed: &str, count: &str) -> Result<ExitCode, String> {
-    let same = events::compare(number(seed)?, number(count)?);
-    Ok(if same { ExitCode::SUCCESS } else { ExitCode::FAILURE })
+/// The source beside document 01, without a script.
+fn beside(
+    compare: impl FnOnce(u64, u64) -> bool,
+    seed: &str,
+    count: &str,
+) -> Result<ExitCode, String> {
+    Ok(verdict(compare(number(seed)?, number(count)?)))
 }
 
 /// What the repository stores for replay: each kind of damage, random records, the rules of sending, some
@@ -202,13 +176,11 @@ fn write_vectors(script: &str, lines: &str) -> Result<ExitCode, String> {
     })
 }
 
-type Files = Output<io::BufWriter<fs::File>, io::BufWriter<fs::File>>;
-
 /// Both files, filled side by side.
 fn written(
     script: &str,
     lines: &str,
-    fill: impl FnOnce(&mut Files) -> io::Result<()>,
+    fill: impl FnOnce(&mut Output) -> io::Result<()>,
 ) -> Result<ExitCode, String> {
     let mut output = Output::new(create(script)?, create(lines)?);
     fill(&mut output).and_then(|()| output.finish()).map_err(|why| why.to_string())?;
@@ -216,8 +188,15 @@ fn written(
 }
 
 fn compare(expected: &str, got: &str) -> Result<ExitCode, String> {
-    let same = lines::compare(&read(expected)?, &read(got)?);
-    Ok(if same { ExitCode::SUCCESS } else { ExitCode::FAILURE })
+    Ok(verdict(lines::compare(&read(expected)?, &read(got)?)))
+}
+
+fn verdict(same: bool) -> ExitCode {
+    if same {
+        ExitCode::SUCCESS
+    } else {
+        ExitCode::FAILURE
+    }
 }
 
 fn number(word: &str) -> Result<u64, String> {

@@ -19,6 +19,10 @@ pub const CONNECTED: u32 = 5;
 /// The state that still takes arrivals and stores none.
 pub const DISCONNECT_LATER: u32 = 6;
 
+/// The states that wait for an acknowledgement of command 3, and of 4.
+pub const ACKNOWLEDGING_CONNECT: u32 = 2;
+pub const DISCONNECTING: u32 = 7;
+
 /// The settings, and how much of the store an arrival is lent.
 #[derive(Clone, Copy)]
 pub struct Settings {

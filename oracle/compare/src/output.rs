@@ -4,15 +4,15 @@ use std::io::{self, Write};
 
 use crate::{frame::Frame, model::Model, ops};
 
-pub struct Output<S, L> {
-    script: S,
-    lines: L,
+pub struct Output<'a> {
+    script: Box<dyn Write + 'a>,
+    lines: Box<dyn Write + 'a>,
     pub model: Model,
 }
 
-impl<S: Write, L: Write> Output<S, L> {
-    pub fn new(script: S, lines: L) -> Self {
-        Output { script, lines, model: Model::new() }
+impl<'a> Output<'a> {
+    pub fn new(script: impl Write + 'a, lines: impl Write + 'a) -> Self {
+        Output { script: Box::new(script), lines: Box::new(lines), model: Model::new() }
     }
 
     /// Writes the frame and the line that answers it.

@@ -1,9 +1,6 @@
 //! The send step beside the source's packing of datagrams, on records in which one command waits.
-//!
-//! What the source does otherwise is a list of kinds. Each says exactly what it changes, so that any other
-//! difference shows.
 
-use std::{collections::BTreeMap, fmt};
+use std::fmt;
 
 use enet::{
     record::{place, Outgoing, Record},
@@ -15,6 +12,7 @@ use crate::{
     ops::step::{add, step, Queue, ACKNOWLEDGE},
     random::Random,
     records::sound::{shaped, Shape},
+    tally::Tally,
 };
 
 /// The peer's flag that says that a datagram was full.
@@ -60,53 +58,22 @@ struct Told {
     record: Record,
 }
 
-/// What was compared.
-#[derive(Default)]
-struct Tally {
-    records: u64,
-    gone: u64,
-    same: u64,
-    kinds: BTreeMap<Kind, u64>,
-    others: u64,
-}
-
 /// Compares until so many commands went out that nothing stopped; whether each difference is of a kind.
 pub fn compare(seed: u64, count: u64) -> bool {
     let (mut random, mut bench) = (Random::new(seed), Bench::new());
-    let mut tally = Tally::default();
-    while tally.gone < count {
+    let (mut tally, mut gone) = (Tally::new(), 0);
+    while gone < count {
         let (record, queue) = waiting(&mut random);
         let time = random.up_to(u32::MAX);
-        compare_one(&mut bench, &mut tally, &record, queue, time);
+        let told = tell(&mut bench, &record, queue, time);
+        let (packed, after) = bench.pack(&record, time);
+        gone += u64::from(!packed.commands.is_empty());
+        let same = packed == told.packed && after.row() == told.record.row();
+        tally.add(told.kinds, same, || {
+            format!("at time {time}: {record:?}\ngives {packed:?} and {after:?}")
+        });
     }
-    tally.print();
-    tally.others == 0
-}
-
-fn compare_one(bench: &mut Bench, tally: &mut Tally, record: &Record, queue: Queue, time: u32) {
-    let told = tell(bench, record, queue, time);
-    let (packed, after) = bench.pack(record, time);
-    tally.records += 1;
-    tally.gone += u64::from(!packed.commands.is_empty());
-    tally.same += u64::from(told.kinds.is_empty());
-    if packed != told.packed || after.row() != told.record.row() {
-        tally.others += 1;
-        println!("at time {time}: {record:?}\ngives {packed:?} and {after:?}");
-    }
-    for kind in told.kinds {
-        *tally.kinds.entry(kind).or_default() += 1;
-    }
-}
-
-impl Tally {
-    fn print(&self) {
-        println!("{} records, in {} of them the command went out", self.records, self.gone);
-        println!("{} as the send step says", self.same);
-        for (kind, count) in &self.kinds {
-            println!("{count} {kind}");
-        }
-        println!("{} differences of no kind", self.others);
-    }
+    tally.close(&format!("records, in {gone} of them the command went out"), "the send step")
 }
 
 /// What the source should do: the send step, and what is of a kind.

@@ -1,6 +1,6 @@
 //! A script of random frames, and beside it the lines that answer it.
 
-use std::io::{self, Write};
+use std::io;
 
 use crate::{
     frame::Frame,
@@ -57,15 +57,15 @@ pub struct Plan {
 }
 
 impl Plan {
-    pub fn write(&self, output: &mut Output<impl Write, impl Write>) -> io::Result<()> {
+    pub fn write(&self, output: &mut Output) -> io::Result<()> {
         self.write_with(output, |_| Ok(()))
     }
 
     /// The same with more before the cut frame, which must come last.
-    pub fn write_with<S: Write, L: Write>(
+    pub fn write_with(
         &self,
-        output: &mut Output<S, L>,
-        more: impl FnOnce(&mut Output<S, L>) -> io::Result<()>,
+        output: &mut Output,
+        more: impl FnOnce(&mut Output) -> io::Result<()>,
     ) -> io::Result<()> {
         let mut random = Random::new(self.seed);
         let mut turns = vec![0; self.choice.groups.len()];

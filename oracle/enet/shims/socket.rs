@@ -22,6 +22,7 @@ pub(crate) trait Socket {
 
     fn init(&mut self, options: SocketOptions) -> Result<(), Self::Error>;
     fn send(&mut self, address: Self::Address, buffer: &[u8]) -> Result<usize, Self::Error>;
+    // The host asks for this very type.
     #[allow(clippy::type_complexity)]
     fn receive(
         &mut self,

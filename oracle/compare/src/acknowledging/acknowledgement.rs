@@ -1,6 +1,6 @@
 //! Every input of a set: acknowledgements where their rules turn.
 
-use std::io::{self, Write};
+use std::io;
 
 use enet::record::{place, Record};
 
@@ -92,7 +92,7 @@ const CLOCKS: [u32; 20] = [
 ];
 
 /// All of the set.
-pub fn write<S: Write, L: Write>(output: &mut Output<S, L>) -> io::Result<()> {
+pub fn write(output: &mut Output) -> io::Result<()> {
     open(output)?;
     write_samples(output, &FOUND, &STATES[..11])?;
     let layouts: Vec<Layout> = FOUND.into_iter().chain(MORE).collect();
@@ -106,7 +106,7 @@ pub fn write<S: Write, L: Write>(output: &mut Output<S, L>) -> io::Result<()> {
 }
 
 /// A thin slice of it.
-pub fn write_slice<S: Write, L: Write>(output: &mut Output<S, L>) -> io::Result<()> {
+pub fn write_slice(output: &mut Output) -> io::Result<()> {
     open(output)?;
     write_samples(output, &FOUND[1..2], &[5])?;
     write_states(output, &FOUND, &[5], &[6])?;
@@ -174,11 +174,7 @@ fn places(layouts: usize, states: usize) -> Vec<Place> {
 }
 
 /// Every state with every kind of sample, first or later, and every epoch.
-fn write_samples<S: Write, L: Write>(
-    output: &mut Output<S, L>,
-    layouts: &[Layout],
-    states: &[u32],
-) -> io::Result<()> {
+fn write_samples(output: &mut Output, layouts: &[Layout], states: &[u32]) -> io::Result<()> {
     for place in places(layouts.len(), states.len()) {
         let [found, state, received, sample, epoch, kind, packet] = place;
         let asked_for = Asked { kind: KINDS[kind], packet: packet == 1 };
@@ -192,8 +188,8 @@ fn write_samples<S: Write, L: Write>(
 }
 
 /// Every place with every state, every command that a state waits for or not, with a packet and without.
-fn write_states<S: Write, L: Write>(
-    output: &mut Output<S, L>,
+fn write_states(
+    output: &mut Output,
     layouts: &[Layout],
     states: &[u32],
     kinds: &[u8],
@@ -213,7 +209,7 @@ fn write_states<S: Write, L: Write>(
 }
 
 /// Every clock with sent times around it and around where 16 bits turn, as the first sample and as a later one.
-fn write_clocks<S: Write, L: Write>(output: &mut Output<S, L>, clocks: &[u32]) -> io::Result<()> {
+fn write_clocks(output: &mut Output, clocks: &[u32]) -> io::Result<()> {
     for clock in clocks {
         let mut sent = vec![0, 5, 6, 32_767, 32_768, 65_535];
         for ago in [0, 1, 2, 32_767, 32_768, 32_769] {
@@ -233,7 +229,7 @@ fn write_clocks<S: Write, L: Write>(output: &mut Output<S, L>, clocks: &[u32]) -
 }
 
 /// Epochs just an interval away, before and after, and where a distance turns.
-fn write_epochs<S: Write, L: Write>(output: &mut Output<S, L>) -> io::Result<()> {
+fn write_epochs(output: &mut Output) -> io::Result<()> {
     for clock in [0, 1, INTERVAL, CLOCK, DAY, u32::MAX] {
         for interval in [0, 1, INTERVAL, DAY - 1, DAY, u32::MAX] {
             for away in [interval, interval.wrapping_sub(1), interval.wrapping_add(1), DAY, DAY - 1]
@@ -251,7 +247,7 @@ fn write_epochs<S: Write, L: Write>(output: &mut Output<S, L>) -> io::Result<()>
 }
 
 /// Round trips and variances from end to end, where sums count past 2^32 and quarters and eighths are cut.
-fn write_averages<S: Write, L: Write>(output: &mut Output<S, L>) -> io::Result<()> {
+fn write_averages(output: &mut Output) -> io::Result<()> {
     let mut turn = 0;
     for trip in [0, 1, 8, 9, 100, 1 << 31, u32::MAX - 1, u32::MAX] {
         for variance in [0, 1, 3, 4, 5, 1 << 31, u32::MAX] {
@@ -272,7 +268,7 @@ fn write_averages<S: Write, L: Write>(output: &mut Output<S, L>) -> io::Result<(
 }
 
 /// Numbers that do not fit, or just do; missing ones read as 0, further ones are ignored.
-fn write_unfit<S: Write, L: Write>(output: &mut Output<S, L>) -> io::Result<()> {
+fn write_unfit(output: &mut Output) -> io::Result<()> {
     records::make(output, &timed(&FOUND[0], Asked { kind: 6, packet: true }))?;
     for (place, values) in [
         (0, [255, 256, u32::MAX]),
@@ -298,7 +294,7 @@ fn write_unfit<S: Write, L: Write>(output: &mut Output<S, L>) -> io::Result<()> 
 #[cfg(test)]
 mod tests {
     use super::*;
-    use crate::acknowledging::assert_met;
+    use crate::acknowledging::assert_meets;
     use std::collections::BTreeSet;
 
     #[test]
@@ -315,10 +311,7 @@ mod tests {
     fn the_set_and_its_slice_meet_every_reply() {
         let replies =
             ["8 0 0", "8 0 1", "8 0 2", "8 0 3", "8 0 4", "8 10", "8 11", "8 13", "8 bad"];
-        let (mut all, mut slice) = (Vec::new(), Vec::new());
-        write(&mut Output::new(io::sink(), &mut all)).unwrap();
-        write_slice(&mut Output::new(io::sink(), &mut slice)).unwrap();
-        assert_met(&all, &replies, 60_000);
-        assert_met(&slice, &replies, 2_000);
+        assert_meets(write, &replies, 60_000);
+        assert_meets(write_slice, &replies, 2_000);
     }
 }

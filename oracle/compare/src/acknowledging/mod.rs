@@ -7,7 +7,7 @@ mod sequences;
 mod throttle;
 mod timeouts;
 
-use std::io::{self, Write};
+use std::io;
 
 use enet::record::Record;
 
@@ -31,7 +31,7 @@ pub const RULES: &str = include_str!("rules.txt");
 pub const NAMES: [&str; 3] = ["acknowledgement", "timeouts", "throttle"];
 
 /// A set by its name on the command line.
-pub fn named<S: Write, L: Write>(name: &str) -> Option<Set<S, L>> {
+pub fn named(name: &str) -> Option<Set> {
     match name {
         "acknowledgement" => Some(acknowledgement::write),
         "timeouts" => Some(timeouts::write),
@@ -41,11 +41,7 @@ pub fn named<S: Write, L: Write>(name: &str) -> Option<Set<S, L>> {
 }
 
 /// What the repository stores of them: the rules, so many calls in sequences, and a thin slice of each set.
-pub fn write_stored<S: Write, L: Write>(
-    output: &mut Output<S, L>,
-    seed: u64,
-    count: u64,
-) -> io::Result<()> {
+pub fn write_stored(output: &mut Output, seed: u64, count: u64) -> io::Result<()> {
     rules::write_text(output, RULES)?;
     sequences::write(output, seed, count)?;
     acknowledgement::write_slice(output)?;
@@ -54,7 +50,7 @@ pub fn write_stored<S: Write, L: Write>(
 }
 
 /// The settings of the start and a new record of two channels, of which few frames make each case's.
-fn open<S: Write, L: Write>(output: &mut Output<S, L>) -> io::Result<()> {
+fn open(output: &mut Output) -> io::Result<()> {
     output.put(&set(&Settings::START))?;
     output.put(&frame(1, vec![]))?;
     records::make(output, &layout::record(&["", "", ""], layout::Asked { kind: 5, packet: false }))
@@ -62,11 +58,7 @@ fn open<S: Write, L: Write>(output: &mut Output<S, L>) -> io::Result<()> {
 
 /// Makes the record, of which only numbers and outgoing lists and slots may differ from what was made before, and the
 /// call on it.
-fn case<S: Write, L: Write>(
-    output: &mut Output<S, L>,
-    record: &Record,
-    asked: &Frame,
-) -> io::Result<()> {
+fn case(output: &mut Output, record: &Record, asked: &Frame) -> io::Result<()> {
     for frame in build::outgoing_frames(&output.model.record, record) {
         output.put(&frame)?;
     }
@@ -84,13 +76,11 @@ pub fn drawn(model: &Model, random: &mut Random) -> Frame {
     }
 }
 
-/// That these lines meet each of these replies, and are no more than this.
+/// That this set meets each of these replies, in no more lines than this.
 #[cfg(test)]
-fn assert_met(lines: &[u8], replies: &[&str], most: usize) {
-    let met = crate::arriving::met(lines);
-    for reply in replies {
-        assert!(met.contains_key(*reply), "{reply}: {met:?}");
-    }
+fn assert_meets(set: Set, replies: &[&str], most: usize) {
+    let met = crate::met::replies(set);
+    crate::met::assert_met(&met, 1, replies);
     let count: usize = met.values().sum();
     assert!(count <= most, "{count} lines");
 }

@@ -1,6 +1,6 @@
 //! What every call refuses first: settings, then the record; each cause alone, and settings and record together.
 
-use std::io::{self, Write};
+use std::io;
 
 use enet::record::{place, Record};
 
@@ -40,7 +40,7 @@ const DAMAGES: [fn(&mut Record); 11] = [
 
 /// The call on a record that is sound, then damaged, each under settings that fit and that do not; and with no part of
 /// the store, which it is not lent.
-pub fn write<S: Write, L: Write>(output: &mut Output<S, L>, asked: &Frame) -> io::Result<()> {
+pub fn write(output: &mut Output, asked: &Frame) -> io::Result<()> {
     let sound = layout::record(&["oTo", "o", "o"], Asked { kind: 6, packet: true });
     write_settings(output, &sound, asked)?;
     for damage in DAMAGES {
@@ -52,11 +52,7 @@ pub fn write<S: Write, L: Write>(output: &mut Output<S, L>, asked: &Frame) -> io
     case(output, &sound, asked)
 }
 
-fn write_settings<S: Write, L: Write>(
-    output: &mut Output<S, L>,
-    record: &Record,
-    asked: &Frame,
-) -> io::Result<()> {
+fn write_settings(output: &mut Output, record: &Record, asked: &Frame) -> io::Result<()> {
     for settings in BAD {
         output.put(&set(&settings))?;
         case(output, record, asked)?;

@@ -1,12 +1,12 @@
 //! Random sequences in which a clock goes on: commands are sent, acknowledged or timed out, and sent again.
 
-use std::io::{self, Write};
+use std::io;
 
 use enet::record::{place, Record};
 
 use crate::{
     frame::Frame,
-    model::{Model, CONNECTED, DISCONNECT_LATER},
+    model::{Model, ACKNOWLEDGING_CONNECT, CONNECTED, DISCONNECTING, DISCONNECT_LATER},
     ops::{
         self,
         acknowledgement::{self, DAY},
@@ -21,30 +21,15 @@ use crate::{
         PACKET,
     },
     script::miscount,
+    sequence,
 };
 
-/// States in which an acknowledgement answers more than done.
-const ACKNOWLEDGING_CONNECT: u32 = 2;
-const DISCONNECTING: u32 = 7;
-
 /// A script of so many calls of ops 1 to 9 and 14, in sequences that start from new or random records.
-pub fn write<S: Write, L: Write>(
-    output: &mut Output<S, L>,
-    seed: u64,
-    count: u64,
-) -> io::Result<()> {
-    let mut random = Random::new(seed);
-    let mut left = count;
-    while left > 0 {
-        let mut sequence = Sequence::start(&mut random);
-        sequence.open(output, &mut random)?;
-        let calls = left.min(16 + random.below(112));
-        for _ in 0..calls {
-            sequence.call(output, &mut random)?;
-        }
-        left -= calls;
-    }
-    Ok(())
+pub fn write(output: &mut Output, seed: u64, count: u64) -> io::Result<()> {
+    let open = |output: &mut Output, random: &mut Random| {
+        Ok((Sequence::open(output, random)?, 16 + random.below(112)))
+    };
+    sequence::write(output, seed, count, open, Sequence::call)
 }
 
 /// What a sequence remembers: when it is.
@@ -75,19 +60,16 @@ impl Sequence {
     }
 
     /// The settings of the start, and a record to start from: mostly a new one, since it takes few frames.
-    fn open<S: Write, L: Write>(
-        &self,
-        output: &mut Output<S, L>,
-        random: &mut Random,
-    ) -> io::Result<()> {
+    fn open(output: &mut Output, random: &mut Random) -> io::Result<Self> {
+        let sequence = Sequence::start(random);
         output.put(&settings(1_392, PACKET))?;
-        let record = match random.below(48) {
-            0 => harm::any(random),
-            1 => sound::any(random),
-            2..=12 => self.busy(random),
-            _ => return begin(output, random),
-        };
-        records::make(output, &record)
+        match random.below(48) {
+            0 => records::make(output, &harm::any(random))?,
+            1 => records::make(output, &sound::any(random))?,
+            2..=12 => records::make(output, &sequence.busy(random))?,
+            _ => begin(output, random)?,
+        }
+        Ok(sequence)
     }
 
     /// A record that sent some commands not long ago, and has others waiting.
@@ -114,28 +96,14 @@ impl Sequence {
     }
 
     /// A call, now and then with numbers missing, or under settings that refuse it.
-    fn call<S: Write, L: Write>(
-        &mut self,
-        output: &mut Output<S, L>,
-        random: &mut Random,
-    ) -> io::Result<()> {
+    fn call(&mut self, output: &mut Output, random: &mut Random) -> io::Result<()> {
         self.pass(random);
         let mut asked = self.drawn(&output.model, random);
         if random.once_in(96) {
             miscount(&mut asked, random);
         }
-        let refused = random.once_in(96);
-        if refused {
-            let (mtu, packet) = random.pick(&[(575, PACKET), (4_097, PACKET), (576, 0)]);
-            output.put(&settings(mtu, packet))?;
-        }
-        let line = output.ask(&asked)?;
-        if refused {
-            output.put(&settings(1_392, PACKET))?;
-        }
-        if random.once_in(16) {
-            output.put(&frame(15, vec![]))?;
-        }
+        let line = sequence::ask(output, random, &asked, 96, &sequence::BAD)?;
+        sequence::look(output, random)?;
         // Nothing could be sent before another begin; and a caller mostly acts when a peer is gone.
         let gone = line.starts_with("9 0 3 ") || line.starts_with("8 0 3 ");
         if asked.op == 1 || (gone && !random.once_in(3)) {
@@ -178,7 +146,7 @@ impl Sequence {
 }
 
 /// A new record with open channels; mostly it gives up sooner than one of the defaults.
-fn begin<S: Write, L: Write>(output: &mut Output<S, L>, random: &mut Random) -> io::Result<()> {
+fn begin(output: &mut Output, random: &mut Random) -> io::Result<()> {
     output.put(&frame(1, vec![]))?;
     output.put(&frame(2, vec![1_392, random.pick(&[1, 1, 2, 8])]))?;
     output.put(&frame(3, vec![CONNECTED]))?;
@@ -237,35 +205,27 @@ fn set_up(record: &Record, random: &mut Random) -> Frame {
 #[cfg(test)]
 mod tests {
     use super::*;
-    use crate::arriving::met;
-    use std::collections::BTreeMap;
+    use crate::met::{again, assert_met, done, replies};
 
     #[test]
     fn so_many_calls_are_made_and_every_reply_is_met() {
-        let mut lines = Vec::new();
-        write(&mut Output::new(io::sink(), &mut lines), 1, 40_000).unwrap();
-        let met = met(&lines);
-        for reply in [
+        let met = replies(|output| write(output, 1, 40_000));
+        let replies = [
             "1 0", "2 0", "2 11", "3 0", "4 0", "5 0", "6 0", "7 0 0", "7 0 1", "8 0 0", "8 0 1",
             "8 0 2", "8 0 3", "8 0 4", "8 10", "8 11", "8 13", "8 bad", "9 0 1", "9 0 3", "9 11",
             "9 13", "14 0 0", "14 0 1", "14 0 2", "14 11", "14 13",
-        ] {
-            assert!(met.get(reply).is_some_and(|count| *count >= 10), "{reply}: {met:?}");
-        }
+        ];
+        assert_met(&met, 10, &replies);
     }
 
     /// What one call did, by the records before and after it.
-    fn seen(before: &Record, after: &Record, line: &str) -> Vec<&'static str> {
+    fn seen(before: &Record, after: &Record, line: &str) -> Vec<(&'static str, bool)> {
         let waiting = |record: &Record| record.outgoing.length + record.send_reliable.length;
         let sent = |record: &Record| record.sent.length;
         let gone = sent(before).saturating_sub(sent(after));
-        let again = |record: &Record| {
-            let again = |slot: usize| record.outgoing_slots[slot].attempts > 1;
-            record.sent.slots().filter(|slot| again(*slot)).count()
-        };
         let (eight, nine) = (line.starts_with("8 0 "), line.starts_with("9 0 "));
         let used = |record: &Record| record.free_outgoing();
-        [
+        vec![
             ("acknowledged where it was sent", eight && gone == 1),
             ("acknowledged where it waits again", eight && waiting(after) < waiting(before)),
             ("acknowledged nothing", eight && used(after) == used(before)),
@@ -292,29 +252,16 @@ mod tests {
                 },
             ),
         ]
-        .into_iter()
-        .filter(|(_, met)| *met)
-        .map(|(name, _)| name)
-        .collect()
     }
 
     #[test]
     fn whatever_these_calls_can_do_is_done() {
-        let (mut random, mut met) = (Random::new(1), BTreeMap::new());
-        let mut output = Output::new(io::sink(), io::sink());
-        for _ in 0..400 {
-            let mut sequence = Sequence::start(&mut random);
-            sequence.open(&mut output, &mut random).unwrap();
-            for _ in 0..80 {
-                sequence.pass(&mut random);
-                let asked = sequence.drawn(&output.model, &mut random);
-                let before = output.model.record.clone();
-                let line = output.ask(&asked).unwrap();
-                for name in seen(&before, &output.model.record, &line) {
-                    *met.entry(name).or_insert(0) += 1;
-                }
-            }
-        }
-        assert!(met.len() == 13 && met.values().all(|count| *count >= 10), "{met:?}");
+        let ask = |sequence: &mut Sequence, output: &mut Output, random: &mut Random| {
+            sequence.pass(random);
+            let asked = sequence.drawn(&output.model, random);
+            output.ask(&asked)
+        };
+        let done = done((400, 80), Sequence::open, ask, seen);
+        assert!(done.values().all(|count| *count >= 10), "{done:?}");
     }
 }

@@ -1,6 +1,6 @@
 //! Every input of a set: the throttle where its tests turn.
 
-use std::io::{self, Write};
+use std::io;
 
 use enet::record::place;
 
@@ -55,7 +55,7 @@ const VALUES: [[u32; 4]; 14] = [
 ];
 
 /// All of the set.
-pub fn write<S: Write, L: Write>(output: &mut Output<S, L>) -> io::Result<()> {
+pub fn write(output: &mut Output) -> io::Result<()> {
     open(output)?;
     write_each(output, &TRIPS, &VALUES)?;
     refusals::write(output, &of(121))?;
@@ -63,18 +63,14 @@ pub fn write<S: Write, L: Write>(output: &mut Output<S, L>) -> io::Result<()> {
 }
 
 /// A thin slice of it.
-pub fn write_slice<S: Write, L: Write>(output: &mut Output<S, L>) -> io::Result<()> {
+pub fn write_slice(output: &mut Output) -> io::Result<()> {
     open(output)?;
     write_each(output, &[TRIPS[3], TRIPS[6], TRIPS[12]], &[VALUES[0], VALUES[1], VALUES[10]])?;
     refusals::write(output, &of(121))
 }
 
 /// Every two of them with samples around the last round trip and around that and twice the variance.
-fn write_each<S: Write, L: Write>(
-    output: &mut Output<S, L>,
-    trips: &[(u32, u32)],
-    values: &[[u32; 4]],
-) -> io::Result<()> {
+fn write_each(output: &mut Output, trips: &[(u32, u32)], values: &[[u32; 4]]) -> io::Result<()> {
     let mut record = layout::record(&["oo", "o", "o"], Asked { kind: 6, packet: true });
     sound::settle(&mut record);
     for numbers in values {
@@ -114,15 +110,12 @@ fn samples(last: u32, variance: u32) -> Vec<u32> {
 #[cfg(test)]
 mod tests {
     use super::*;
-    use crate::acknowledging::assert_met;
+    use crate::acknowledging::assert_meets;
 
     #[test]
     fn the_set_and_its_slice_meet_every_reply() {
         let replies = ["14 0 0", "14 0 1", "14 0 2", "14 11", "14 13"];
-        let (mut all, mut slice) = (Vec::new(), Vec::new());
-        write(&mut Output::new(io::sink(), &mut all)).unwrap();
-        write_slice(&mut Output::new(io::sink(), &mut slice)).unwrap();
-        assert_met(&all, &replies, 60_000);
-        assert_met(&slice, &replies, 600);
+        assert_meets(write, &replies, 60_000);
+        assert_meets(write_slice, &replies, 600);
     }
 }

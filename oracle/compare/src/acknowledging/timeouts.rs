@@ -1,6 +1,6 @@
 //! Every input of a set: timeout checks where their rules turn.
 
-use std::io::{self, Write};
+use std::io;
 
 use enet::record::{place, Outgoing, Record, OUTGOING};
 
@@ -68,7 +68,7 @@ impl Case {
         }
     }
 
-    fn put<S: Write, L: Write>(&self, output: &mut Output<S, L>) -> io::Result<()> {
+    fn put(&self, output: &mut Output) -> io::Result<()> {
         case(output, &self.record(), &at(self.clock))
     }
 
@@ -149,7 +149,7 @@ fn bit(pattern: usize, place: usize) -> bool {
 }
 
 /// All of the set.
-pub fn write<S: Write, L: Write>(output: &mut Output<S, L>) -> io::Result<()> {
+pub fn write(output: &mut Output) -> io::Result<()> {
     let mut random = Random::new(SEED);
     open(output)?;
     write_patterns(output, 6, &EARLIEST)?;
@@ -166,7 +166,7 @@ pub fn write<S: Write, L: Write>(output: &mut Output<S, L>) -> io::Result<()> {
 }
 
 /// A thin slice of it.
-pub fn write_slice<S: Write, L: Write>(output: &mut Output<S, L>) -> io::Result<()> {
+pub fn write_slice(output: &mut Output) -> io::Result<()> {
     open(output)?;
     write_patterns(output, 3, &EARLIEST[..1])?;
     write_long(output, &mut Random::new(SEED), [9, OUTGOING].into_iter(), 1)?;
@@ -180,11 +180,7 @@ pub fn write_slice<S: Write, L: Write>(output: &mut Output<S, L>) -> io::Result<
 }
 
 /// Every pattern of what is due, up to a length, from every earliest timeout, with packets and without.
-fn write_patterns<S: Write, L: Write>(
-    output: &mut Output<S, L>,
-    longest: usize,
-    earliest: &[u32],
-) -> io::Result<()> {
+fn write_patterns(output: &mut Output, longest: usize, earliest: &[u32]) -> io::Result<()> {
     let mut turn = 0;
     for length in 0..=longest {
         for pattern in 0..1 << length {
@@ -206,8 +202,8 @@ fn write_patterns<S: Write, L: Write>(
 }
 
 /// Longer lists, what is due drawn at random, and none, all, all but the first, all but the last.
-fn write_long<S: Write, L: Write>(
-    output: &mut Output<S, L>,
+fn write_long(
+    output: &mut Output,
     random: &mut Random,
     lengths: impl Iterator<Item = usize>,
     times: usize,
@@ -237,7 +233,7 @@ fn write_long<S: Write, L: Write>(
 
 /// Given up at every place of every list up to a length, with every pattern of what else is due: by the attempts of one
 /// command, or by its time, which becomes the earliest.
-fn write_given_up<S: Write, L: Write>(output: &mut Output<S, L>, longest: usize) -> io::Result<()> {
+fn write_given_up(output: &mut Output, longest: usize) -> io::Result<()> {
     for length in 1..=longest {
         for pattern in 0..1 << length {
             for last in (0..length).filter(|place| bit(pattern, *place)) {
@@ -249,12 +245,7 @@ fn write_given_up<S: Write, L: Write>(output: &mut Output<S, L>, longest: usize)
 }
 
 /// The last command to be looked at is at this place.
-fn write_last<S: Write, L: Write>(
-    output: &mut Output<S, L>,
-    length: usize,
-    pattern: usize,
-    last: usize,
-) -> io::Result<()> {
+fn write_last(output: &mut Output, length: usize, pattern: usize, last: usize) -> io::Result<()> {
     let packets = pattern.wrapping_mul(5) ^ last;
     let sent = |place| sent(place, bit(pattern, place), bit(packets, place));
     let mut often = Case::of((0..length).map(sent).collect());
@@ -271,7 +262,7 @@ fn write_last<S: Write, L: Write>(
 }
 
 /// All slots sent: given up at the first, in the middle, at the last, with all or none of the others due.
-fn write_full<S: Write, L: Write>(output: &mut Output<S, L>) -> io::Result<()> {
+fn write_full(output: &mut Output) -> io::Result<()> {
     for last in [0, 15, 16, 31] {
         for pattern in [usize::MAX, 1 << last, 0x5555_5555 | 1 << last] {
             write_last(output, OUTGOING, pattern, last)?;
@@ -281,7 +272,7 @@ fn write_full<S: Write, L: Write>(output: &mut Output<S, L>) -> io::Result<()> {
 }
 
 /// So many attempts with limits around their power, and the distance around minimum and maximum.
-fn write_attempts<S: Write, L: Write>(output: &mut Output<S, L>, attempts: u16) -> io::Result<()> {
+fn write_attempts(output: &mut Output, attempts: u16) -> io::Result<()> {
     let power = 1_u64 << (attempts - 1).min(32);
     let mut limits: Vec<u32> = Vec::new();
     for limit in [0, 1, 32, power - 1, power, power + 1, 1 << 31, u64::from(u32::MAX)] {
@@ -319,7 +310,7 @@ const CLOCKS: [u32; 11] = [
 ];
 
 /// Every clock with times sent before and after it, as far as a rule turns, and earliest timeouts around them.
-fn write_clocks<S: Write, L: Write>(output: &mut Output<S, L>, clocks: &[u32]) -> io::Result<()> {
+fn write_clocks(output: &mut Output, clocks: &[u32]) -> io::Result<()> {
     for clock in clocks {
         for ago in [0, 499, 500, 29_999, 30_000, DAY - 1, DAY, 1 << 31, 500_u32.wrapping_neg()] {
             let time = clock.wrapping_sub(ago);
@@ -342,7 +333,7 @@ fn write_clocks<S: Write, L: Write>(output: &mut Output<S, L>, clocks: &[u32]) -
 }
 
 /// Every state, given up or not; a timeout of 0 is always due, and one of 2^31 doubles to 0.
-fn write_states<S: Write, L: Write>(output: &mut Output<S, L>) -> io::Result<()> {
+fn write_states(output: &mut Output) -> io::Result<()> {
     for state in (0..=10).chain([u32::MAX]) {
         for maximum in [1_000, 1_001] {
             let sent = |timeout| Sent { time: SENT, timeout, attempts: 1, packet: false };
@@ -360,15 +351,12 @@ fn write_states<S: Write, L: Write>(output: &mut Output<S, L>) -> io::Result<()>
 #[cfg(test)]
 mod tests {
     use super::*;
-    use crate::acknowledging::assert_met;
+    use crate::acknowledging::assert_meets;
 
     #[test]
     fn the_set_and_its_slice_meet_every_reply() {
         let replies = ["9 0 1", "9 0 3", "9 11", "9 13"];
-        let (mut all, mut slice) = (Vec::new(), Vec::new());
-        write(&mut Output::new(io::sink(), &mut all)).unwrap();
-        write_slice(&mut Output::new(io::sink(), &mut slice)).unwrap();
-        assert_met(&all, &replies, 60_000);
-        assert_met(&slice, &replies, 1_600);
+        assert_meets(write, &replies, 60_000);
+        assert_meets(write_slice, &replies, 1_600);
     }
 }

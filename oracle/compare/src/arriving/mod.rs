@@ -8,14 +8,14 @@ mod sets;
 pub mod taken;
 mod unsequenced;
 
-use std::io::{self, Write};
+use std::io;
 
 use enet::record::{place, Record};
 
 use crate::{
     frame::Frame,
     mix::Mix,
-    model::{Settings, CONNECTED, STORE},
+    model::{Settings, CELL, CONNECTED, STORE},
     output::Output,
     records::{frame, set},
     sending::sets::Set,
@@ -27,7 +27,7 @@ pub use sequences::write;
 pub const NAMES: [&str; 4] = ["dispatch", "receive", "unsequenced", "reliable"];
 
 /// A set by its name on the command line.
-pub fn named<S: Write, L: Write>(name: &str) -> Option<Set<S, L>> {
+pub fn named(name: &str) -> Option<Set> {
     match name {
         "dispatch" => Some(sets::write_dispatch),
         "receive" => Some(sets::write_receive),
@@ -38,23 +38,36 @@ pub fn named<S: Write, L: Write>(name: &str) -> Option<Set<S, L>> {
 }
 
 /// What the repository stores of arrivals: so many calls in sequences, and a thin slice of each set.
-pub fn write_arrivals<S: Write, L: Write>(
-    output: &mut Output<S, L>,
-    seed: u64,
-    count: u64,
-) -> io::Result<()> {
+pub fn write_arrivals(output: &mut Output, seed: u64, count: u64) -> io::Result<()> {
     sequences::write(output, seed, count, Mix::Stored)?;
     unsequenced::write_slice(output)?;
     reliable::write_slice(output)
 }
 
 /// The whole store's hash.
-fn whole_store() -> Frame {
+pub fn whole_store() -> Frame {
     frame(16, vec![0, STORE as u32])
 }
 
+/// What is looked at after this line: the whole store's hash after a stored arrival and a receive, and the bytes that a
+/// receive names.
+pub fn looks(line: &str) -> Vec<Frame> {
+    let mut looks = Vec::new();
+    if ["10 0 1 ", "11 0 1 ", "13 0 "].iter().any(|start| line.starts_with(start)) {
+        looks.push(whole_store());
+    }
+    if let Some(taken) = line.strip_prefix("13 0 1 ") {
+        let mut words = taken.split(' ').map(|word| word.parse::<u32>());
+        let (Some(Ok(cell)), Some(Ok(length))) = (words.nth(1), words.next()) else {
+            unreachable!("a receive names channel, cell and length: {line}");
+        };
+        looks.push(frame(17, vec![cell * CELL as u32, length.min(48)]));
+    }
+    looks
+}
+
 /// Asks, and answers whether a packet was stored.
-fn stores<S: Write, L: Write>(output: &mut Output<S, L>, asked: &Frame) -> io::Result<bool> {
+fn stores(output: &mut Output, asked: &Frame) -> io::Result<bool> {
     let line = output.ask(asked)?;
     Ok([10, 11].contains(&asked.op) && line.starts_with(&format!("{} 0 1 ", asked.op)))
 }
@@ -68,17 +81,6 @@ fn connected(channels: u32) -> Record {
 }
 
 /// The settings of the start.
-fn start<S: Write, L: Write>(output: &mut Output<S, L>) -> io::Result<()> {
+fn start(output: &mut Output) -> io::Result<()> {
     output.put(&set(&Settings::START))
-}
-
-/// How often each op answered what: the op, then all before the hash, cut to three words.
-#[cfg(test)]
-pub fn met(lines: &[u8]) -> std::collections::BTreeMap<String, usize> {
-    let mut met = std::collections::BTreeMap::new();
-    for line in String::from_utf8(lines.to_vec()).unwrap().lines() {
-        let reply: Vec<&str> = line.split(" # ").next().unwrap().split(' ').take(3).collect();
-        *met.entry(reply.join(" ")).or_insert(0) += 1;
-    }
-    met
 }

@@ -1,6 +1,6 @@
 //! The order of an arrival's tests: every set of causes together, and every byte, channel and state.
 
-use std::io::{self, Write};
+use std::io;
 
 use enet::record::{place, Record};
 
@@ -36,26 +36,18 @@ struct Case {
 }
 
 /// Every set of causes, for an arrival of three bytes that this record stores.
-pub fn write<S: Write, L: Write>(
-    output: &mut Output<S, L>,
-    record: &Record,
-    asked: &Frame,
-) -> io::Result<()> {
+pub fn write(output: &mut Output, record: &Record, asked: &Frame) -> io::Result<()> {
     write_causes(output, record, asked, 0..1 << CAUSES.len())
 }
 
 /// Every cause alone.
-pub fn write_alone<S: Write, L: Write>(
-    output: &mut Output<S, L>,
-    record: &Record,
-    asked: &Frame,
-) -> io::Result<()> {
+pub fn write_alone(output: &mut Output, record: &Record, asked: &Frame) -> io::Result<()> {
     write_causes(output, record, asked, (0..CAUSES.len()).map(|at| 1 << at))
 }
 
 /// The causes of each of these sets, in which a bit stands for one, and last none.
-fn write_causes<S: Write, L: Write>(
-    output: &mut Output<S, L>,
+fn write_causes(
+    output: &mut Output,
     record: &Record,
     asked: &Frame,
     sets: impl Iterator<Item = u32>,
@@ -73,8 +65,8 @@ fn write_causes<S: Write, L: Write>(
 }
 
 /// Every byte, and every channel with every state.
-pub fn write_each<S: Write, L: Write>(
-    output: &mut Output<S, L>,
+pub fn write_each(
+    output: &mut Output,
     random: &mut Random,
     record: &Record,
     asked: &Frame,
@@ -97,7 +89,7 @@ pub fn write_each<S: Write, L: Write>(
     Ok(())
 }
 
-fn put<S: Write, L: Write>(output: &mut Output<S, L>, case: &Case) -> io::Result<()> {
+fn put(output: &mut Output, case: &Case) -> io::Result<()> {
     output.put(&set(&case.settings))?;
     records::make(output, &case.record)?;
     output.put(&case.asked)

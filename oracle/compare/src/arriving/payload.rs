@@ -1,6 +1,6 @@
 //! Every length of a payload where a rule turns, at every place of datagrams that hold it or do not.
 
-use std::io::{self, Write};
+use std::io;
 
 use enet::record::Record;
 
@@ -17,8 +17,8 @@ use crate::{
 const LENGTHS: [u32; 5] = [0, 1, 4_095, 4_096, 4_097];
 
 /// Makes each of these arrivals on the record: `asked` is the frame before its length and its place.
-pub fn write<S: Write, L: Write>(
-    output: &mut Output<S, L>,
+pub fn write(
+    output: &mut Output,
     random: &mut Random,
     record: &Record,
     asked: &Frame,
@@ -57,7 +57,7 @@ fn places(length: u32, size: u32) -> Vec<u32> {
 }
 
 /// The first cell where the payload starts and ends, and the whole store.
-fn look<S: Write, L: Write>(output: &mut Output<S, L>, length: u32) -> io::Result<()> {
+fn look(output: &mut Output, length: u32) -> io::Result<()> {
     output.put(&frame(17, vec![0, 3]))?;
     output.put(&frame(17, vec![length.saturating_sub(2), 4]))?;
     output.put(&whole_store())

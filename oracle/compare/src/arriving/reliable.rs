@@ -1,6 +1,6 @@
 //! Every input of a set: reliable arrivals where their rules turn.
 
-use std::io::{self, Write};
+use std::io;
 
 use enet::record::{place, Incoming, Record, INCOMING};
 
@@ -59,7 +59,7 @@ const ALL: Tried = Tried {
 const FEW: Tried = Tried { fragments: &[0], states: &[CONNECTED], rooms: &[Room::Some] };
 
 /// All of the set.
-pub fn write<S: Write, L: Write>(output: &mut Output<S, L>) -> io::Result<()> {
+pub fn write(output: &mut Output) -> io::Result<()> {
     let mut random = Random::new(SEED);
     for last in LASTS {
         for distance in DISTANCES {
@@ -79,7 +79,7 @@ fn three() -> Frame {
 }
 
 /// A thin slice of it.
-pub fn write_slice<S: Write, L: Write>(output: &mut Output<S, L>) -> io::Result<()> {
+pub fn write_slice(output: &mut Output) -> io::Result<()> {
     let mut random = Random::new(SEED);
     for (last, distance) in [(65_535, 1), (65_535, 2), (0, 32_767), (0, 32_768)] {
         write_held(output, &mut random, (last, distance), &FEW)?;
@@ -88,8 +88,8 @@ pub fn write_slice<S: Write, L: Write>(output: &mut Output<S, L>) -> io::Result<
 }
 
 /// Every list with all that is tried, and the same arrival once more.
-fn write_held<S: Write, L: Write>(
-    output: &mut Output<S, L>,
+fn write_held(
+    output: &mut Output,
     random: &mut Random,
     (last, distance): (u16, u16),
     tried: &Tried,
@@ -115,11 +115,7 @@ fn write_held<S: Write, L: Write>(
 }
 
 /// Makes the record with this room, and the settings that leave it.
-fn open<S: Write, L: Write>(
-    output: &mut Output<S, L>,
-    record: &mut Record,
-    room: Room,
-) -> io::Result<()> {
+fn open(output: &mut Output, record: &mut Record, room: Room) -> io::Result<()> {
     if room == Room::Slots {
         fill(record);
     }
@@ -165,21 +161,17 @@ fn arrival(random: &mut Random, number: u16) -> Frame {
 mod tests {
     use super::*;
     use crate::{
-        arriving::met,
+        met::{assert_met, replies},
         model::Model,
         ops::{self, reliable::LAST},
     };
 
     #[test]
     fn the_set_meets_every_reply() {
-        let mut lines = Vec::new();
-        write(&mut Output::new(io::sink(), &mut lines)).unwrap();
-        let met = met(&lines);
-        for reply in
-            ["11 0 0", "11 0 1", "11 6", "11 7", "11 8", "11 9", "11 11", "11 13", "11 bad"]
-        {
-            assert!(met.get(reply).is_some_and(|count| *count >= 1), "{reply}: {met:?}");
-        }
+        let met = replies(write);
+        let replies =
+            ["11 0 0", "11 0 1", "11 6", "11 7", "11 8", "11 9", "11 11", "11 13", "11 bad"];
+        assert_met(&met, 1, &replies);
     }
 
     /// The line, without its hash, of this number on channel 1.

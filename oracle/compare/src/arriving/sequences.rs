@@ -1,6 +1,6 @@
 //! Random sequences of every call, most of them arrivals.
 
-use std::io::{self, Write};
+use std::io;
 
 use enet::record::place;
 
@@ -14,7 +14,7 @@ use crate::{
     random::Random,
     records::{self, frame, harm, sound},
     script::miscount,
-    sending,
+    sending, sequence,
 };
 
 /// How many arrivals a sequence remembers.
@@ -22,28 +22,16 @@ const REMEMBERED: usize = 8;
 
 /// A script of so many calls of ops 1 to 7 and 10 to 13, and of 8, 9 and 14 where the mix has them, in sequences
 /// that start from new or random records.
-pub fn write<S: Write, L: Write>(
-    output: &mut Output<S, L>,
-    seed: u64,
-    count: u64,
-    mix: Mix,
-) -> io::Result<()> {
-    let mut random = Random::new(seed);
-    let mut left = count;
-    while left > 0 {
-        open(output, &mut random)?;
-        let mut sequence = Sequence::new(mix);
-        let calls = left.min(8 + random.below(56));
-        for _ in 0..calls {
-            sequence.call(output, &mut random)?;
-        }
-        left -= calls;
-    }
-    Ok(())
+pub fn write(output: &mut Output, seed: u64, count: u64, mix: Mix) -> io::Result<()> {
+    let open = |output: &mut Output, random: &mut Random| {
+        open(output, random)?;
+        Ok((Sequence::new(mix), 8 + random.below(56)))
+    };
+    sequence::write(output, seed, count, open, Sequence::call)
 }
 
 /// The settings of the start, and a record to start from: mostly a new one, since it takes few frames.
-fn open<S: Write, L: Write>(output: &mut Output<S, L>, random: &mut Random) -> io::Result<()> {
+fn open(output: &mut Output, random: &mut Random) -> io::Result<()> {
     start(output)?;
     let mut record = match random.below(32) {
         0 => harm::any(random),
@@ -58,7 +46,7 @@ fn open<S: Write, L: Write>(output: &mut Output<S, L>, random: &mut Random) -> i
 }
 
 /// A new record with open channels, its window and its last numbers anywhere or close to where they turn.
-fn begin<S: Write, L: Write>(output: &mut Output<S, L>, random: &mut Random) -> io::Result<()> {
+fn begin(output: &mut Output, random: &mut Random) -> io::Result<()> {
     output.put(&frame(1, vec![]))?;
     let channels = random.pick(&[1, 1, 2, 3, 8]);
     output.put(&frame(2, vec![1_392, channels]))?;
@@ -98,11 +86,7 @@ impl Sequence {
     }
 
     /// A call, now and then with numbers missing, or under other settings; then a look at what it left.
-    fn call<S: Write, L: Write>(
-        &mut self,
-        output: &mut Output<S, L>,
-        random: &mut Random,
-    ) -> io::Result<()> {
+    fn call(&mut self, output: &mut Output, random: &mut Random) -> io::Result<()> {
         let mut asked = self.drawn(&output.model, random);
         if random.once_in(64) {
             miscount(&mut asked, random);
@@ -117,9 +101,7 @@ impl Sequence {
         if stores(output, &asked)? {
             look(output, random, free.expect("it was stored"))?;
         }
-        if random.once_in(16) {
-            output.put(&frame(15, vec![]))?;
-        }
+        sequence::look(output, random)?;
         if others.is_some() {
             output.put(&records::set(&kept))?;
         }
@@ -189,11 +171,7 @@ fn others(model: &Model, random: &mut Random, asked: &Frame) -> Option<Settings>
 }
 
 /// The whole store's hash, and now and then the bytes of the cell that was written.
-fn look<S: Write, L: Write>(
-    output: &mut Output<S, L>,
-    random: &mut Random,
-    slot: usize,
-) -> io::Result<()> {
+fn look(output: &mut Output, random: &mut Random, slot: usize) -> io::Result<()> {
     output.put(&whole_store())?;
     if random.once_in(6) {
         let length = output.model.record.incoming_slots[slot].length;
@@ -206,24 +184,20 @@ fn look<S: Write, L: Write>(
 #[cfg(test)]
 mod tests {
     use super::*;
-    use crate::arriving::met;
+    use crate::met::{assert_met, done, replies};
     use enet::record::Record;
-    use std::collections::BTreeMap;
 
     #[test]
     fn so_many_calls_are_made_and_every_reply_is_met() {
-        let mut lines = Vec::new();
-        write(&mut Output::new(io::sink(), &mut lines), 1, 20_000, Mix::All).unwrap();
-        let met = met(&lines);
-        for reply in [
+        let met = replies(|output| write(output, 1, 20_000, Mix::All));
+        let replies = [
             "1 0", "2 0", "2 11", "3 0", "3 11", "4 0", "5 0", "6 0", "7 0 0", "7 0 1", "12 0",
             "12 2", "12 11", "12 13", "12 bad", "13 0 0", "13 0 1", "13 11", "13 13", "10 0 0",
             "10 0 1", "10 6", "10 7", "10 8", "10 9", "10 11", "10 13", "10 bad", "11 0 0",
             "11 0 1", "11 6", "11 7", "11 8", "11 9", "11 11", "11 13", "11 bad", "8 0 0", "8 0 1",
             "8 0 4", "9 0 1", "9 0 3", "14 0 0", "14 0 1", "14 0 2",
-        ] {
-            assert!(met.get(reply).is_some_and(|count| *count >= 10), "{reply}: {met:?}");
-        }
+        ];
+        assert_met(&met, 10, &replies);
         let arrivals = |op: &str| -> usize {
             met.iter().filter(|(reply, _)| reply.starts_with(op)).map(|(_, count)| count).sum()
         };
@@ -231,7 +205,7 @@ mod tests {
     }
 
     /// What one call did, by the records before and after it.
-    fn seen(before: &Record, after: &Record, line: &str) -> Vec<&'static str> {
+    fn seen(before: &Record, after: &Record, line: &str) -> Vec<(&'static str, bool)> {
         let base = |record: &Record| record.numbers[place::INCOMING_GROUP];
         let moved = base(before) != base(after);
         let later = before.numbers[place::STATE] == DISCONNECT_LATER;
@@ -245,7 +219,7 @@ mod tests {
         let gone = after.sent.length < before.sent.length;
         let (ten, eleven) = (line.starts_with("10 "), line.starts_with("11 "));
         let (eight, over) = (line.contains(" 8 #"), line.contains(" 0 0 #"));
-        [
+        vec![
             ("delivered and moved", ten && moved && dispatched == 1),
             ("delivered in place", ten && !moved && dispatched == 1),
             ("8 and moved", ten && moved && eight),
@@ -262,29 +236,19 @@ mod tests {
             ("went back", line.starts_with("9 0 1 ") && gone),
             ("given up", line.starts_with("9 0 3 ")),
         ]
-        .into_iter()
-        .filter(|(_, met)| *met)
-        .map(|(name, _)| name)
-        .collect()
     }
 
     #[test]
     fn whatever_these_calls_can_do_is_done() {
-        let (mut random, mut met) = (Random::new(1), BTreeMap::new());
-        let mut output = Output::new(io::sink(), io::sink());
-        for _ in 0..400 {
-            open(&mut output, &mut random).unwrap();
-            let mut sequence = Sequence::new(Mix::All);
-            for _ in 0..40 {
-                let asked = sequence.drawn(&output.model, &mut random);
-                sequence.remember(&asked, &mut random);
-                let before = output.model.record.clone();
-                let line = output.ask(&asked).unwrap();
-                for name in seen(&before, &output.model.record, &line) {
-                    *met.entry(name).or_insert(0) += 1;
-                }
-            }
-        }
-        assert!(met.len() == 15 && met.values().all(|count| *count >= 20), "{met:?}");
+        let ask = |sequence: &mut Sequence, output: &mut Output, random: &mut Random| {
+            let asked = sequence.drawn(&output.model, random);
+            sequence.remember(&asked, random);
+            output.ask(&asked)
+        };
+        let open = |output: &mut Output, random: &mut Random| {
+            open(output, random).map(|()| Sequence::new(Mix::All))
+        };
+        let done = done((400, 40), open, ask, seen);
+        assert!(done.values().all(|count| *count >= 20), "{done:?}");
     }
 }

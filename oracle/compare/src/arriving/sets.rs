@@ -1,6 +1,6 @@
 //! Every input of a set: dispatch and receive where their rules turn.
 
-use std::io::{self, Write};
+use std::io;
 
 use enet::record::{place, Incoming, Record, INCOMING};
 
@@ -32,7 +32,7 @@ pub fn after(held: &Incoming) -> u16 {
 
 /// Lists of 0 to 12 from every last number, with every fragment count, whole, with a gap or an incomplete
 /// record at the start, in the middle or at the end.
-pub fn write_dispatch<S: Write, L: Write>(output: &mut Output<S, L>) -> io::Result<()> {
+pub fn write_dispatch(output: &mut Output) -> io::Result<()> {
     let mut random = Random::new(SEED);
     output.put(&settings(1_392, PACKET))?;
     for length in 0..=INCOMING {
@@ -82,7 +82,7 @@ fn list(
 }
 
 /// Dispatched from 0 to 12, of every length in turn, each taken out and once more.
-pub fn write_receive<S: Write, L: Write>(output: &mut Output<S, L>) -> io::Result<()> {
+pub fn write_receive(output: &mut Output) -> io::Result<()> {
     let mut random = Random::new(SEED);
     output.put(&settings(1_392, PACKET))?;
     for count in 0..=INCOMING {

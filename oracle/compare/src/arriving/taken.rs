@@ -1,6 +1,6 @@
 //! Random sequences of dispatch and receive.
 
-use std::io::{self, Write};
+use std::io;
 
 use enet::record::{place, Record, INCOMING};
 
@@ -15,49 +15,34 @@ use crate::{
         PACKET,
     },
     script::miscount,
+    sequence,
 };
 
 /// A script of so many calls of ops 12 and 13, in sequences that start from random records.
-pub fn write<S: Write, L: Write>(
-    output: &mut Output<S, L>,
-    seed: u64,
-    count: u64,
-) -> io::Result<()> {
-    let mut random = Random::new(seed);
-    let mut left = count;
-    while left > 0 {
-        output.put(&settings(1_392, PACKET))?;
-        let record = match random.below(24) {
-            0 => harm::any(&mut random),
-            1 => sound::any(&mut random),
-            _ => waiting(&mut random),
-        };
-        records::make(output, &record)?;
-        let calls = left.min(4 + random.below(24));
-        for _ in 0..calls {
-            call(output, &mut random)?;
-            if random.once_in(16) {
-                output.put(&frame(15, vec![]))?;
-            }
-        }
-        left -= calls;
-    }
-    Ok(())
+pub fn write(output: &mut Output, seed: u64, count: u64) -> io::Result<()> {
+    sequence::write(output, seed, count, open, |(), output, random| call(output, random))
+}
+
+/// The settings of the start and a record, and how many calls.
+fn open(output: &mut Output, random: &mut Random) -> io::Result<((), u64)> {
+    output.put(&settings(1_392, PACKET))?;
+    let record = match random.below(24) {
+        0 => harm::any(random),
+        1 => sound::any(random),
+        _ => waiting(random),
+    };
+    records::make(output, &record)?;
+    Ok(((), 4 + random.below(24)))
 }
 
 /// A call, now and then with numbers missing, or under settings that refuse it.
-fn call<S: Write, L: Write>(output: &mut Output<S, L>, random: &mut Random) -> io::Result<()> {
+fn call(output: &mut Output, random: &mut Random) -> io::Result<()> {
     let mut asked = drawn(random, output.model.record.numbers[place::CHANNEL_COUNT]);
     if random.once_in(32) {
         miscount(&mut asked, random);
     }
-    if !random.once_in(64) {
-        return output.put(&asked);
-    }
-    let (mtu, packet) = random.pick(&[(575, PACKET), (4_097, PACKET), (576, 0)]);
-    output.put(&settings(mtu, packet))?;
-    output.put(&asked)?;
-    output.put(&settings(1_392, PACKET))
+    sequence::ask(output, random, &asked, 64, &sequence::BAD)?;
+    sequence::look(output, random)
 }
 
 /// A dispatch or a receive that suits a record of so many channels.
@@ -103,17 +88,13 @@ pub fn waiting(random: &mut Random) -> Record {
 #[cfg(test)]
 mod tests {
     use super::*;
-    use crate::arriving::met;
+    use crate::met::{assert_met, replies};
 
     #[test]
     fn every_reply_is_met() {
-        let mut lines = Vec::new();
-        write(&mut Output::new(io::sink(), &mut lines), 1, 20_000).unwrap();
-        let met = met(&lines);
-        for reply in
-            ["12 0", "12 2", "12 11", "12 13", "12 bad", "13 0 0", "13 0 1", "13 11", "13 13"]
-        {
-            assert!(met.get(reply).is_some_and(|count| *count >= 10), "{reply}: {met:?}");
-        }
+        let met = replies(|output| write(output, 1, 20_000));
+        let replies =
+            ["12 0", "12 2", "12 11", "12 13", "12 bad", "13 0 0", "13 0 1", "13 11", "13 13"];
+        assert_met(&met, 10, &replies);
     }
 }

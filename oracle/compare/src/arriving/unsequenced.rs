@@ -1,6 +1,6 @@
 //! Every input of a set: unsequenced arrivals where their rules turn.
 
-use std::io::{self, Write};
+use std::io;
 
 use enet::record::{place, Incoming, Record, INCOMING, WORDS};
 
@@ -58,7 +58,7 @@ impl Grid {
 }
 
 /// All of the set.
-pub fn write<S: Write, L: Write>(output: &mut Output<S, L>) -> io::Result<()> {
+pub fn write(output: &mut Output) -> io::Result<()> {
     let mut random = Random::new(SEED);
     write_grid(output, &mut random, &Grid::full())?;
     let record = connected(2);
@@ -68,7 +68,7 @@ pub fn write<S: Write, L: Write>(output: &mut Output<S, L>) -> io::Result<()> {
 }
 
 /// A thin slice of it.
-pub fn write_slice<S: Write, L: Write>(output: &mut Output<S, L>) -> io::Result<()> {
+pub fn write_slice(output: &mut Output) -> io::Result<()> {
     write_grid(output, &mut Random::new(SEED), &Grid::slice())?;
     order::write_alone(output, &connected(2), &three())
 }
@@ -78,11 +78,7 @@ fn three() -> Frame {
     Frame { op: 10, numbers: vec![73, 1, 7, 1_025, 3, 0], bytes: vec![1, 2, 3] }
 }
 
-fn write_grid<S: Write, L: Write>(
-    output: &mut Output<S, L>,
-    random: &mut Random,
-    grid: &Grid,
-) -> io::Result<()> {
+fn write_grid(output: &mut Output, random: &mut Random, grid: &Grid) -> io::Result<()> {
     start(output)?;
     for (left, against) in &grid.left {
         records::make(output, &holding(INCOMING - left))?;
@@ -114,8 +110,8 @@ fn holding(count: usize) -> Record {
 }
 
 /// Every group from every base, each from the same record.
-fn write_bases<S: Write, L: Write>(
-    output: &mut Output<S, L>,
+fn write_bases(
+    output: &mut Output,
     random: &mut Random,
     grid: &Grid,
     marks: &[(usize, u32)],
@@ -139,7 +135,7 @@ fn write_bases<S: Write, L: Write>(
 }
 
 /// Makes the record again what it was, but for the flags, after an arrival or none.
-fn put_back<S: Write, L: Write>(output: &mut Output<S, L>, from: &Record) -> io::Result<()> {
+fn put_back(output: &mut Output, from: &Record) -> io::Result<()> {
     let mut to = from.clone();
     let delivered = output.model.record.dispatched.length != from.dispatched.length;
     if delivered {
@@ -163,16 +159,15 @@ fn arrival(random: &mut Random, group: u16) -> Frame {
 #[cfg(test)]
 mod tests {
     use super::*;
-    use crate::{arriving::met, model::Model, ops};
+    use crate::{
+        met::{assert_met, replies},
+        model::Model,
+        ops,
+    };
 
     #[test]
     fn the_slice_meets_every_reply() {
-        let mut lines = Vec::new();
-        write_slice(&mut Output::new(io::sink(), &mut lines)).unwrap();
-        let met = met(&lines);
-        for reply in ["10 0 0", "10 0 1", "10 8"] {
-            assert!(met.get(reply).is_some_and(|count| *count >= 10), "{reply}: {met:?}");
-        }
+        assert_met(&replies(write_slice), 10, &["10 0 0", "10 0 1", "10 8"]);
     }
 
     #[test]

@@ -34,6 +34,6 @@ fn line(model: &mut Model, frame: &Frame) -> String {
     }
     model.record.numbers[place::MTU] = mtu;
     model.record.numbers[place::CHANNEL_COUNT] = channels;
-    model.record.channels = std::array::from_fn(|_| Channel::new());
+    model.record.channels = std::array::from_fn(|_| Channel::default());
     model.reply(frame, 0)
 }

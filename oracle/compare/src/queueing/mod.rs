@@ -1,11 +1,8 @@
 //! The reliable arrival beside the source's own, `enet_protocol_handle_send_reliable`, on random records.
-//!
-//! What the source does otherwise is a list of kinds. Each says exactly what it changes, so that any other
-//! difference shows.
 
 mod draw;
 
-use std::{collections::BTreeMap, fmt};
+use std::fmt;
 
 use enet::{
     record::{place, Record},
@@ -19,6 +16,7 @@ use crate::{
         reliable::{put, store, Distances, Fate, FARTHEST, LAST},
     },
     random::Random,
+    tally::Tally,
 };
 
 /// The source's windows of reliable numbers: the numbers of one, and how many it takes, its own included.
@@ -77,63 +75,37 @@ struct Case<'a> {
     came: Came<'a>,
 }
 
-/// What was compared.
-#[derive(Default)]
-struct Tally {
-    arrivals: u64,
-    stored: u64,
-    same: u64,
-    kinds: BTreeMap<Kind, u64>,
-    others: u64,
-}
-
 /// Compares so many arrivals; whether each difference is of a kind.
 pub fn compare(seed: u64, count: u64) -> bool {
     let (mut random, mut bench) = (Random::new(seed), Bench::new());
-    let mut tally = Tally::default();
+    let (mut tally, mut stored) = (Tally::new(), 0);
     for _ in 0..count {
         let record = draw::holding(&mut random);
         let datagram = random.bytes(5_000);
         let (settings, came) = draw::arrival(&mut random, &record, &datagram);
-        tally.add(&mut bench, &Case { record: &record, settings, came });
+        let case = Case { record: &record, settings, came };
+        stored += u64::from(case.compare(&mut bench, &mut tally) == Verdict::Delivered);
     }
-    tally.print();
-    tally.others == 0
-}
-
-impl Tally {
-    fn add(&mut self, bench: &mut Bench, case: &Case) {
-        let Told { kind, end: told } = case.tell(bench);
-        let (ours, got) = (case.ours(bench), case.theirs(bench, told.row.is_some()));
-        self.arrivals += 1;
-        self.stored += u64::from(got.verdict == Verdict::Delivered);
-        self.same += u64::from(kind.is_none());
-        // A kind is a difference, and there is none without a kind.
-        if got != told || (ours == got) != kind.is_none() {
-            self.others += 1;
-            let Came { number, length, place, .. } = case.came;
-            println!("number {number}, {length} from {place}, on {:?}", case.record);
-            println!(
-                "gives {:?} {:?}, told {:?} {:?}",
-                got.verdict, got.row, told.verdict, told.row
-            );
-        }
-        if let Some(kind) = kind {
-            *self.kinds.entry(kind).or_default() += 1;
-        }
-    }
-
-    fn print(&self) {
-        println!("{} arrivals, {} of them stored by the source", self.arrivals, self.stored);
-        println!("{} as document 01 says", self.same);
-        for (kind, count) in &self.kinds {
-            println!("{count} {kind}");
-        }
-        println!("{} differences of no kind", self.others);
-    }
+    tally.close(&format!("arrivals, {stored} of them stored by the source"), "document 01")
 }
 
 impl Case<'_> {
+    /// Adds the arrival to the tally, and answers what the source made of it.
+    fn compare(&self, bench: &mut Bench, tally: &mut Tally<Kind>) -> Verdict {
+        let Told { kind, end: told } = self.tell(bench);
+        let (ours, got) = (self.ours(bench), self.theirs(bench, told.row.is_some()));
+        // A kind is a difference, and there is none without a kind.
+        let same = got == told && (ours == got) == kind.is_none();
+        tally.add(kind.into_iter().collect(), same, || {
+            let Came { number, length, place, .. } = self.came;
+            format!(
+                "number {number}, {length} from {place}, on {:?}\ngives {:?} {:?}, told {:?} {:?}",
+                self.record, got.verdict, got.row, told.verdict, told.row
+            )
+        });
+        got.verdict
+    }
+
     /// Document 01's arrival.
     fn ours(&self, bench: &mut Bench) -> End {
         let mut after = self.record.clone();
@@ -359,14 +331,14 @@ mod tests {
 
     #[test]
     fn from_a_reset_no_list_gets_out_of_order() {
-        let (mut random, mut bench, mut tally) = (Random::new(1), Bench::new(), Tally::default());
+        let (mut random, mut bench, mut tally) = (Random::new(1), Bench::new(), Tally::new());
         for _ in 0..200 {
             let mut record = with(&[]);
             record.channels[0].numbers[LAST] = random.up_to(65_535) as u16;
             for _ in 0..100 {
                 let datagram = random.bytes(5_000);
                 let (settings, came) = draw::arrival(&mut random, &record, &datagram);
-                tally.add(&mut bench, &Case { record: &record, settings, came });
+                Case { record: &record, settings, came }.compare(&mut bench, &mut tally);
                 let mut after = record.clone();
                 let (settings, came) = draw::arrival(&mut random, &record, &datagram);
                 if came.judged(&record, &settings).is_none()

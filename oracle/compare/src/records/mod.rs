@@ -4,7 +4,7 @@ pub mod harm;
 pub mod odd;
 pub mod sound;
 
-use std::io::{self, Write};
+use std::io;
 
 use enet::record::Record;
 
@@ -25,12 +25,7 @@ const SEED: u64 = 1;
 pub const PACKET: u32 = Settings::START.packet;
 
 /// A script in which so many records are built and reset, with other calls around.
-pub fn write<S: Write, L: Write>(
-    output: &mut Output<S, L>,
-    seed: u64,
-    count: u64,
-    mix: Mix,
-) -> io::Result<()> {
+pub fn write(output: &mut Output, seed: u64, count: u64, mix: Mix) -> io::Result<()> {
     let mut random = Random::new(seed);
     for _ in 0..count {
         let record = match random.below(32) {
@@ -59,7 +54,7 @@ pub fn write<S: Write, L: Write>(
 }
 
 /// A script with every kind of damage, one at a time, and then with what only looks like damage.
-pub fn write_damage<S: Write, L: Write>(output: &mut Output<S, L>) -> io::Result<()> {
+pub fn write_damage(output: &mut Output) -> io::Result<()> {
     let mut random = Random::new(SEED);
     for (_, record) in harm::HARMS.iter().chain(odd::ODDS) {
         make(output, &record(&mut random))?;
@@ -90,7 +85,7 @@ pub fn set(settings: &Settings) -> Frame {
 }
 
 /// Turns the model's record into this one.
-pub fn make<S: Write, L: Write>(output: &mut Output<S, L>, record: &Record) -> io::Result<()> {
+pub fn make(output: &mut Output, record: &Record) -> io::Result<()> {
     for frame in build::frames(&output.model.record, record) {
         output.put(&frame)?;
     }
@@ -98,7 +93,7 @@ pub fn make<S: Write, L: Write>(output: &mut Output<S, L>, record: &Record) -> i
 }
 
 /// Now and then the whole record, and the store's hash.
-fn look<S: Write, L: Write>(output: &mut Output<S, L>, random: &mut Random) -> io::Result<()> {
+fn look(output: &mut Output, random: &mut Random) -> io::Result<()> {
     if random.once_in(4) {
         output.put(&frame(15, vec![]))?;
     }
@@ -109,11 +104,7 @@ fn look<S: Write, L: Write>(output: &mut Output<S, L>, random: &mut Random) -> i
 }
 
 /// A call of some op of the mix, which suits the record where that matters.
-fn call<S: Write, L: Write>(
-    output: &mut Output<S, L>,
-    random: &mut Random,
-    mix: Mix,
-) -> io::Result<()> {
+fn call(output: &mut Output, random: &mut Random, mix: Mix) -> io::Result<()> {
     let record = &output.model.record;
     let frame = match random.pick(mix.calls()) {
         "8" => acknowledgement::drawn(random, record),
@@ -125,11 +116,7 @@ fn call<S: Write, L: Write>(
 }
 
 /// Calls that a bad setting refuses, be the record sound or damaged.
-fn refused<S: Write, L: Write>(
-    output: &mut Output<S, L>,
-    random: &mut Random,
-    mix: Mix,
-) -> io::Result<()> {
+fn refused(output: &mut Output, random: &mut Random, mix: Mix) -> io::Result<()> {
     let bad = [(575, PACKET), (4_097, PACKET), (1_392, 0), (1_392, 1_073_741_825)];
     let (mtu, packet) = random.pick(&bad);
     output.put(&settings(mtu, packet))?;

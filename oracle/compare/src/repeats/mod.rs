@@ -16,8 +16,8 @@ pub const RULES: &str = include_str!("rules.txt");
 
 /// A script of runs of so many calls with insertions, beside it the script of the same runs without them, and the
 /// numbers of the inserted lines, from 1.
-pub fn write<S: Write, L: Write>(
-    output: &mut Output<S, L>,
+pub fn write(
+    output: &mut Output,
     mut plain: impl Write,
     mut inserted: impl Write,
     seed: u64,
@@ -42,11 +42,7 @@ pub fn write<S: Write, L: Write>(
 }
 
 /// What the repository stores of it: the rules, then a run of so many calls with insertions, and the same run without.
-pub fn write_stored<S: Write, L: Write>(
-    output: &mut Output<S, L>,
-    seed: u64,
-    calls: u64,
-) -> io::Result<()> {
+pub fn write_stored(output: &mut Output, seed: u64, calls: u64) -> io::Result<()> {
     rules::write_text(output, RULES)?;
     let mut lines = drawn(&mut Random::new(seed), calls).lines;
     // The bytes that no arrival has written yet are not the same both times, those at the end are.

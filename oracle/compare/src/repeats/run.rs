@@ -5,9 +5,9 @@ use enet::record::place;
 use super::log::Log;
 use crate::{
     acknowledging,
-    arriving::taken,
+    arriving::{looks, taken, whole_store},
     frame::Frame,
-    model::{Model, Settings, CELL, CONNECTED, DISCONNECT_LATER, STORE},
+    model::{Model, Settings, CONNECTED, DISCONNECT_LATER, STORE},
     ops::{
         self, reliable,
         unsequenced::{self, WINDOW},
@@ -85,20 +85,8 @@ impl Run {
         if others.is_some() {
             self.put(set(&Settings::START), None);
         }
-        self.look(&line);
-    }
-
-    /// The whole store's hash after a stored arrival and a receive, and the bytes that a receive names.
-    fn look(&mut self, line: &str) {
-        if ["10 0 1 ", "11 0 1 ", "13 0 "].iter().any(|start| line.starts_with(start)) {
-            self.put(whole_store(), None);
-        }
-        if let Some(taken) = line.strip_prefix("13 0 1 ") {
-            let mut words = taken.split(' ').map(|word| word.parse::<u32>());
-            let (Some(Ok(cell)), Some(Ok(length))) = (words.nth(1), words.next()) else {
-                unreachable!("a receive names channel, cell and length: {line}");
-            };
-            self.put(frame(17, vec![cell * CELL as u32, length.min(48)]), None);
+        for look in looks(&line) {
+            self.put(look, None);
         }
     }
 
@@ -196,8 +184,4 @@ fn others(random: &mut Random) -> Settings {
         2 => Settings { packet: 1, ..start },
         _ => Settings { waiting: random.below(40) as u32, ..start },
     }
-}
-
-fn whole_store() -> Frame {
-    frame(16, vec![0, STORE as u32])
 }

@@ -3,7 +3,7 @@
 pub mod rules;
 pub mod sets;
 
-use std::io::{self, Write};
+use std::io;
 
 use enet::record::place;
 
@@ -16,6 +16,7 @@ use crate::{
     random::Random,
     records::{self, harm, sound, PACKET},
     script::miscount,
+    sequence,
 };
 
 /// The largest maximum packet size.
@@ -36,30 +37,16 @@ const COUNTERS: &[usize] = &[
 
 /// A script of so many calls of ops 4 to 7, with acknowledgements between where the mix has them, in sequences
 /// that start from random records.
-pub fn write<S: Write, L: Write>(
-    output: &mut Output<S, L>,
-    seed: u64,
-    count: u64,
-    mix: Mix,
-) -> io::Result<()> {
-    let mut random = Random::new(seed);
-    let mut left = count;
-    while left > 0 {
-        start(output, &mut random)?;
-        let calls = left.min(8 + random.below(48));
-        for _ in 0..calls {
-            call(output, &mut random, mix)?;
-            if random.once_in(16) {
-                output.put(&records::frame(15, vec![]))?;
-            }
-        }
-        left -= calls;
-    }
-    Ok(())
+pub fn write(output: &mut Output, seed: u64, count: u64, mix: Mix) -> io::Result<()> {
+    let open = |output: &mut Output, random: &mut Random| {
+        start(output, random)?;
+        Ok((mix, 8 + random.below(48)))
+    };
+    sequence::write(output, seed, count, open, call)
 }
 
 /// Settings that fit, and a record to start from: mostly a new one, since it takes few frames.
-fn start<S: Write, L: Write>(output: &mut Output<S, L>, random: &mut Random) -> io::Result<()> {
+fn start(output: &mut Output, random: &mut Random) -> io::Result<()> {
     let any = 1 + random.up_to(LARGEST - 1);
     let packet = random.pick(&[PACKET, PACKET, LARGEST, any]);
     output.put(&settings(random, packet))?;
@@ -83,7 +70,7 @@ fn settings(random: &mut Random, packet: u32) -> Frame {
 }
 
 /// A new record with open channels, mostly connected, and some of its counters anywhere.
-fn begin<S: Write, L: Write>(output: &mut Output<S, L>, random: &mut Random) -> io::Result<()> {
+fn begin(output: &mut Output, random: &mut Random) -> io::Result<()> {
     output.put(&records::frame(1, vec![]))?;
     let any = 576 + random.up_to(4_096 - 576);
     let mtu = random.pick(&[576, 1_051, 1_392, 4_096, any]);
@@ -112,11 +99,7 @@ fn edge(random: &mut Random, limit: u32) -> u32 {
 }
 
 /// A call, now and then with numbers missing, or under settings that refuse it.
-fn call<S: Write, L: Write>(
-    output: &mut Output<S, L>,
-    random: &mut Random,
-    mix: Mix,
-) -> io::Result<()> {
+fn call(mix: &mut Mix, output: &mut Output, random: &mut Random) -> io::Result<()> {
     let mut frame = match mix.more(&output.model, random, 3) {
         Some(frame) => frame,
         None => drawn(&output.model, random),
@@ -124,15 +107,9 @@ fn call<S: Write, L: Write>(
     if random.once_in(48) {
         miscount(&mut frame, random);
     }
-    if !random.once_in(96) {
-        return output.put(&frame);
-    }
-    let kept = output.model.settings;
-    let (mtu, packet) =
-        random.pick(&[(575, PACKET), (4_097, PACKET), (576, 0), (576, LARGEST + 1)]);
-    output.put(&records::settings(mtu, packet))?;
-    output.put(&frame)?;
-    output.put(&records::set(&kept))
+    let bad = [(575, PACKET), (4_097, PACKET), (576, 0), (576, LARGEST + 1)];
+    sequence::ask(output, random, &frame, 96, &bad)?;
+    sequence::look(output, random)
 }
 
 /// A frame of ops 4 to 7 that suits the record.
@@ -154,34 +131,20 @@ pub fn drawn(model: &Model, random: &mut Random) -> Frame {
 #[cfg(test)]
 mod tests {
     use super::*;
-    use std::collections::BTreeMap;
-
-    /// How often each op answered what: the op, then all before the hash, cut to so many words.
-    fn met(lines: &[u8], words: usize) -> BTreeMap<String, usize> {
-        let mut met = BTreeMap::new();
-        for line in String::from_utf8(lines.to_vec()).unwrap().lines() {
-            let reply: Vec<&str> =
-                line.split(" # ").next().unwrap().split(' ').take(words).collect();
-            *met.entry(reply.join(" ")).or_default() += 1;
-        }
-        met
-    }
+    use crate::met::{assert_met, replies};
 
     #[test]
     fn so_many_calls_are_made_and_every_reply_is_met() {
-        let mut lines = Vec::new();
-        write(&mut Output::new(io::sink(), &mut lines), 1, 40_000, Mix::All).unwrap();
-        let met = met(&lines, 2);
+        let met = replies(|output| write(output, 1, 40_000, Mix::All));
         let calls = ["4 ", "5 ", "6 ", "7 ", "8 ", "9 ", "14 "];
         let made = |(reply, _): &(&String, &usize)| calls.iter().any(|op| reply.starts_with(op));
         assert_eq!(met.iter().filter(made).map(|(_, count)| count).sum::<usize>(), 40_000);
-        for reply in [
+        let replies = [
             "4 0", "4 1", "4 5", "4 11", "4 13", "5 0", "5 1", "5 2", "5 3", "5 4", "5 5", "5 11",
-            "5 13", "5 bad", "6 0", "6 2", "6 5", "6 9", "6 11", "6 13", "6 bad", "7 0", "7 11",
-            "7 13", "7 bad", "8 0", "8 11", "8 13", "8 bad", "9 0", "9 11", "9 13", "14 0",
-            "14 11", "14 13",
-        ] {
-            assert!(met.get(reply).is_some_and(|count| *count >= 10), "{reply}: {met:?}");
-        }
+            "5 13", "5 bad", "6 0", "6 2", "6 5", "6 9", "6 11", "6 13", "6 bad", "7 0 0", "7 0 1",
+            "7 11", "7 13", "7 bad", "8 0 1", "8 11", "8 13", "8 bad", "9 0 1", "9 11", "9 13",
+            "14 0 1", "14 11", "14 13",
+        ];
+        assert_met(&met, 10, &replies);
     }
 }

@@ -1,6 +1,6 @@
 //! The rules of ops 4 to 7, each by its name and a few frames, with what document 01 replies.
 
-use std::io::{self, Write};
+use std::io;
 
 use crate::{
     frame::Frame,
@@ -37,15 +37,12 @@ impl Step {
 }
 
 /// A script of all rules; the oracle must reply as each says.
-pub fn write<S: Write, L: Write>(output: &mut Output<S, L>) -> io::Result<()> {
+pub fn write(output: &mut Output) -> io::Result<()> {
     write_text(output, TEXT)
 }
 
 /// The same of another text.
-pub fn write_text<S: Write, L: Write>(
-    output: &mut Output<S, L>,
-    text: &'static str,
-) -> io::Result<()> {
+pub fn write_text(output: &mut Output, text: &'static str) -> io::Result<()> {
     for rule in rules(text) {
         for step in rule.steps {
             let line = ops::answer(&mut output.model, &step.frame);

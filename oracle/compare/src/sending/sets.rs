@@ -1,13 +1,15 @@
 //! Every input of a set: setup, send, ping and send step where their rules turn.
 
-use std::io::{self, Write};
+use std::io;
 
 use enet::{
     limits,
     record::{place, Outgoing, OUTGOING},
 };
 
+use super::LARGEST;
 use crate::{
+    build::set_outgoing,
     frame::Frame,
     model::CONNECTED,
     ops::{
@@ -23,8 +25,6 @@ use crate::{
 const TURNS: [u32; 3] = [0, 65_534, 65_535];
 /// The seed of the numbers that a set leaves open.
 const SEED: u64 = 1;
-/// The largest maximum packet size.
-const LARGEST: u32 = 1 << 30;
 /// The flags of a send: all of the low four bits, and some with others above them.
 const FLAGS: [u32; 24] = [
     0,
@@ -54,12 +54,12 @@ const FLAGS: [u32; 24] = [
 ];
 
 /// A set by its name on the command line.
-pub type Set<S, L> = fn(&mut Output<S, L>) -> io::Result<()>;
+pub type Set = fn(&mut Output) -> io::Result<()>;
 
 pub const NAMES: [&str; 4] = ["setup", "send", "ping", "step"];
 
 /// The set of this name.
-pub fn named<S: Write, L: Write>(name: &str) -> Option<Set<S, L>> {
+pub fn named(name: &str) -> Option<Set> {
     match name {
         "setup" => Some(write_setup),
         "send" => Some(write_send),
@@ -70,14 +70,14 @@ pub fn named<S: Write, L: Write>(name: &str) -> Option<Set<S, L>> {
 }
 
 /// A new record with so many channels, connected.
-fn begin<S: Write, L: Write>(output: &mut Output<S, L>, mtu: u32, channels: u32) -> io::Result<()> {
+fn begin(output: &mut Output, mtu: u32, channels: u32) -> io::Result<()> {
     output.put(&frame(1, vec![]))?;
     output.put(&frame(2, vec![mtu, channels]))?;
     output.put(&frame(3, vec![CONNECTED]))
 }
 
 /// Sets every outgoing counter that is not at this number to it.
-fn wind<S: Write, L: Write>(output: &mut Output<S, L>, turn: u32) -> io::Result<()> {
+fn wind(output: &mut Output, turn: u32) -> io::Result<()> {
     for place in [place::RELIABLE_NUMBER, place::OUTGOING_GROUP] {
         if output.model.record.numbers[place] != turn {
             output.put(&frame(20, vec![place as u32, turn]))?;
@@ -95,7 +95,7 @@ fn wind<S: Write, L: Write>(output: &mut Output<S, L>, turn: u32) -> io::Result<
 
 /// Every command byte with the fields that it names and with others, on channels that are open or not, with
 /// a packet or without, at the start of it or not, from every turn of the counters.
-fn write_setup<S: Write, L: Write>(output: &mut Output<S, L>) -> io::Result<()> {
+fn write_setup(output: &mut Output) -> io::Result<()> {
     let mut random = Random::new(SEED);
     output.put(&settings(1_392, LARGEST))?;
     for count in [8, 1] {
@@ -111,12 +111,7 @@ fn write_setup<S: Write, L: Write>(output: &mut Output<S, L>) -> io::Result<()> 
 }
 
 /// All of the set with this byte and turn.
-fn write_byte<S: Write, L: Write>(
-    output: &mut Output<S, L>,
-    random: &mut Random,
-    byte: u8,
-    turn: u32,
-) -> io::Result<()> {
+fn write_byte(output: &mut Output, random: &mut Random, byte: u8, turn: u32) -> io::Result<()> {
     // Where the byte names no command, two kinds that it does not name.
     let own = if (1..=12).contains(&(byte & 15)) { byte & 15 } else { 1 };
     for kind in [own, own % 12 + 1] {
@@ -131,11 +126,7 @@ fn write_byte<S: Write, L: Write>(
 }
 
 /// The call, with every counter at the turn; where no slot is free, once so and once on a new record.
-fn set_up<S: Write, L: Write>(
-    output: &mut Output<S, L>,
-    call: &Frame,
-    turn: u32,
-) -> io::Result<()> {
+fn set_up(output: &mut Output, call: &Frame, turn: u32) -> io::Result<()> {
     if output.model.record.free_outgoing() == 0 {
         output.put(call)?;
         output.put(&frame(15, vec![]))?;
@@ -150,7 +141,7 @@ fn set_up<S: Write, L: Write>(
 
 /// Every set of flags with every length where the number of pieces turns, for three MTUs, with a checksum and
 /// without, from every turn of the counters; then just enough slots, one too few and one more.
-fn write_send<S: Write, L: Write>(output: &mut Output<S, L>) -> io::Result<()> {
+fn write_send(output: &mut Output) -> io::Result<()> {
     for mtu in [576, 1_051, 1_392, 4_096] {
         for checksum in [0, 1] {
             let mut settings = settings(1_392, LARGEST);
@@ -181,12 +172,7 @@ fn pairs(fragment: u32) -> impl Iterator<Item = (u32, u32)> {
 }
 
 /// The call on channel 1, with every counter at the turn, on a new record where the slots do not suffice.
-fn send<S: Write, L: Write>(
-    output: &mut Output<S, L>,
-    length: u32,
-    flags: u32,
-    turn: u32,
-) -> io::Result<()> {
+fn send(output: &mut Output, length: u32, flags: u32, turn: u32) -> io::Result<()> {
     let mtu = output.model.record.numbers[place::MTU];
     let fragment = fragment(mtu, output.model.settings.checksum);
     let (many, free) = (commands(length, fragment) as usize, output.model.record.free_outgoing());
@@ -198,7 +184,7 @@ fn send<S: Write, L: Write>(
 }
 
 /// A packet of some pieces where as many slots are free, one fewer, one more.
-fn write_room<S: Write, L: Write>(output: &mut Output<S, L>) -> io::Result<()> {
+fn write_room(output: &mut Output) -> io::Result<()> {
     output.put(&settings(1_392, LARGEST))?;
     for pieces in [1, 2, 3, 5, 31, 32] {
         for free in [pieces - 1, pieces, pieces + 1] {
@@ -216,7 +202,7 @@ fn write_room<S: Write, L: Write>(output: &mut Output<S, L>) -> io::Result<()> {
 }
 
 /// A ping in every state, from every turn of the counters, with many slots free, with one and with none.
-fn write_ping<S: Write, L: Write>(output: &mut Output<S, L>) -> io::Result<()> {
+fn write_ping(output: &mut Output) -> io::Result<()> {
     output.put(&settings(1_392, LARGEST))?;
     for turn in TURNS {
         for free in [OUTGOING, 1, 0] {
@@ -237,17 +223,17 @@ fn write_ping<S: Write, L: Write>(output: &mut Output<S, L>) -> io::Result<()> {
 }
 
 /// The slots of the step's set: of the command that waits, and of one that was sent.
-const WAITING: u32 = 5;
-const SENT: u32 = 9;
+const WAITING: usize = 5;
+const SENT: usize = 9;
 
 /// A send step of every kind of command with every two flags, from both lists, with a packet or without, where
 /// attempts and timeout turn, after another sent command or none.
-fn write_step<S: Write, L: Write>(output: &mut Output<S, L>) -> io::Result<()> {
+fn write_step(output: &mut Output) -> io::Result<()> {
     let mut random = Random::new(SEED);
     output.put(&settings(1_392, LARGEST))?;
     begin(output, 1_392, 1)?;
     let sent = Outgoing { byte: 133, channel: 255, kind: 5, attempts: 1, ..Outgoing::default() };
-    output.put(&slot(SENT, &sent))?;
+    output.put(&set_outgoing(SENT, &sent))?;
     for kind in 1..=12 {
         for flags in [0, 64, 128, 192] {
             write_head(output, &mut random, kind, kind | flags)?;
@@ -257,12 +243,7 @@ fn write_step<S: Write, L: Write>(output: &mut Output<S, L>) -> io::Result<()> {
 }
 
 /// All of the set with this kind and byte.
-fn write_head<S: Write, L: Write>(
-    output: &mut Output<S, L>,
-    random: &mut Random,
-    kind: u8,
-    byte: u8,
-) -> io::Result<()> {
+fn write_head(output: &mut Output, random: &mut Random, kind: u8, byte: u8) -> io::Result<()> {
     for attempts in [0, 1, 65_534, 65_535] {
         for timeout in [0, 1, u32::MAX] {
             for packet in [false, true] {
@@ -275,19 +256,15 @@ fn write_head<S: Write, L: Write>(
 }
 
 /// The step of this command from both lists, after another sent command or none.
-fn step_each<S: Write, L: Write>(
-    output: &mut Output<S, L>,
-    random: &mut Random,
-    waiting: &Outgoing,
-) -> io::Result<()> {
+fn step_each(output: &mut Output, random: &mut Random, waiting: &Outgoing) -> io::Result<()> {
     for list in [0, 1] {
         for sent in [0, 1] {
             // The lists by their numbers in op 21, where outgoing is 2 and send-reliable 1.
             let lists = [(0, sent, SENT), (2 - list, 1, WAITING)];
-            output.put(&slot(WAITING, waiting))?;
+            output.put(&set_outgoing(WAITING, waiting))?;
             for (which, length, first) in lists {
                 output.put(&frame(21, vec![which, 0, length]))?;
-                output.put(&frame(21, vec![which, 1, first]))?;
+                output.put(&frame(21, vec![which, 1, first as u32]))?;
             }
             for place in [place::ROUND_TRIP, place::ROUND_TRIP_VARIANCE] {
                 output.put(&frame(20, vec![place as u32, random.up_to(u32::MAX)]))?;
@@ -313,15 +290,6 @@ fn command(random: &mut Random, kind: u8, byte: u8) -> Outgoing {
         fields: limits(kind).iter().map(|limit| random.up_to(*limit)).collect(),
         ..Outgoing::default()
     }
-}
-
-/// The frame that sets this slot.
-fn slot(number: u32, to: &Outgoing) -> Frame {
-    let mut numbers = vec![number];
-    numbers.extend(to.numbers());
-    numbers.push(to.kind.into());
-    numbers.extend(&to.fields);
-    frame(23, numbers)
 }
 
 #[cfg(test)]

@@ -4,15 +4,11 @@ use enet::record::{place, Record};
 
 use crate::{
     frame::Frame,
-    model::{Model, CONNECTED, DISCONNECT_LATER},
+    model::{Model, ACKNOWLEDGING_CONNECT, CONNECTED, DISCONNECTING, DISCONNECT_LATER},
     ops::{send::fragment, setup, throttle, timeouts},
     random::Random,
     records::frame,
 };
-
-/// States of a peer that waits for an acknowledgement of command 3, or of 4.
-const ACKNOWLEDGING_CONNECT: u32 = 2;
-const DISCONNECTING: u32 = 7;
 
 /// A reset, a begin and a connect: by command 3, which has to be acknowledged, or at once.
 pub fn connect(random: &mut Random) -> Vec<Frame> {

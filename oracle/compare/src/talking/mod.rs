@@ -6,10 +6,11 @@ mod network;
 mod sequences;
 mod start;
 
-use std::io::{self, Write};
+use std::io;
 
-use crate::{output::Output, random::Random};
+use crate::{output::Output, random::Random, sequence};
 use network::Mood;
+use sequences::Talk;
 use start::Start;
 
 /// The shortest of the sequences but the last, and the longest.
@@ -17,17 +18,10 @@ const SHORTEST: u64 = 200;
 const LONGEST: u64 = 2_400;
 
 /// A script of so many calls of ops 1 to 14, in sequences of the mood and the start that the seed says.
-pub fn write<S: Write, L: Write>(
-    output: &mut Output<S, L>,
-    seed: u64,
-    count: u64,
-) -> io::Result<()> {
-    let mut random = Random::new(seed);
-    let mut left = count;
-    while left > 0 {
-        let calls = left.min(SHORTEST + random.below(LONGEST - SHORTEST));
-        sequences::write(output, &mut random, calls, Mood::of(seed), Start::of(seed))?;
-        left -= calls;
-    }
-    Ok(())
+pub fn write(output: &mut Output, seed: u64, count: u64) -> io::Result<()> {
+    let open = |output: &mut Output, random: &mut Random| {
+        let calls = SHORTEST + random.below(LONGEST - SHORTEST);
+        Ok((Talk::open(output, random, Mood::of(seed), Start::of(seed))?, calls))
+    };
+    sequence::write(output, seed, count, open, Talk::call)
 }

@@ -1,9 +1,6 @@
 //! A talk: the calls on the near side's peer by a clock that goes on, and between them the network and the far side.
 
-use std::{
-    collections::VecDeque,
-    io::{self, Write},
-};
+use std::{collections::VecDeque, io};
 
 use enet::record::{place, Record};
 
@@ -14,33 +11,19 @@ use super::{
     start::{self, Start},
 };
 use crate::{
+    arriving::looks,
     frame::Frame,
-    model::{Model, CELL, STORE},
+    model::{Model, CELL},
     ops::{acknowledgement::DAY, step::ACKNOWLEDGE},
     output::Output,
     random::Random,
-    records::{self, frame, set},
+    records::{self, set},
 };
 
 /// How much may be under way to the near side while the far side goes on to send.
 const UNDER_WAY: usize = 12;
 
-/// So many calls, from the settings and the record of a start.
-pub fn write<S: Write, L: Write>(
-    output: &mut Output<S, L>,
-    random: &mut Random,
-    calls: u64,
-    mood: Mood,
-    from: Start,
-) -> io::Result<()> {
-    let mut talk = Talk::open(output, random, mood, from)?;
-    for _ in 0..calls {
-        talk.call(output, random)?;
-    }
-    Ok(())
-}
-
-struct Talk {
+pub struct Talk {
     mood: Mood,
     /// The clock at the start, and the time since then, which does not turn.
     start: u32,
@@ -55,8 +38,9 @@ struct Talk {
 }
 
 impl Talk {
-    fn open<S: Write, L: Write>(
-        output: &mut Output<S, L>,
+    /// From the settings and the record of a start.
+    pub fn open(
+        output: &mut Output,
         random: &mut Random,
         mood: Mood,
         from: Start,
@@ -115,18 +99,20 @@ impl Talk {
         }
     }
 
-    /// A call, after what happened since the last one, and a look at the store where it may have changed.
-    fn call<S: Write, L: Write>(
-        &mut self,
-        output: &mut Output<S, L>,
-        random: &mut Random,
-    ) -> io::Result<()> {
+    /// A call, and a look at the store where it may have changed.
+    pub fn call(&mut self, output: &mut Output, random: &mut Random) -> io::Result<()> {
+        let line = self.ask(output, random)?;
+        looks(&line).iter().try_for_each(|look| output.put(look))
+    }
+
+    /// A call, after what happened since the last one, and its line.
+    fn ask(&mut self, output: &mut Output, random: &mut Random) -> io::Result<String> {
         self.pass(random);
         self.far_side(random, &output.model);
         let asked = self.drawn(&output.model, random);
         let line = output.ask(&asked)?;
         self.answered(random, &asked, &line, &output.model.record);
-        look(output, &asked, &line)
+        Ok(line)
     }
 
     /// Lets some time go by, more while nothing comes through.
@@ -216,40 +202,19 @@ fn sent(line: &str) -> Option<Came> {
     asks.then_some(Came::Command { channel, number, sent_time })
 }
 
-/// The whole store's hash after a stored arrival and a receive, and the bytes that a receive names.
-fn look<S: Write, L: Write>(
-    output: &mut Output<S, L>,
-    asked: &Frame,
-    line: &str,
-) -> io::Result<()> {
-    if asked.op == 13 || line.starts_with("10 0 1 ") || line.starts_with("11 0 1 ") {
-        output.put(&frame(16, vec![0, STORE as u32]))?;
-    }
-    if let Some(taken) = line.strip_prefix("13 0 1 ") {
-        let mut taken = taken.split(' ').map(|word| word.parse::<u32>().unwrap_or(0));
-        let (cell, length) = (taken.nth(1).expect("a cell"), taken.next().expect("a length"));
-        output.put(&frame(17, vec![cell * CELL as u32, length.min(48)]))?;
-    }
-    Ok(())
-}
-
 #[cfg(test)]
 mod tests {
     use super::*;
-    use std::collections::BTreeMap;
+    use crate::met::{again, done};
 
     /// What one call did, by the records before and after it.
-    fn seen(before: &Record, after: &Record, line: &str) -> Vec<&'static str> {
+    fn seen(before: &Record, after: &Record, line: &str) -> Vec<(&'static str, bool)> {
         let base = |record: &Record| record.numbers[place::INCOMING_GROUP];
         let moved = base(before) != base(after);
         let gone = before.sent.length.saturating_sub(after.sent.length);
         let joined = after.dispatched.length.saturating_sub(before.dispatched.length);
-        let again = |record: &Record| {
-            let again = |slot: usize| record.outgoing_slots[slot].attempts > 1;
-            record.sent.slots().filter(|slot| again(*slot)).count()
-        };
         let is = |start: &str| line.starts_with(start);
-        [
+        vec![
             ("sent", is("7 0 1 ") && after.sent.length > before.sent.length),
             ("sent again", is("7 0 1 ") && again(after) > again(before)),
             ("acknowledged", is("8 0 1 ") && gone == 1),
@@ -275,38 +240,17 @@ mod tests {
             ("nothing there", is("13 0 0 ")),
             ("reset", is("1 0 ")),
         ]
-        .into_iter()
-        .filter(|(_, met)| *met)
-        .map(|(name, _)| name)
-        .collect()
-    }
-
-    fn met(mood: Mood, from: Start) -> BTreeMap<&'static str, usize> {
-        let (mut random, mut met) = (Random::new(1), BTreeMap::new());
-        let mut output = Output::new(io::sink(), io::sink());
-        for _ in 0..40 {
-            let mut talk = Talk::open(&mut output, &mut random, mood, from).unwrap();
-            for _ in 0..1_000 {
-                talk.pass(&mut random);
-                talk.far_side(&mut random, &output.model);
-                let asked = talk.drawn(&output.model, &mut random);
-                let before = output.model.record.clone();
-                let line = output.ask(&asked).unwrap();
-                talk.answered(&mut random, &asked, &line, &output.model.record);
-                for name in seen(&before, &output.model.record, &line) {
-                    *met.entry(name).or_insert(0) += 1;
-                }
-            }
-        }
-        met
     }
 
     #[test]
     fn whatever_happens_in_a_talk_happens() {
         for from in [Start::Reset, Start::Record] {
             for mood in [Mood::Orderly, Mood::Lossy] {
-                let met = met(mood, from);
-                assert!(met.len() == 24 && met.values().all(|count| *count >= 5), "{met:?}");
+                let open = |output: &mut Output, random: &mut Random| {
+                    Talk::open(output, random, mood, from)
+                };
+                let done = done((40, 1_000), open, Talk::ask, seen);
+                assert!(done.values().all(|count| *count >= 5), "{done:?}");
             }
         }
     }

@@ -24,10 +24,9 @@ pub struct Channel {
     pub list: List,
 }
 
-impl Channel {
-    /// A channel as made new.
-    #[allow(clippy::new_without_default)]
-    pub fn new() -> Self {
+/// A channel as made new.
+impl Default for Channel {
+    fn default() -> Self {
         Channel { numbers: [0; 4], list: List::new(INCOMING) }
     }
 }
@@ -56,7 +55,7 @@ impl Record {
             outgoing: List::new(OUTGOING),
             dispatched: List::new(INCOMING),
             words: [0; WORDS],
-            channels: std::array::from_fn(|_| Channel::new()),
+            channels: std::array::from_fn(|_| Channel::default()),
             outgoing_slots: std::array::from_fn(|_| Outgoing::default()),
             incoming_slots: std::array::from_fn(|_| Incoming::default()),
         }
