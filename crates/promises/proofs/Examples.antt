@@ -23,7 +23,7 @@ use Rattle.link.specs.declared.calls.Call.{Call}
 use Rattle.link.specs.declared.calls.Call.the-variants as call
 use Rattle.promises.specs.History.{Event, moved, delivered, since, history, AllInRange}
 use Rattle.promises.specs.Repeats as repeats
-use Rattle.promises.specs.Repeats.{arrives, Line, own, again, original, played, Repeats}
+use Rattle.promises.specs.Repeats.{Insertion, arrives, Line, own, again, original, played, Repeats}
 use Rattle.promises.proofs.Traces.{no-trace}
 
 abbrev settings : Settings
@@ -64,7 +64,7 @@ unfolding history withBit marked marking firstFrom exist once noLists noChannel 
 delivered-twice = refl
 
 -- repeated at 0, 31 and 32 windows, twice in a row and after its packet came out
-abbrev lines : List Line
+abbrev lines : List (Line Insertion)
 lines =
     own (asks (call.Begin 1392 1)) ∷ own (asks (call.SetState 5)) ∷ own (of 5) ∷ again (packet 5) ∷ own (of 31744) ∷ again (packet 5)
     ∷ again (packet 5) ∷ own (asks (call.Inward inw.Receive)) ∷ own (of 32768) ∷ again (packet 5) ∷ own (asks (call.Inward inw.Receive)) ∷ []
@@ -77,9 +77,9 @@ pub in-range : AllInRange (original lines)
 unfolding original
 in-range = omega arith
 
-pub same : played lines start ≡ run (original lines) start
+pub same : played arrives lines start ≡ run (original lines) start
 same = no-trace 1392 nobody (replicate storeLength 0) lines in-range inserted
 
-pub came-out : map (λ (k : Packet). k .bytes) (played lines start .packets) ≡ (7 ∷ 8 ∷ 9 ∷ []) ∷ (7 ∷ 8 ∷ 9 ∷ []) ∷ []
+pub came-out : map (λ (k : Packet). k .bytes) (played arrives lines start .packets) ≡ (7 ∷ 8 ∷ 9 ∷ []) ∷ (7 ∷ 8 ∷ 9 ∷ []) ∷ []
 unfolding played withBit marked marking firstFrom exist once noLists noChannel noOutgoing noIncoming all held heldFit ownSlots lengths freshPeer sound
 came-out = refl

@@ -59,7 +59,7 @@ trace-original [] x log i h r = refl
 trace-original (own a ∷ ls) x log i h r =
     ap (before a x (comesTo a x)) (trace-original ls (comesTo a x .after) (logged a x log) (i .1) (step-holds a x log (i .0) h) r)
 trace-original (again k ∷ ls) x log i h r =
-    quietly k x (played ls) (quiet k x (near x log (k .group .0) h (r .0))) ∙ trace-original ls x log i h (r .1)
+    quietly k x (played arrives ls) (quiet k x (near x log (k .group .0) h (r .0))) ∙ trace-original ls x log i h (r .1)
 
 pub no-trace-original : NoTraceOriginal
 no-trace-original mtu kept store lines i r = trace-original lines (resetState mtu kept store) [] i (reset-holds mtu kept store) r

@@ -2,10 +2,12 @@ pub mod Refusals
 pub mod History
 pub mod Repeats
 pub mod Standing
-pub mod Packets
+pub mod Counts
 pub mod Reports
+pub mod Packets
 pub mod Held
 pub mod Next
 pub mod Marks
 pub mod ReportRepeats
+pub mod Outbook
 pub mod Promised

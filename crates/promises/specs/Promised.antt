@@ -7,6 +7,7 @@ use Rattle.promises.specs.Packets.{ComesOut}
 use Rattle.promises.specs.Reports.{CountsOnce}
 use Rattle.promises.specs.Held.{NothingStuck}
 use Rattle.promises.specs.Next.{NextDelivered, NearStored}
+use Rattle.promises.specs.Outbook.{NoneLost}
 use Rattle.promises.specs.Marks.{MarkedExactly, StoredAfterEight}
 
 pub record Promised : Type 0 where
@@ -34,4 +35,6 @@ pub record Promised : Type 0 where
   pub waits : Waits
   pub comes-out : ComesOut
   pub counts-once : CountsOnce
+  -- the sending side
   pub in-transit : InTransit
+  pub none-lost : NoneLost
