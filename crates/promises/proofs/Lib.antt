@@ -15,3 +15,5 @@ pub mod Quiet
 pub mod Passing
 pub mod Comings
 pub mod Examples
+pub mod Eight
+pub mod ReportTraces
