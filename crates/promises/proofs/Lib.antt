@@ -17,3 +17,4 @@ pub mod Comings
 pub mod Examples
 pub mod Eight
 pub mod ReportTraces
+pub mod Transits
