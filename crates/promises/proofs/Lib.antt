@@ -18,3 +18,4 @@ pub mod Examples
 pub mod Eight
 pub mod ReportTraces
 pub mod Transits
+pub mod Shown
