@@ -16,3 +16,7 @@ pub mod Passing
 pub mod Comings
 pub mod Examples
 pub mod Marking
+pub mod Eight
+pub mod ReportTraces
+pub mod Transits
+pub mod Shown

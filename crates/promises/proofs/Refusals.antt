@@ -1,6 +1,7 @@
 -- Demand 1's table as a law: a call answers 0 or a number that it may (`answers-may`), and after every number but 0, 8 and 10 record and store
--- are as they were (`refused-unchanged`); 13 only of a record that is not sound (`sound-undamaged`). The argument: a gate's refusals are read off its tests and leave what they found, what is behind
--- the gates is done, and only an arrival without room (8) and an acknowledgement that removed nothing (10) are refused there.
+-- are as they were (`refused-unchanged`); 13 only of a record that is not sound (`sound-undamaged`).
+-- The argument: a gate's refusals are read off its tests and leave what they found, what is behind the gates is done, and only an arrival without
+-- room (8) and an acknowledgement that removed nothing (10) are refused there.
 use Prim.Native.Nat.{ℕ}
 use mathlib.Core.Path.{_≡_, refl, ap, sym, _∙_}
 use mathlib.Core.Bool.{Bool, true, false, not}
@@ -67,7 +68,7 @@ use Rattle.throttling.specs.Calls as throttling
 use Rattle.throttling.specs.declared.Reply.the-variants as turn
 use Rattle.inward.specs.Steps.{beside}
 use Rattle.link.specs.Steps.{step}
-use Rattle.promises.specs.Refusals.{may}
+use Rattle.promises.specs.Refusals.{may, AnswersMay, RefusedUnchanged, SoundUndamaged}
 use Rattle.promises.proofs.Picks.{picked}
 use Rattle.outward.specs.declared.calls.Call.the-variants as out
 use Rattle.inward.specs.declared.calls.Call.the-variants as inw
@@ -316,17 +317,11 @@ step-is-fair s (call.Inward (inw.ReliableArrival a)) datagram x = reliable-fair 
 step-is-fair s (call.Inward (inw.Dispatch channel)) datagram x = beside-fair _ x _ (dispatch-fair s (x .peer) channel)
 step-is-fair s (call.Inward inw.Receive) datagram x = beside-fair _ x _ (receive-fair s (x .peer))
 
-module _ (s : Settings) (k : Call) (datagram : List ℕ) (x : State) where
-  -- the number that the step answers
-  abbrev number : ℕ
-  number = step s k datagram x .answer .number
+pub answers-may : AnswersMay
+answers-may s k datagram x = step-is-fair s k datagram x .number
 
-  pub answers-may : (number ≡ 0 → ⊥) → may k number ≡ true
-  answers-may = step-is-fair s k datagram x .number
+pub refused-unchanged : RefusedUnchanged
+refused-unchanged s k datagram x = step-is-fair s k datagram x .kept
 
-  pub refused-unchanged : (number ≡ 0 → ⊥) → (number ≡ 8 → ⊥) → (number ≡ 10 → ⊥) → step s k datagram x .after ≡ x
-  refused-unchanged = step-is-fair s k datagram x .kept
-
-  -- a sound record is never answered 13
-  pub sound-undamaged : sound (x .peer) ≡ true → number ≡ 13 → ⊥
-  sound-undamaged = step-is-fair s k datagram x .whole
+pub sound-undamaged : SoundUndamaged
+sound-undamaged s k datagram x = step-is-fair s k datagram x .whole

@@ -91,12 +91,12 @@ gate s p = gateOf (fits s lent.Nothing) (sound p)
 
 -- ---- numbers one after another
 -- each is the step of the one before, the first that of n
-abbrev Rises : ℕ → List ℕ → Type 0
+abbrev pub Rises : ℕ → List ℕ → Type 0
 Rises n [] = Unit {0}
 Rises n (x ∷ xs) = (x ≡ counters.step n) × Rises x xs
 
 -- the last of them, n where there is none
-abbrev lastFrom : ℕ → List ℕ → ℕ
+abbrev pub lastFrom : ℕ → List ℕ → ℕ
 lastFrom n [] = n
 lastFrom n (x ∷ xs) = lastFrom x xs
 
@@ -104,7 +104,7 @@ rises-on : (n : ℕ) (xs ys : List ℕ) → Rises n xs → Rises (lastFrom n xs)
 rises-on n [] ys r t = t
 rises-on n (x ∷ xs) ys r t = (r .0, rises-on x xs ys (r .1) t)
 
-last-on : (n : ℕ) (xs ys : List ℕ) → lastFrom n (xs ++ ys) ≡ lastFrom (lastFrom n xs) ys
+pub last-on : (n : ℕ) (xs ys : List ℕ) → lastFrom n (xs ++ ys) ≡ lastFrom (lastFrom n xs) ys
 last-on n [] ys = refl
 last-on n (x ∷ xs) ys = last-on x xs ys
 
@@ -120,7 +120,7 @@ part-set {A} {B} f l i y d k e =
     sym (List·getD-map f (set l i y) k d) ∙ ap (λ (m : List B). getD m k (f d)) (map-set-same f l i y d e) ∙ List·getD-map f l k d
 
 -- ---- what is ready, where no slot has fragments
-abbrev numberOn : Channel → Reliable
+abbrev pub numberOn : Channel → Reliable
 numberOn c = c .«incoming_reliable»
 
 abbrev numbersOf : List Incoming → List ℕ → List ℕ
@@ -174,7 +174,7 @@ module _ (channel : ℕ) where
   abbrev lastOn : Peer → ℕ
   lastOn p = numberOn (getD (p .channels) channel noChannel) .0
 
-  record Counted (p : Peer) (log : List ℕ) : Type 0 where
+  pub record Counted (p : Peer) (log : List ℕ) : Type 0 where
     pub rises : Rises 0 log
     pub last : lastOn p ≡ lastFrom 0 log
     pub plain : Plain (p .incoming)
@@ -393,7 +393,7 @@ module _ (channel : ℕ) where
   unfolding noChannel
   anew-last = ap (λ (c : Channel). numberOn c .0) (same-all channels channel noChannel)
 
-  fresh-counted : (mtu : ℕ) (k : Kept) → Counted (freshPeer mtu k) []
+  pub fresh-counted : (mtu : ℕ) (k : Kept) → Counted (freshPeer mtu k) []
   unfolding freshPeer
   fresh-counted mtu k = record { rises = tt; last = anew-last; plain = fresh-plain incoming }
 
@@ -415,7 +415,7 @@ module _ (channel : ℕ) where
       (record { rises = tt; last = anew-last; plain = c .plain }) c)
 
   -- ---- each call, and a run
-  call-counted : (a : Call) (s : Settings) (datagram : List ℕ) (x : State) (log : List ℕ) → Whole (x .peer) → Counted (x .peer) log
+  pub call-counted : (a : Call) (s : Settings) (datagram : List ℕ) (x : State) (log : List ℕ) → Whole (x .peer) → Counted (x .peer) log
       → let o = step s a datagram x in
       Counted (o .after .peer) (pick (isAnew a (o .answer)) [] (pick (isOn channel a) (log ++ numbersJoined x (o .after)) log))
   call-counted call.Reset s datagram x log w c = reset-counted s (x .peer) log c

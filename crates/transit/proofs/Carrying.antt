@@ -104,32 +104,32 @@ empty-low : noOutgoing .length < limit
 unfolding noOutgoing
 empty-low = omega arith
 
-fresh-carries : (mtu : ℕ) (kept : Kept) → Carries (freshPeer mtu kept)
+pub fresh-carries : (mtu : ℕ) (kept : Kept) → Carries (freshPeer mtu kept)
 unfolding freshPeer noLists loads
 fresh-carries mtu kept = record { low = λ k. rw (same-all outgoing k noOutgoing) empty-low; is = refl }
 
-reset-carries : (s : Settings) (p : Peer) → Carries p → Carries (resets s p .after)
+pub reset-carries : (s : Settings) (p : Peer) → Carries p → Carries (resets s p .after)
 reset-carries s p c = go (fitSettings s)
   where
     go : (b : Bool) → Carries (pick b (finished (freshPeer (s .mtu) (kept p))) (unchanged OutOfRange p) .after)
     go true = fresh-carries (s .mtu) (kept p)
     go false = c
 
-begin-carries : (s : Settings) (mtu count : ℕ) (p : Peer) → Carries p → Carries (begins s mtu count p .after)
+pub begin-carries : (s : Settings) (mtu count : ℕ) (p : Peer) → Carries p → Carries (begins s mtu count p .after)
 begin-carries s mtu count p c = carries-gated s p (beginsSound mtu count p) c (λ h. go (beginFits mtu count (p .standing .count)))
   where
     go : (b : Bool) → Carries (pick b (finished (begun mtu count p)) (unchanged OutOfRange p) .after)
     go true = record { low = c .low; is = c .is }
     go false = c
 
-state-carries : (s : Settings) (state : ℕ) (p : Peer) → Carries p → Carries (setsState s state p .after)
+pub state-carries : (s : Settings) (state : ℕ) (p : Peer) → Carries p → Carries (setsState s state p .after)
 state-carries s state p c = carries-gated s p (setsStateSound state p) c (λ h. go (leb state lastState))
   where
     go : (b : Bool) → Carries (pick b (finished (stated state p)) (unchanged OutOfRange p) .after)
     go true = record { low = c .low; is = c .is }
     go false = c
 
-throttle-carries : (s : Settings) (sample : ℕ) (p : Peer) → Carries p → Carries (throttles s sample p .after)
+pub throttle-carries : (s : Settings) (sample : ℕ) (p : Peer) → Carries p → Carries (throttles s sample p .after)
 throttle-carries s sample p c = carries-gated s p (throttlesSound sample p) c (λ h. record { low = c .low; is = c .is })
 
 -- ---- setting up: the slot is one that no list names
@@ -171,12 +171,12 @@ unfolding queuedAll
 all-carries [] h p c = c
 all-carries (x ∷ xs) h p c = all-carries xs (h .1) (queued x p) (queued-carries x (h .0) p c)
 
-setup-carries : (s : Settings) (x : Piece) → x .length < limit → (p : Peer) → Carries p → Carries (setsUp s x p .after)
+pub setup-carries : (s : Settings) (x : Piece) → x .length < limit → (p : Peer) → Carries p → Carries (setsUp s x p .after)
 setup-carries s x h p c =
     carries-gated s p (setsUpSound x p) c
     (λ g. carries-behind (setupGate x (p .standing .count) (room p)) p (finished (queued x p)) c (λ e. queued-carries x h p c))
 
-ping-carries : (s : Settings) (p : Peer) → Carries p → Carries (pings s p .after)
+pub ping-carries : (s : Settings) (p : Peer) → Carries p → Carries (pings s p .after)
 ping-carries s p c =
     carries-gated s p (pingsSound p) c
     (λ g. carries-behind (pingGate (p .standing) (room p)) p (finished (queued pingPiece p)) c (λ e. queued-carries pingPiece (omega arith) p c))
@@ -196,7 +196,7 @@ commands-short n channel long flags p h = go (leb long n) refl
     go true e = (omega (arith, h, leb-true long n e), tt)
     go false e = cut-short _ _ 0 0 h
 
-send-carries : (s : Settings) (channel long flags : ℕ) (p : Peer) → Carries p → Carries (sends s channel long flags p .after)
+pub send-carries : (s : Settings) (channel long flags : ℕ) (p : Peer) → Carries p → Carries (sends s channel long flags p .after)
 send-carries s channel long flags p c =
     carries-gated s p (sendsSound s channel long flags p) c
     (λ g.
@@ -261,7 +261,7 @@ module _ (q : Queue) (s time : ℕ) (rest : List ℕ) (p : Peer) (e : outItems (
   as-carries : Carries (sentAs q s o p)
   as-carries = subst Carries (sym (sent-by q s o p)) (by-carries (isAcknowledged o))
 
-step-carries : (s : Settings) (q : Queue) (time : ℕ) (p : Peer) → Carries p → Carries (steps s q time p .after)
+pub step-carries : (s : Settings) (q : Queue) (time : ℕ) (p : Peer) → Carries p → Carries (steps s q time p .after)
 step-carries s q time p c = carries-gated s p (stepsSound q time p) c (λ h. go (sound-clauses p h) (outItems (listOf q (p .lists))) refl)
   where
     go : Clauses p → (xs : List ℕ) → outItems (listOf q (p .lists)) ≡ xs → Carries (stepsFrom (first xs) q time p .after)
@@ -292,7 +292,7 @@ module _ (sample clock : ℕ) (p : Peer) (c : Carries p) where
   heard-carries (spot.Reliable k) h = record { low = c .low; is = c .is }
   heard-carries spot.Nowhere h = record { low = c .low; is = c .is }
 
-acknowledge-carries : (s : Settings) (channel number sent clock : ℕ) (p : Peer) → Carries p → Carries (acknowledges s channel number sent clock p .after)
+pub acknowledge-carries : (s : Settings) (channel number sent clock : ℕ) (p : Peer) → Carries p → Carries (acknowledges s channel number sent clock p .after)
 acknowledge-carries s channel number sent clock p c =
     carries-gated s p (acknowledgesSound channel number sent clock p) c (λ h. go (heardIn (p .standing .state) clock sent))
   where
@@ -359,7 +359,7 @@ walk-carries base low l clock (s ∷ ss) w now r same e =
     walk-carries base low l clock ss (t .walk) next k
     (λ j. keeps-on (getD base j noOutgoing) (getD now j noOutgoing) (getD next j noOutgoing) (same j) (set-keeps now s (t .slot .timeout) j)) h)
 
-check-carries : (s : Settings) (clock : ℕ) (p : Peer) → Carries p → Carries (checks s clock p .after)
+pub check-carries : (s : Settings) (clock : ℕ) (p : Peer) → Carries p → Carries (checks s clock p .after)
 check-carries s clock p c = carries-gated s p (checksSound clock p) c (λ h. go (sound-clauses p h))
   where
     go : Clauses p → Carries (checksSound clock p .after)
