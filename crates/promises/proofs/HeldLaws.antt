@@ -9,8 +9,8 @@ use native.Mathlib.Omega.{arith}
 use lib.Dec.{eqb, ltb}
 use lib.ListN.{length, take, drop, getD, set}
 use lib.Seq.{getD-set-same, getD-set-other}
-use borrow.Author.Tests.{eqb-true, eqb-false, eq-eqb, ne-eqb, ltb-true, ltb-false}
-use Rattle.numbers.specs.Pick.{pick, both}
+use borrow.Author.Tests.{eqb-true, eq-eqb, ne-eqb, ltb-true, ltb-false}
+use Rattle.numbers.specs.Pick.{pick}
 use Rattle.numbers.specs.Counters.{step}
 use Rattle.numbers.proofs.BoolLaws.{both-right, both-true}
 use Rattle.slots.proofs.Keeps.{one, times}
@@ -54,6 +54,16 @@ pub climbs-rising : (slots : List Incoming) (last k : ℕ) (ss : List ℕ) → C
     → Rising k (map (λ (s : ℕ). ahead last (numberAt slots s)) ss)
 climbs-rising slots last k [] c = tt
 climbs-rising slots last k (s ∷ ss) c = (c .0 .past, climbs-rising slots last (ahead last (numberAt slots s)) ss (c .1))
+
+-- what is past k is past less
+pub stands-from : (slots : List Incoming) (last j k : ℕ) (ss : List ℕ) → j ≤ k → Stands slots last k ss → Stands slots last j ss
+stands-from slots last j k ss h c = record { low = c .low; climbs = go ss (c .climbs) }
+  where
+    go : (ss : List ℕ) → Climbs slots last k ss → Climbs slots last j ss
+    go [] c = tt
+    go (s ∷ ss) c =
+        let far = c .0 .past in
+        (record { low = c .0 .low; complete = c .0 .complete; past = omega (arith, far, h) }, c .1)
 
 module _ (slots : List Incoming) where
   abbrev at : ℕ → Incoming

@@ -16,3 +16,4 @@ pub mod Passing
 pub mod Comings
 pub mod Examples
 pub mod HeldLaws
+pub mod Held

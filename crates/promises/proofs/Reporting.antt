@@ -425,7 +425,7 @@ module _ (channel : ℕ) where
   outward-still s (out.Throttle sample) p = throttle-still s sample p
 
   -- ---- reset and begin: done, both start anew; refused, nothing changes
-  pub anew-last : numberOn (getD (replicate channels noChannel) channel noChannel) .0 ≡ 0
+  anew-last : numberOn (getD (replicate channels noChannel) channel noChannel) .0 ≡ 0
   unfolding noChannel
   anew-last = ap (λ (c : Channel). numberOn c .0) (same-all channels channel noChannel)
 
