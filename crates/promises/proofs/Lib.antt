@@ -20,3 +20,5 @@ pub mod Eight
 pub mod ReportTraces
 pub mod Transits
 pub mod Shown
+pub mod HeldLaws
+pub mod Held

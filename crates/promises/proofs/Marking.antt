@@ -202,7 +202,7 @@ module _ (s : Settings) (a : Arrival) (g : Group) (datagram : List ℕ) (x : Sta
       (λ f h m. eight-taken (p .groups .incoming) (p .groups .words) (eqb-true (first (g .0)) (baseOf x) h) m (roomOf s p)))
 
 pub stored-after-eight : StoredAfterEight
-stored-after-eight s t a g datagram x calls small eight aside good f =
+stored-after-eight s t a g datagram x calls eight aside good f =
     let o = comesTo (unsequencedly s a g datagram) x in
     let y = run calls (o .after) .end in
     let left = subst (λ (w : Window). Unmarked w (g .0)) (sym (run-aside calls (o .after) aside)) (eight-leaves s a g datagram x eight) in
@@ -336,5 +336,5 @@ run-marks (a ∷ rest) x log m =
     (step-marks (a .settings) (a .call) (a .datagram) x log m)
 
 pub marked-exactly : MarkedExactly
-marked-exactly mtu kept store calls g i small home =
+marked-exactly mtu kept store calls g home =
     run-marks calls (resetState mtu kept store) [] (fresh-marks mtu kept) .exact g home

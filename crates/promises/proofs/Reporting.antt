@@ -13,6 +13,8 @@ use borrow.Author.Tests.{eqb-true, eqb-false, ne-eqb}
 use Rattle.numbers.specs.Pick.{pick}
 use Rattle.numbers.specs.Answers.{numberOf}
 use Rattle.numbers.specs.Counters as counters
+use Rattle.numbers.specs.declared.clock.Trip.{Trip}
+use Rattle.numbers.specs.declared.clock.Trip.the-variants.{PassedOver, Taken}
 use Rattle.numbers.specs.declared.counters.Group.{Group}
 use Rattle.numbers.specs.declared.counters.Reliable.{Reliable}
 use Rattle.numbers.specs.declared.refusals.Refusal.{Refusal}
@@ -55,15 +57,15 @@ use Rattle.ping.specs.Calls.{pingPiece, pingGate, pingsSound, pings}
 use Rattle.sendstep.specs.Steps.{listOf, sentAs}
 use Rattle.sendstep.specs.Calls.{stepsFrom, stepsSound, steps}
 use Rattle.sendstep.specs.declared.heads.Queue.{Queue}
-use Rattle.answered.specs.Untouched.{Untouched}
-use Rattle.answered.proofs.Untouched.{acknowledge-untouched, check-untouched, throttle-untouched}
+use Rattle.throttling.specs.Calls.{throttlesSound, throttles}
+use Rattle.acknowledge.specs.Calls.{heardIn, acknowledgesBy, acknowledgesSound, acknowledges}
+use Rattle.timeouts.specs.Calls.{checksSound, checks}
 use Rattle.dispatching.specs.Dispatching.{follows, numberAfter, readyCount, readyLast}
 use Rattle.dispatch.specs.Calls.{dispatchGate, dispatchedOn, dispatchesSound, dispatches}
 use Rattle.dispatch.proofs.Calling.{chosen, ready, gone, dispatched-has}
 use Rattle.dispatch.proofs.Sound.{below-count}
 use Rattle.dispatch.proofs.Moving.{dispatch-keeps, dispatch-order}
-use Rattle.receive.specs.Calls.{receives}
-use Rattle.receive.proofs.Taking.{receive-keeps}
+use Rattle.receive.specs.Calls.{taken, receivesFrom, receivesSound, receives}
 use Rattle.arriving.specs.Arrivals.{arrivedSlot}
 use Rattle.arriving.specs.declared.Arrival.{Arrival}
 use Rattle.arriving.specs.declared.Fate.the-variants as fate
@@ -108,14 +110,14 @@ pub last-on : (n : ℕ) (xs ys : List ℕ) → lastFrom n (xs ++ ys) ≡ lastFro
 last-on n [] ys = refl
 last-on n (x ∷ xs) ys = last-on x xs ys
 
-rises-series : (n : ℕ) (xs : List ℕ) → Rises n xs → xs ≡ series n (length xs)
+pub rises-series : (n : ℕ) (xs : List ℕ) → Rises n xs → xs ≡ series n (length xs)
 unfolding series
 rises-series n [] r = refl
 rises-series n (x ∷ xs) r =
     ap (λ (ys : List ℕ). x ∷ ys) (rises-series x xs (r .1)) ∙ ap (λ (m : ℕ). m ∷ series m (length xs)) (r .0)
 
 -- ---- lists: a part of each element, where one is replaced by another with the same part; a list of one element alone
-part-set : {A B : Type 0} (f : A → B) (l : List A) (i : ℕ) (y d : A) (k : ℕ) → f y ≡ f (getD l i d) → f (getD (set l i y) k d) ≡ f (getD l k d)
+pub part-set : {A B : Type 0} (f : A → B) (l : List A) (i : ℕ) (y d : A) (k : ℕ) → f y ≡ f (getD l i d) → f (getD (set l i y) k d) ≡ f (getD l k d)
 part-set {A} {B} f l i y d k e =
     sym (List·getD-map f (set l i y) k d) ∙ ap (λ (m : List B). getD m k (f d)) (map-set-same f l i y d e) ∙ List·getD-map f l k d
 
@@ -123,20 +125,20 @@ part-set {A} {B} f l i y d k e =
 abbrev pub numberOn : Channel → Reliable
 numberOn c = c .«incoming_reliable»
 
-abbrev numbersOf : List Incoming → List ℕ → List ℕ
+abbrev pub numbersOf : List Incoming → List ℕ → List ℕ
 numbersOf slots ss = map (λ (s : ℕ). getD slots s noIncoming .number .0) ss
 
-abbrev Plain : List Incoming → Type 0
+abbrev pub Plain : List Incoming → Type 0
 Plain slots = (k : ℕ) → getD slots k noIncoming .fragments ≡ 0
 
-fresh-plain : (n : ℕ) → Plain (replicate n noIncoming)
+pub fresh-plain : (n : ℕ) → Plain (replicate n noIncoming)
 unfolding noIncoming
 fresh-plain n k = ap (λ (i : Incoming). i .fragments) (same-all n k noIncoming)
 
-plain-set : (slots : List Incoming) (n : ℕ) (i : Incoming) → i .fragments ≡ 0 → Plain slots → Plain (set slots n i)
+pub plain-set : (slots : List Incoming) (n : ℕ) (i : Incoming) → i .fragments ≡ 0 → Plain slots → Plain (set slots n i)
 plain-set slots n i z p k = part-set (λ (j : Incoming). j .fragments) slots n i noIncoming k (z ∙ sym (p n)) ∙ p k
 
-after-plain : (i : Incoming) → i .fragments ≡ 0 → numberAfter i ≡ i .number .0
+pub after-plain : (i : Incoming) → i .fragments ≡ 0 → numberAfter i ≡ i .number .0
 after-plain i z = rw z
 
 module _ (slots : List Incoming) (p : Plain slots) where
@@ -144,7 +146,7 @@ module _ (slots : List Incoming) (p : Plain slots) where
   at s = getD slots s noIncoming
 
   -- the first of a list goes, and then what is so of the rest; or it stays, and none goes
-  ready-rises : (ss : List ℕ) (n : ℕ) → Rises n (numbersOf slots (take (readyCount slots ss n) ss))
+  pub ready-rises : (ss : List ℕ) (n : ℕ) → Rises n (numbersOf slots (take (readyCount slots ss n) ss))
   unfolding readyCount
   ready-rises [] n = tt
   ready-rises (s ∷ ss) n = go (follows n (at s)) refl (ready-rises ss (at s .number .0))
@@ -157,7 +159,7 @@ module _ (slots : List Incoming) (p : Plain slots) where
       )
       go false e r = tt
 
-  ready-last : (ss : List ℕ) (n : ℕ) → readyLast slots ss n ≡ lastFrom n (numbersOf slots (take (readyCount slots ss n) ss))
+  pub ready-last : (ss : List ℕ) (n : ℕ) → readyLast slots ss n ≡ lastFrom n (numbersOf slots (take (readyCount slots ss n) ss))
   unfolding readyCount readyLast
   ready-last [] n = refl
   ready-last (s ∷ ss) n = go (follows n (at s)) (ready-last ss (at s .number .0))
@@ -171,7 +173,7 @@ module _ (slots : List Incoming) (p : Plain slots) where
 
 -- ---- what stands along a run, on one channel
 module _ (channel : ℕ) where
-  abbrev lastOn : Peer → ℕ
+  abbrev pub lastOn : Peer → ℕ
   lastOn p = numberOn (getD (p .channels) channel noChannel) .0
 
   pub record Counted (p : Peer) (log : List ℕ) : Type 0 where
@@ -180,54 +182,70 @@ module _ (channel : ℕ) where
     pub plain : Plain (p .incoming)
 
   -- what a call leaves as it was, if it reports nothing on the channel
-  record Still (p q : Peer) : Type 0 where
+  pub record Still (p q : Peer) : Type 0 where
     pub last : numberOn (getD (q .channels) channel noChannel) ≡ numberOn (getD (p .channels) channel noChannel)
+    pub held : getD (q .channels) channel noChannel .held ≡ getD (p .channels) channel noChannel .held
+    pub count : q .standing .count ≡ p .standing .count
     pub slots : q .incoming ≡ p .incoming
 
-  still : (p : Peer) → Still p p
-  still p = record { last = refl; slots = refl }
-
-  still-counted : (p q : Peer) (log : List ℕ) → Still p q → Counted p log → Counted q log
-  still-counted p q log s c =
+  -- all the channels and the slots as they were
+  left-still : (p q : Peer) → q .channels ≡ p .channels → q .standing .count ≡ p .standing .count → q .incoming ≡ p .incoming → Still p q
+  left-still p q e n i =
       record {
-        rises = c .rises;
-        last = ap (λ (n : Reliable). n .0) (s .last) ∙ c .last;
-        plain = λ k. ap (λ (slots : List Incoming). getD slots k noIncoming .fragments) (s .slots) ∙ c .plain k;
+        last = ap (λ (cs : List Channel). numberOn (getD cs channel noChannel)) e;
+        held = ap (λ (cs : List Channel). getD cs channel noChannel .held) e;
+        count = n;
+        slots = i;
       }
 
+  still : (p : Peer) → Still p p
+  still p = left-still p p refl refl refl
+
+  same-counted : (p q : Peer) (log : List ℕ) → numberOn (getD (q .channels) channel noChannel) ≡ numberOn (getD (p .channels) channel noChannel)
+      → q .incoming ≡ p .incoming → Counted p log → Counted q log
+  same-counted p q log e i c =
+      record {
+        rises = c .rises;
+        last = ap (λ (n : Reliable). n .0) e ∙ c .last;
+        plain = λ k. ap (λ (slots : List Incoming). getD slots k noIncoming .fragments) i ∙ c .plain k;
+      }
+
+  still-counted : (p q : Peer) (log : List ℕ) → Still p q → Counted p log → Counted q log
+  still-counted p q log s c = same-counted p q log (s .last) (s .slots) c
+
   -- the numbers that joined
-  abbrev joined : Peer → Peer → List ℕ
+  abbrev pub joined : Peer → Peer → List ℕ
   joined p q = numbersOf (q .incoming) (drop (length (inItems (p .lists .dispatched))) (inItems (q .lists .dispatched)))
 
   none-joined : (p : Peer) (log : List ℕ) → Counted p log → Counted p (log ++ joined p p)
   none-joined p log c = rw (drop-length (inItems (p .lists .dispatched)), append-nil log) c
 
   -- ---- a dispatch on the channel
-  module _ (p : Peer) (log : List ℕ) (whole : Whole p) (good : sound p ≡ true) (on : channel < p .standing .count) (c : Counted p log) where
-    abbrev more : List ℕ
+  module _ (p : Peer) (whole : Whole p) (good : sound p ≡ true) (on : channel < p .standing .count) (plain : Plain (p .incoming)) where
+    abbrev pub more : List ℕ
     more = numbersOf (p .incoming) (take (ready channel p) (inItems (chosen channel p .held)))
 
-    now-last : lastOn (dispatchedOn channel p) ≡ lastFrom (lastOn p) more
+    pub now-last : lastOn (dispatchedOn channel p) ≡ lastFrom (lastOn p) more
     now-last =
         dispatched-has channel p (λ (q : Peer). lastOn q ≡ lastFrom (lastOn p) more) (λ z. rw z)
         (ap (λ (d : Channel). numberOn d .0)
         (getD-set-same (p .channels) channel (gone channel p .channel) noChannel (omega (arith, on, count-high p good, whole .channels)))
-        ∙ ready-last (p .incoming) (c .plain) (inItems (chosen channel p .held)) (lastOn p))
+        ∙ ready-last (p .incoming) plain (inItems (chosen channel p .held)) (lastOn p))
 
-    is-more : joined p (dispatchedOn channel p) ≡ more
+    pub is-more : joined p (dispatchedOn channel p) ≡ more
     is-more =
         ap (λ (ss : List ℕ). numbersOf (p .incoming) (drop (length (inItems (p .lists .dispatched))) ss))
         (dispatch-order channel p whole good on .joined)
         ∙ ap (numbersOf (p .incoming)) (drop-append-seam (inItems (p .lists .dispatched)) _)
 
-    dispatched-counted : Counted (dispatchedOn channel p) (log ++ joined p (dispatchedOn channel p))
-    dispatched-counted =
-        let rises = ready-rises (p .incoming) (c .plain) (inItems (chosen channel p .held)) (lastOn p) in
+    dispatched-counted : (log : List ℕ) → Counted p log → Counted (dispatchedOn channel p) (log ++ joined p (dispatchedOn channel p))
+    dispatched-counted log c =
+        let rises = ready-rises (p .incoming) plain (inItems (chosen channel p .held)) (lastOn p) in
         rw is-more
         (record {
           rises = rises-on 0 log more (c .rises) (subst (λ (n : ℕ). Rises n more) (c .last) rises);
           last = now-last ∙ ap (λ (n : ℕ). lastFrom n more) (c .last) ∙ sym (last-on 0 log more);
-          plain = c .plain;
+          plain = plain;
         })
 
   own-dispatch : (s : Settings) (p : Peer) (log : List ℕ) → Whole p → Counted p log
@@ -235,7 +253,7 @@ module _ (channel : ℕ) where
   own-dispatch s p log w c =
       behind-has (gate s p) p (dispatchesSound channel p) Done shut
       (λ e. behind-has (dispatchGate channel (p .standing)) p (finished (dispatchedOn channel p)) Done shut
-      (λ own. dispatched-counted p log w (sound-open (fits s lent.Nothing) (sound p) e) (below-count channel (p .standing) own) c))
+      (λ own. dispatched-counted p w (sound-open (fits s lent.Nothing) (sound p) e) (below-count channel (p .standing) own) (c .plain) log c))
     where
       Done : Outcome Peer → Type 0
       Done o = Counted (o .after) (log ++ joined p (o .after))
@@ -253,8 +271,7 @@ module _ (channel : ℕ) where
           (own-dispatch s p log w c)
       go false e =
           let k = dispatch-keeps on p s in
-          still-counted p (dispatches s on p .after) log
-          (record { last = ap numberOn (k .others channel (λ i. eqb-false on channel e (sym i))); slots = k .incoming }) c
+          same-counted p (dispatches s on p .after) log (ap numberOn (k .others channel (λ i. eqb-false on channel e (sym i)))) (k .incoming) c
 
   -- ---- arrivals: a slot is written, with no fragments; a reliable one that is stored is a dispatch on the record that holds it
   module _ (s : Settings) (a : Arrival) (datagram : List ℕ) (x : State) (log : List ℕ) (w : Whole (x .peer)) (c : Counted (x .peer) log) where
@@ -300,8 +317,8 @@ module _ (channel : ℕ) where
             let is : a .channel ≡ channel = eqb-true (a .channel) channel e in
             subst (λ (y : Peer). Counted y (log ++ joined (x .peer) y))
             (ap (λ (i : ℕ). dispatchedOn i q) (sym is) ∙ sym (left-dispatched a datagram x n w good may free))
-            (dispatched-counted q log (between-whole a datagram x n w good may free) (between-sound a datagram x n w good may free)
-            (subst (λ (i : ℕ). i < x .peer .standing .count) is (may .on)) held-counted)
+            (dispatched-counted q (between-whole a datagram x n w good may free) (between-sound a datagram x n w good may free)
+            (subst (λ (i : ℕ). i < x .peer .standing .count) is (may .on)) (held-counted .plain) log held-counted)
         go false e =
             record {
               rises = c .rises;
@@ -321,11 +338,11 @@ module _ (channel : ℕ) where
   behind-still : (p : Peer) (g : Gate) (rest : Outcome Peer) → Still p (rest .after) → Still p (behind g p rest .after)
   behind-still p g rest s = behind-has g p rest (λ (o : Outcome Peer). Still p (o .after)) (λ why. still p) (λ e. s)
 
-  state-still : (s : Settings) (state : ℕ) (p : Peer) → Still p (setsState s state p .after)
+  pub state-still : (s : Settings) (state : ℕ) (p : Peer) → Still p (setsState s state p .after)
   state-still s state p = behind-still p (gate s p) (setsStateSound state p) (go (leb state lastState))
     where
       go : (b : Bool) → Still p (pick b (finished (stated state p)) (unchanged OutOfRange p) .after)
-      go true = record { last = refl; slots = refl }
+      go true = left-still p (stated state p) refl refl refl
       go false = still p
 
   -- setting up counts a channel's outgoing numbers alone
@@ -334,7 +351,13 @@ module _ (channel : ℕ) where
   queued-still x p = go (lowest outgoing (usedOut (p .lists)))
     where
       go : (f : Free) → Still p (queuedIn f x p)
-      go (Lowest n) = record { last = part-set numberOn (p .channels) (x .command .channel) _ noChannel channel refl; slots = refl }
+      go (Lowest n) =
+          record {
+            last = part-set numberOn (p .channels) (x .command .channel) _ noChannel channel refl;
+            held = part-set (λ (c : Channel). c .held) (p .channels) (x .command .channel) _ noChannel channel refl;
+            count = refl;
+            slots = refl;
+          }
       go Full = still p
 
   all-still : (xs : List Piece) (p : Peer) → Still p (queuedAll xs p)
@@ -343,7 +366,7 @@ module _ (channel : ℕ) where
   all-still (x ∷ xs) p =
       let s = queued-still x p in
       let t = all-still xs (queued x p) in
-      record { last = t .last ∙ s .last; slots = t .slots ∙ s .slots }
+      record { last = t .last ∙ s .last; held = t .held ∙ s .held; count = t .count ∙ s .count; slots = t .slots ∙ s .slots }
 
   setup-still : (s : Settings) (x : Piece) (p : Peer) → Still p (setsUp s x p .after)
   setup-still s x p =
@@ -368,25 +391,38 @@ module _ (channel : ℕ) where
     where
       go : (f : First) → Still p (stepsFrom f q time p .after)
       go Empty = still p
-      go (Slot n) = record { last = refl; slots = refl }
+      go (Slot n) = left-still p (stepsFrom (Slot n) q time p .after) refl refl refl
 
-  left-still : (p q : Peer) → q .channels ≡ p .channels → q .incoming ≡ p .incoming → Still p q
-  left-still p q e i = record { last = ap (λ (cs : List Channel). numberOn (getD cs channel noChannel)) e; slots = i }
+  by-still : (t : Trip) (on number clock : ℕ) (p : Peer) → Still p (acknowledgesBy t on number clock p .after)
+  by-still PassedOver on number clock p = still p
+  by-still (Taken sample) on number clock p = left-still p (acknowledgesBy (Taken sample) on number clock p .after) refl refl refl
 
-  untouched-still : (p q : Peer) → Untouched p q → Still p q
-  untouched-still p q u = left-still p q (u .channels) (u .incoming)
+  acknowledge-still : (s : Settings) (on number sent clock : ℕ) (p : Peer) → Still p (acknowledges s on number sent clock p .after)
+  acknowledge-still s on number sent clock p =
+      behind-still p (gate s p) (acknowledgesSound on number sent clock p) (by-still (heardIn (p .standing .state) clock sent) on number clock p)
 
-  receive-still : (s : Settings) (p : Peer) → Still p (receives s p .after)
-  receive-still s p = let k = receive-keeps s p in left-still p (receives s p .after) (k .channels) (k .incoming)
+  check-still : (s : Settings) (clock : ℕ) (p : Peer) → Still p (checks s clock p .after)
+  check-still s clock p = behind-still p (gate s p) (checksSound clock p) (left-still p (checksSound clock p .after) refl refl refl)
 
-  outward-still : (s : Settings) (a : Outward) (p : Peer) → Still p (goes s a p .after)
+  throttle-still : (s : Settings) (sample : ℕ) (p : Peer) → Still p (throttles s sample p .after)
+  throttle-still s sample p =
+      behind-still p (gate s p) (throttlesSound sample p) (left-still p (throttlesSound sample p .after) refl refl refl)
+
+  pub receive-still : (s : Settings) (p : Peer) → Still p (receives s p .after)
+  receive-still s p = behind-still p (gate s p) (receivesSound p) (go (first (inItems (p .lists .dispatched))))
+    where
+      go : (f : First) → Still p (receivesFrom f p .after)
+      go Empty = still p
+      go (Slot n) = left-still p (taken n p) refl refl refl
+
+  pub outward-still : (s : Settings) (a : Outward) (p : Peer) → Still p (goes s a p .after)
   outward-still s out.Ping p = ping-still s p
   outward-still s (out.Send on long flags) p = send-still s on long flags p
   outward-still s (out.Setup x) p = setup-still s x p
   outward-still s (out.SendStep q time) p = step-still s q time p
-  outward-still s (out.Acknowledgement on number sent clock) p = untouched-still p _ (acknowledge-untouched s on (number .0) sent clock p)
-  outward-still s (out.TimeoutCheck clock) p = untouched-still p _ (check-untouched s clock p)
-  outward-still s (out.Throttle sample) p = untouched-still p _ (throttle-untouched s sample p)
+  outward-still s (out.Acknowledgement on number sent clock) p = acknowledge-still s on (number .0) sent clock p
+  outward-still s (out.TimeoutCheck clock) p = check-still s clock p
+  outward-still s (out.Throttle sample) p = throttle-still s sample p
 
   -- ---- reset and begin: done, both start anew; refused, nothing changes
   anew-last : numberOn (getD (replicate channels noChannel) channel noChannel) .0 ≡ 0

@@ -1,6 +1,6 @@
 -- A group is marked exactly if it was delivered, or passed over in state 6, since the base came to its window. So after an 8 the same arrival is stored
 -- once there is room.
-use Prim.Native.Nat.{ℕ, _<_}
+use Prim.Native.Nat.{ℕ}
 use mathlib.Core.Path.{_≡_}
 use mathlib.Core.Bool.{Bool, true}
 use mathlib.Core.List.{List, [], _∷_}
@@ -19,7 +19,7 @@ use Rattle.arriving.specs.Arrivals.{stored}
 use Rattle.arriving.specs.declared.Arrival.{Arrival}
 use Rattle.unsequenced.specs.Calls.{sendUnsequenced}
 use Rattle.link.specs.Runs.{Asked, comesTo, saysOne, run, resetState}
-use Rattle.promises.specs.History.{Concern, resetting, arriving, neither, concern, AllInRange, baseOf}
+use Rattle.promises.specs.History.{Concern, resetting, arriving, neither, concern, baseOf}
 use Rattle.promises.specs.Next.{Fits, unsequencedly}
 
 -- an arrival of group g that answers so took it: delivered; or, in state 6, passed over in the window that is then the base's
@@ -41,8 +41,7 @@ took (a ∷ rest) x log = let o = comesTo a x in took rest (o .after) (tookBy (c
 
 abbrev pub MarkedExactly : Type 0
 MarkedExactly =
-    (mtu : ℕ) (kept : Kept) (store : List ℕ) (calls : List Asked) (g : ℕ) → AllInRange calls → g < 65536
-    → let x = resetState mtu kept store in
+    (mtu : ℕ) (kept : Kept) (store : List ℕ) (calls : List Asked) (g : ℕ) → let x = resetState mtu kept store in
     let y = run calls x .end in
     first g ≡ baseOf y → marked (y .peer .groups .words) g ≡ has (took calls x []) g
 
@@ -54,7 +53,7 @@ Aside (a ∷ rest) = (concern (a .call) ≡ neither) × Aside rest
 -- an arrival was refused with 8; then, after such calls, the same arrival finds room
 abbrev pub StoredAfterEight : Type 0
 StoredAfterEight =
-    (s t : Settings) (a : Arrival) (g : Group) (datagram : List ℕ) (x : State) (calls : List Asked) → g .0 < 65536
+    (s t : Settings) (a : Arrival) (g : Group) (datagram : List ℕ) (x : State) (calls : List Asked)
     → let o = comesTo (unsequencedly s a g datagram) x in
     o .answer .number ≡ 8
     → Aside calls
