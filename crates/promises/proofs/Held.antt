@@ -153,7 +153,7 @@ module _ (channel : ℕ) where
       go good h true e =
           let is : channel ≡ i = eqb-true channel i e in
           let here : channel < p .standing .count = omega (arith, is, h) in
-          subst (λ (j : ℕ). Orderly (dispatchedOn j p)) is 
+          subst (λ (j : ℕ). Orderly (dispatchedOn j p)) is
           (own-dispatched p w good (k .plain) here
           (stands-from (p .incoming) (lastOn channel p) 0 1 (inItems (on p .held)) (omega arith) (k .stands here)))
       go good h false e = other-dispatched i p (eqb-false channel i e) k

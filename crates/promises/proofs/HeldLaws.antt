@@ -162,7 +162,7 @@ module _ (slots : List Incoming) (n : ℕ) (i : Incoming) where
       let is = other s ss e in (
         subst (Past last k) (sym is) (c .0),
         subst (λ (j : Incoming). Climbs with last (ahead last (j .number .0)) ss) (sym is)
-        (written-climbs last (ahead last (numberAt slots s)) ss (omega (arith, e)) (c .1)),
+            (written-climbs last (ahead last (numberAt slots s)) ss (omega (arith, e)) (c .1)),
       )
 
   module _ (last : ℕ) (h : last < 65536) (here : n < length slots) (low : i .number .0 < 65536) (complete : i .remaining ≡ 0) where
@@ -194,8 +194,8 @@ module _ (slots : List Incoming) (n : ℕ) (i : Incoming) where
         go true t rest = (
           subst (Past last k) (sym own) (record { low = low; complete = complete; past = z }),
           subst (λ (j : Incoming). Climbs with last (ahead last (j .number .0)) (s ∷ ss)) (sym own)
-          (written-climbs last d (s ∷ ss) e
-          (record { low = c .0 .low; complete = c .0 .complete; past = ltb-true d (ahead last m) t }, c .1)),
+              (written-climbs last d (s ∷ ss) e
+              (record { low = c .0 .low; complete = c .0 .complete; past = ltb-true d (ahead last m) t }, c .1)),
         )
         go false t rest =
             let is = other s ss e in
@@ -203,5 +203,5 @@ module _ (slots : List Incoming) (n : ℕ) (i : Incoming) where
             let apart : ahead last m ≡ d → ⊥ = λ q. differs (same-ahead last m (i .number .0) h (c .0 .low) low q) in (
               subst (Past last k) (sym is) (c .0),
               subst (λ (j : Incoming). Placed (ahead last (j .number .0)) ss) (sym is)
-              (rest (rest-not m (i .number .0) (holds slots ss (i .number .0)) f) (omega (arith, apart, ltb-false d (ahead last m) t))),
+                  (rest (rest-not m (i .number .0) (holds slots ss (i .number .0)) f) (omega (arith, apart, ltb-false d (ahead last m) t))),
             )

@@ -10,4 +10,5 @@ pub mod Next
 pub mod Marks
 pub mod ReportRepeats
 pub mod Outbook
+pub mod Alike
 pub mod Promised

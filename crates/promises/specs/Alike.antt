@@ -1,0 +1,23 @@
+-- What does not count in comparing records makes no difference: of two records that are the same, every call gives the same answer and leaves the same
+-- store, and records that are the same again.
+use mathlib.Core.Path.{_≡_}
+use mathlib.Core.List.{List}
+use Prim.Native.Nat.{ℕ}
+use Rattle.same.specs.Same.{Same}
+use Rattle.peer.specs.Sounds.{Whole}
+use Rattle.peer.specs.Outcome.{State, Outcome}
+use Rattle.peer.specs.declared.settings.Settings.{Settings}
+use Rattle.peer.specs.declared.record.Peer.{Peer}
+use Rattle.link.specs.Steps.{step}
+use Rattle.link.specs.declared.calls.Call.{Call}
+
+pub record Alike (o r : Outcome State) : Type 0 where
+  pub answer : o .answer ≡ r .answer
+  pub store : o .after .store ≡ r .after .store
+  pub same : Same (o .after .peer) (r .after .peer)
+
+-- the arrays of the program have their lengths (Whole); here a list may have any
+abbrev pub RespectsSame : Type 0
+RespectsSame =
+    (s : Settings) (k : Call) (datagram store : List ℕ) (p q : Peer) → Whole p → Whole q → Same p q
+    → Alike (step s k datagram (record { peer = p; store = store })) (step s k datagram (record { peer = q; store = store }))
