@@ -9,7 +9,7 @@ use native.Mathlib.Omega.{arith}
 use lib.Dec.{eqb, ltb}
 use lib.ListN.{length, take, drop, getD, set}
 use lib.Seq.{getD-set-same, getD-set-other}
-use borrow.Author.Tests.{eqb-true, eq-eqb, ne-eqb, ltb-true, ltb-false}
+use borrow.Author.Tests.{eqb-true, eq-eqb, ne-eqb, ltb-true, ltb-false, lt-ltb}
 use Rattle.numbers.specs.Pick.{pick}
 use Rattle.numbers.specs.Counters.{step}
 use Rattle.numbers.proofs.BoolLaws.{both-right, both-true}
@@ -22,7 +22,7 @@ use Rattle.promises.specs.Held.{Rising}
 use Rattle.promises.proofs.Reporting.{Plain, after-plain}
 
 -- ---- numbers below 65,536
-next-near : (last : ℕ) → last < 65536 → ahead last (step last) ≡ 1
+pub next-near : (last : ℕ) → last < 65536 → ahead last (step last) ≡ 1
 next-near last h = omega (arith, h)
 
 near-next : (last n : ℕ) → last < 65536 → n < 65536 → ahead last n ≡ 1 → n ≡ step last
@@ -148,6 +148,12 @@ first-not m n rest e z =
 rest-not : (m n : ℕ) (rest : Bool) → pick (eqb m n) true rest ≡ false → rest ≡ false
 rest-not m n rest e = rw (ne-eqb m n (first-not m n rest e)) at e
 
+-- what is no farther than all that is held stands before it
+pub nearest : (slots : List Incoming) (last k : ℕ) (ss : List ℕ) → Climbs slots last k ss → nearer slots ss last k ≡ 0
+unfolding nearer
+nearest slots last k [] c = refl
+nearest slots last k (s ∷ ss) c = rw (lt-ltb k (ahead last (numberAt slots s)) (c .0 .past))
+
 -- ---- a slot written that the list does not name, and then named in its place
 module _ (slots : List Incoming) (n : ℕ) (i : Incoming) where
   abbrev with : List Incoming
@@ -162,7 +168,7 @@ module _ (slots : List Incoming) (n : ℕ) (i : Incoming) where
       let is = other s ss e in (
         subst (Past last k) (sym is) (c .0),
         subst (λ (j : Incoming). Climbs with last (ahead last (j .number .0)) ss) (sym is)
-        (written-climbs last (ahead last (numberAt slots s)) ss (omega (arith, e)) (c .1)),
+            (written-climbs last (ahead last (numberAt slots s)) ss (omega (arith, e)) (c .1)),
       )
 
   module _ (last : ℕ) (h : last < 65536) (here : n < length slots) (low : i .number .0 < 65536) (complete : i .remaining ≡ 0) where
@@ -194,8 +200,8 @@ module _ (slots : List Incoming) (n : ℕ) (i : Incoming) where
         go true t rest = (
           subst (Past last k) (sym own) (record { low = low; complete = complete; past = z }),
           subst (λ (j : Incoming). Climbs with last (ahead last (j .number .0)) (s ∷ ss)) (sym own)
-          (written-climbs last d (s ∷ ss) e
-          (record { low = c .0 .low; complete = c .0 .complete; past = ltb-true d (ahead last m) t }, c .1)),
+              (written-climbs last d (s ∷ ss) e
+              (record { low = c .0 .low; complete = c .0 .complete; past = ltb-true d (ahead last m) t }, c .1)),
         )
         go false t rest =
             let is = other s ss e in
@@ -203,5 +209,5 @@ module _ (slots : List Incoming) (n : ℕ) (i : Incoming) where
             let apart : ahead last m ≡ d → ⊥ = λ q. differs (same-ahead last m (i .number .0) h (c .0 .low) low q) in (
               subst (Past last k) (sym is) (c .0),
               subst (λ (j : Incoming). Placed (ahead last (j .number .0)) ss) (sym is)
-              (rest (rest-not m (i .number .0) (holds slots ss (i .number .0)) f) (omega (arith, apart, ltb-false d (ahead last m) t))),
+                  (rest (rest-not m (i .number .0) (holds slots ss (i .number .0)) f) (omega (arith, apart, ltb-false d (ahead last m) t))),
             )

@@ -17,3 +17,4 @@ pub mod Comings
 pub mod Examples
 pub mod HeldLaws
 pub mod Held
+pub mod NextReliable
