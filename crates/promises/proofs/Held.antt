@@ -177,7 +177,7 @@ module _ (channel : ℕ) where
         let within-now = subst (λ (c : Channel). times (inItems (c .held)) n ≤ times (held cs) n) is within in
         omega (arith, all, times-append (inItems (p .lists .dispatched)) (held cs) n, within-now)
 
-    in-pool : n < length (p .incoming)
+    pub in-pool : n < length (p .incoming)
     in-pool =
         omega (
           arith,
@@ -218,14 +218,14 @@ module _ (s : Settings) (a : Arrival) (datagram : List ℕ) (x : State) (n : ℕ
   abbrev old : Channel
   old = channelOf a q
 
-  free-now : freeSlot (q .lists) (q .channels) (q .standing .count) ≡ Lowest n
+  pub free-now : freeSlot (q .lists) (q .channels) (q .standing .count) ≡ Lowest n
   free-now = held-free s a datagram x n e
 
-  abbrev longer : Peer
+  abbrev pub longer : Peer
   longer = between a datagram x n w good may free-now
 
   -- on its own channel it takes its place in the order
-  longer-is : getD (longer .channels) i noChannel ≡ heldWith (q .incoming) old (a .number .0) n
+  pub longer-is : getD (longer .channels) i noChannel ≡ heldWith (q .incoming) old (a .number .0) n
   longer-is = getD-set-same (q .channels) i _ noChannel (omega (arith, may .on, count-high q good, w .channels))
 
   longer-stands : Orderly i q → StandsAt i 0 longer
@@ -244,10 +244,10 @@ module _ (s : Settings) (a : Arrival) (datagram : List ℕ) (x : State) (n : ℕ
             (unnamed i a datagram x n w good free-now k (may .on)) (new .free) (new .past) (c .climbs);
       }))
 
-  abbrev after : Peer
+  abbrev pub after : Peer
   after = reliableAfter (fate.Stored n) a datagram x .peer
 
-  own-stored : Orderly i q → Orderly i after
+  pub own-stored : Orderly i q → Orderly i after
   own-stored k =
       subst (Orderly i) (sym (left-dispatched a datagram x n w good may free-now))
       (own-dispatched i longer (between-whole a datagram x n w good may free-now) (between-sound a datagram x n w good may free-now)

@@ -9,7 +9,7 @@ use native.Mathlib.Omega.{arith}
 use lib.Dec.{eqb, ltb}
 use lib.ListN.{length, take, drop, getD, set}
 use lib.Seq.{getD-set-same, getD-set-other}
-use borrow.Author.Tests.{eqb-true, eq-eqb, ne-eqb, ltb-true, ltb-false}
+use borrow.Author.Tests.{eqb-true, eq-eqb, ne-eqb, ltb-true, ltb-false, lt-ltb}
 use Rattle.numbers.specs.Pick.{pick}
 use Rattle.numbers.specs.Counters.{step}
 use Rattle.numbers.proofs.BoolLaws.{both-right, both-true}
@@ -22,7 +22,7 @@ use Rattle.promises.specs.Held.{Rising}
 use Rattle.promises.proofs.Reporting.{Plain, after-plain}
 
 -- ---- numbers below 65,536
-next-near : (last : ℕ) → last < 65536 → ahead last (step last) ≡ 1
+pub next-near : (last : ℕ) → last < 65536 → ahead last (step last) ≡ 1
 next-near last h = omega (arith, h)
 
 near-next : (last n : ℕ) → last < 65536 → n < 65536 → ahead last n ≡ 1 → n ≡ step last
@@ -147,6 +147,12 @@ first-not m n rest e z =
 
 rest-not : (m n : ℕ) (rest : Bool) → pick (eqb m n) true rest ≡ false → rest ≡ false
 rest-not m n rest e = rw (ne-eqb m n (first-not m n rest e)) at e
+
+-- what is no farther than all that is held stands before it
+pub nearest : (slots : List Incoming) (last k : ℕ) (ss : List ℕ) → Climbs slots last k ss → nearer slots ss last k ≡ 0
+unfolding nearer
+nearest slots last k [] c = refl
+nearest slots last k (s ∷ ss) c = rw (lt-ltb k (ahead last (numberAt slots s)) (c .0 .past))
 
 -- ---- a slot written that the list does not name, and then named in its place
 module _ (slots : List Incoming) (n : ℕ) (i : Incoming) where

@@ -1,0 +1,198 @@
+-- A reliable arrival of the next number, with nothing of its own and no want of room in its way, is stored and joins dispatched at once, with all that
+-- was held behind it without a gap. The argument: nothing ready is held, so the next number is not held and is at distance 1; it is stored before all
+-- that is held, follows the last number, and a dispatch takes what follows in series.
+use Prim.Native.Nat.{ℕ, suc, _<_}
+use mathlib.Core.Path.{_≡_, refl, ap, sym, subst, _∙_}
+use mathlib.Core.Bool.{Bool, true, false}
+use mathlib.Core.List.{List, _∷_, _++_}
+use native.Mathlib.Omega.{arith}
+use lib.Dec.{eqb, ltb}
+use lib.ListN.{length, take, drop, getD, set}
+use lib.Seq.{getD-set-same}
+use borrow.Author.Tests.{eq-eqb, lt-ltb, lt-leb}
+use Rattle.numbers.specs.Pick.{pick}
+use Rattle.numbers.specs.Counters.{step}
+use Rattle.numbers.proofs.BoolLaws.{both-true}
+use Rattle.slots.specs.Lists.{inItems}
+use Rattle.runs.specs.declared.Free.{Free}
+use Rattle.runs.specs.declared.Free.the-variants.{Lowest, Full}
+use Rattle.parts.specs.Sizes.{storeLength}
+use Rattle.parts.specs.Fresh.{noIncoming}
+use Rattle.parts.specs.declared.groups.Channel.{Channel}
+use Rattle.parts.specs.declared.groups.Incoming.{Incoming}
+use Rattle.peer.specs.Damage.{sound}
+use Rattle.peer.specs.Gate.{fits, gateOf}
+use Rattle.peer.specs.Sounds.{Whole}
+use Rattle.peer.specs.Settings.{fitSettings}
+use Rattle.peer.specs.States.{connected}
+use Rattle.peer.specs.Outcome.{State}
+use Rattle.peer.specs.declared.settings.Settings.{Settings}
+use Rattle.peer.specs.declared.record.Peer.{Peer}
+use Rattle.peer.specs.declared.gate.Lent.the-variants.{Store}
+use Rattle.peer.specs.declared.gate.Gate.the-variants.{Open}
+use Rattle.peer.proofs.Gates.{behind-open}
+use Rattle.dispatching.specs.Dispatching.{follows, numberAfter, readyCount}
+use Rattle.storing.specs.Storing.{freeSlot}
+use Rattle.arriving.specs.Arrivals.{stored, answerOf, isReceiving, arrivalGate, replyOf, inSlot, roomFor, roomOf, arrivedSlot}
+use Rattle.arriving.specs.declared.Arrival.{Arrival}
+use Rattle.arriving.specs.declared.Fate.{Fate}
+use Rattle.arriving.specs.declared.Fate.the-variants as fate
+use Rattle.arriving.proofs.Admitted.{Admitted, admitted}
+use Rattle.holding.specs.Holding.{ahead, holds, farthest, isPassed, nearer, heldWith}
+use Rattle.reliable.specs.Calls.{sendReliable, channelOf, fateOf, fateOn, reliableAfter, reliableSound, arrivesReliable}
+use Rattle.arrived.proofs.Reliable.{between-whole, between-sound, left-dispatched, held-items}
+use Rattle.link.specs.Runs.{run, resetState}
+use Rattle.promises.specs.Reports.{numbersJoined, series}
+use Rattle.promises.specs.Held.{lastIn}
+use Rattle.promises.specs.Next.{Fits, Delivers, NextDelivered}
+use Rattle.promises.proofs.Sounding.{fresh-whole, reset-stands, run-stands}
+use Rattle.promises.proofs.Reporting.{Plain, plain-set, numbersOf, rises-series, ready-rises, joined, is-more}
+use Rattle.promises.proofs.HeldLaws.{Stands, next-near, next-free, nearest}
+use Rattle.promises.proofs.Held.{Orderly, in-pool, longer, longer-is, free-now, after, own-stored, fresh-orderly, run-orderly, none-ready}
+
+-- ---- what fits passes both gates, and there is room
+module _ (command : ℕ) (s : Settings) (a : Arrival) (datagram : List ℕ) (x : State) (good : sound (x .peer) ≡ true)
+    (f : Fits command s a datagram x) where
+  pub gate-open : gateOf (fits s (Store (length (x .store)))) (sound (x .peer)) ≡ Open
+  gate-open = rw (good, both-true (fitSettings s) (eqb (length (x .store)) storeLength) (f .settings) (eq-eqb (length (x .store)) storeLength (f .store)))
+
+  receiving : isReceiving (a .channel) (x .peer .standing) ≡ true
+  receiving = rw (lt-ltb (a .channel) (x .peer .standing .count) (f .on), f .state)
+
+  pub arrival-open : arrivalGate command a s (x .peer .standing) (length datagram) ≡ Open
+  arrival-open = rw (f .byte, receiving, f .whole)
+
+  pub record Room : Type 0 where
+    pub slot : ℕ
+    pub is : roomOf s (x .peer) ≡ fate.Stored slot
+
+  abbrev free : Free
+  free = freeSlot (x .peer .lists) (x .peer .channels) (x .peer .standing .count)
+
+  pub room-there : Room
+  room-there = go free refl
+    where
+      by : (state total : ℕ) (l : Free) → state ≡ connected → total < s .waiting → roomFor s state total l ≡ inSlot l
+      by state total l e h = rw (e, lt-leb (s .waiting) total h)
+
+      go : (l : Free) → free ≡ l → Room
+      go (Lowest n) e =
+          record { slot = n; is = by (x .peer .standing .state) (x .peer .waiting .total) free (f .state) (f .below) ∙ ap inSlot e }
+      go Full e = absurd (f .slot e)
+
+-- ---- the next number
+module _ (s : Settings) (a : Arrival) (datagram : List ℕ) (x : State) (w : Whole (x .peer)) (good : sound (x .peer) ≡ true)
+    (k : Orderly (a .channel) (x .peer)) (f : Fits sendReliable s a datagram x) (e : a .number .0 ≡ step (lastIn x (a .channel))) where
+  abbrev p : Peer
+  p = x .peer
+
+  abbrev i : ℕ
+  i = a .channel
+
+  abbrev last : ℕ
+  last = lastIn x i
+
+  abbrev items : List ℕ
+  items = inItems (channelOf a p .held)
+
+  stands : Stands (p .incoming) last 1 items
+  stands = k .stands (f .on)
+
+  one-past : ahead last (a .number .0) ≡ 1
+  one-past = ap (ahead last) e ∙ next-near last (stands .low)
+
+  not-held : holds (p .incoming) items (a .number .0) ≡ false
+  not-held = ap (holds (p .incoming) items) e ∙ next-free (p .incoming) last 1 items (stands .low) (omega arith) (stands .climbs)
+
+  not-passed : isPassed (p .incoming) (channelOf a p) (a .number .0) ≡ false
+  not-passed = by (ahead last (a .number .0)) (holds (p .incoming) items (a .number .0)) one-past not-held
+    where
+      by : (d : ℕ) (b : Bool) → d ≡ 1 → b ≡ false → pick (eqb d 0) true (pick (ltb farthest d) true b) ≡ false
+      by d b z q = rw (z, q)
+
+  abbrev n : ℕ
+  n = room-there sendReliable s a datagram x good f .slot
+
+  stored-there : fateOn s a p ≡ fate.Stored n
+  stored-there = ap (λ (b : Bool). fateOf b (roomOf s p)) not-passed ∙ room-there sendReliable s a datagram x good f .is
+
+  comes : arrivesReliable s a datagram x ≡ record { answer = stored; after = reliableAfter (fate.Stored n) a datagram x }
+  comes =
+      behind-open (gateOf (fits s (Store (length (x .store)))) (sound p)) x (reliableSound s a datagram x)
+      (gate-open sendReliable s a datagram x good f)
+      ∙ behind-open (arrivalGate sendReliable a s (p .standing) (length datagram)) x _ (arrival-open sendReliable s a datagram x good f)
+      ∙ ap (λ (t : Fate). record { answer = answerOf (replyOf t); after = reliableAfter t a datagram x }) stored-there
+
+  may : Admitted a (p .standing) (length datagram)
+  may = admitted sendReliable a s (p .standing) (length datagram) (arrival-open sendReliable s a datagram x good f)
+
+  low : a .number .0 < 65536
+  low = omega (arith, e)
+
+  abbrev pool : List Incoming
+  pool = set (p .incoming) n (arrivedSlot a)
+
+  plain : Plain pool
+  plain = plain-set (p .incoming) n (arrivedSlot a) refl (k .plain)
+
+  -- it is the first of the list, and follows
+  first-held : inItems (heldWith (p .incoming) (channelOf a p) (a .number .0) n .held) ≡ n ∷ items
+  first-held =
+      held-items a datagram x n w good may (free-now s a datagram x n low w good may stored-there)
+      ∙ ap (λ (j : ℕ). take j items ++ (n ∷ drop j items)) nearest-now
+    where
+      nearest-now : nearer (p .incoming) items last (ahead last (a .number .0)) ≡ 0
+      nearest-now = ap (nearer (p .incoming) items last) one-past ∙ nearest (p .incoming) last 1 items (stands .climbs)
+
+  own : getD pool n noIncoming ≡ arrivedSlot a
+  own =
+      getD-set-same (p .incoming) n (arrivedSlot a) noIncoming
+      (in-pool i a datagram x n w good (free-now s a datagram x n low w good may stored-there) k)
+
+  follows-last : follows last (getD pool n noIncoming) ≡ true
+  follows-last = ap (follows last) own ∙ eq-eqb (a .number .0) (step last) e
+
+  -- how many went that stood behind it
+  abbrev behind-it : ℕ
+  behind-it = readyCount pool items (numberAfter (getD pool n noIncoming))
+
+  abbrev taken : List ℕ → List ℕ
+  taken ss = numbersOf pool (take (readyCount pool ss last) ss)
+
+  taken-long : length (taken (n ∷ items)) ≡ suc (length (numbersOf pool (take behind-it items)))
+  unfolding readyCount
+  taken-long =
+      ap (λ (b : Bool). length (numbersOf pool (take (pick b (suc behind-it) 0) (n ∷ items)))) follows-last
+
+  abbrev then-held : Peer
+  then-held = longer s a datagram x n low w good may stored-there
+
+  all-joined : numbersJoined x (reliableAfter (fate.Stored n) a datagram x) ≡ series last (suc (length (numbersOf pool (take behind-it items))))
+  all-joined =
+      let free = free-now s a datagram x n low w good may stored-there in
+      let of : Channel → List ℕ =
+      λ c. numbersOf pool (take (readyCount pool (inItems (c .held)) (c .«incoming_reliable» .0)) (inItems (c .held))) in
+      ap (joined i p) (left-dispatched a datagram x n w good may free)
+      ∙ is-more i then-held (between-whole a datagram x n w good may free) (between-sound a datagram x n w good may free) (f .on) plain
+      ∙ ap of (longer-is s a datagram x n low w good may stored-there)
+      ∙ ap taken first-held
+      ∙ rises-series last (taken (n ∷ items)) (ready-rises pool plain (n ∷ items) last)
+      ∙ ap (series last) taken-long
+
+  pub delivers : Delivers i x (arrivesReliable s a datagram x)
+  delivers =
+      subst (Delivers i x) (sym comes)
+      (record {
+        answer = refl;
+        more = length (numbersOf pool (take behind-it items));
+        joined = all-joined;
+        left = none-ready i (reliableAfter (fate.Stored n) a datagram x) (own-stored s a datagram x n low w good may stored-there k) (f .on);
+      })
+
+pub next-delivered : NextDelivered
+next-delivered t kept store calls s a datagram fit m f e =
+    let x = resetState (t .mtu) kept store in
+    let y = run calls x .end in
+    let stands = run-stands calls x (reset-stands t kept store fit) in
+    delivers s a datagram y (stands .whole) (stands .good)
+    (run-orderly (a .channel) calls x m (fresh-whole (t .mtu) kept) (fresh-orderly (a .channel) (t .mtu) kept)) f e
