@@ -23,11 +23,13 @@ use Rattle.peer.specs.Outcome.{State}
 use Rattle.peer.specs.declared.record.Peer.{Peer}
 use Rattle.peer.proofs.Clauses.{all-at}
 use Rattle.peer.proofs.InClauses.{InClauses, incoming-clauses}
+use Rattle.arriving.specs.Arrivals.{arrivedSlot}
 use Rattle.arriving.specs.declared.Arrival.{Arrival}
 use Rattle.arrived.specs.Stores.{Stores}
 use Rattle.arrived.proofs.Pools.{free-unnamed}
 use Rattle.link.specs.Runs.{Packet}
-use Rattle.promises.specs.Packets.{packetAt, ready, present, payload, newly, count}
+use Rattle.promises.specs.Counts.{count}
+use Rattle.promises.specs.Packets.{packetAt, ready, present, payload, newly}
 
 -- the slots that a record's lists name
 abbrev pub named : Peer → List ℕ
@@ -80,9 +82,13 @@ pub record Still (p q : Peer) : Type 0 where
 pub still : (p : Peer) → Still p p
 still p = record { slots = refl; items = refl; names = refl }
 
+-- the packet of a slot with these bytes
+abbrev ofSlot : Incoming → List ℕ → Packet
+ofSlot i bs = record { channel = i .channel; byte = i .byte; number = i .number .0; bytes = bs }
+
 -- the packet in a slot, by the parts that it is read from
 abbrev partsAt : List ℕ → List Incoming → ℕ → Packet
-partsAt store is s = let i = getD is s noIncoming in record { channel = i .channel; bytes = take (i .length) (drop (s * cell) store) }
+partsAt store is s = ofSlot (getD is s noIncoming) (take (getD is s noIncoming .length) (drop (s * cell) store))
 
 parts-same : (store : List ℕ) {is js : List Incoming} {xs ys : List ℕ} → is ≡ js → xs ≡ ys → map (partsAt store is) xs ≡ map (partsAt store js) ys
 parts-same store d e = ap₂ (λ (is : List Incoming) (xs : List ℕ). map (partsAt store is) xs) d e
@@ -181,8 +187,8 @@ module _ (a : Arrival) (datagram : List ℕ) (x y : State) (k : Stores a datagra
   kept : (s : ℕ) → 0 < times (named p) s → packetAt y s ≡ packetAt x s
   kept s h =
       let i = getD (p .incoming) s noIncoming in
-      ap (λ (j : Incoming). record { channel = j .channel; bytes = take (j .length) (drop (s * cell) (y .store)) }) (k .slots s (other s h))
-      ∙ ap (λ (bs : List ℕ). record { channel = i .channel; bytes = bs })
+      ap (λ (j : Incoming). ofSlot j (take (j .length) (drop (s * cell) (y .store)))) (k .slots s (other s h))
+      ∙ ap (ofSlot i)
       (take-same (i .length) (s * cell) (y .store) (x .store) (k .length) (λ j low high. k .bytes j (apart j low high (ltb s (k .slot)) refl)))
     where
       apart : (j : ℕ) → s * cell ≤ j → j < s * cell + getD (p .incoming) s noIncoming .length → (b : Bool) → ltb s (k .slot) ≡ b
@@ -192,8 +198,7 @@ module _ (a : Arrival) (datagram : List ℕ) (x y : State) (k : Stores a datagra
 
   own : packetAt y (k .slot) ≡ payload a datagram
   own =
-      ap (λ (j : Incoming). record { channel = j .channel; bytes = take (j .length) (drop (k .slot * cell) (y .store)) }) (k .holds)
-      ∙ ap (λ (bs : List ℕ). record { channel = a .channel; bytes = bs }) (k .payload)
+      ap (λ (j : Incoming). ofSlot j (take (j .length) (drop (k .slot * cell) (y .store)))) (k .holds) ∙ ap (ofSlot (arrivedSlot a)) (k .payload)
 
   pub stored-passes : (js : List ℕ) → inItems (y .peer .lists .dispatched) ≡ inItems (p .lists .dispatched) ++ js
       → ((g : List ℕ → ℕ) → Sums g → g (named (y .peer)) ≡ g (k .slot ∷ []) + g (named p))
