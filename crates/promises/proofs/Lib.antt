@@ -15,3 +15,4 @@ pub mod Quiet
 pub mod Passing
 pub mod Comings
 pub mod Examples
+pub mod Sorts

@@ -4,7 +4,7 @@
 use Prim.Native.Nat.{ℕ, suc, _+_, _*_, _≤_, _<_}
 use mathlib.Core.Path.{_≡_, refl, ap, ap₂, sym, _∙_}
 use mathlib.Core.Bool.{Bool, true, false}
-use mathlib.Core.List.{List, [], _∷_, _++_, map, map-append, append-nil}
+use mathlib.Core.List.{List, [], _∷_, _++_, map, map-append, append-nil, append-assoc}
 use mathlib.Core.Logic.{_⊎_, inl, inr}
 use native.Mathlib.Omega.{arith}
 use lib.Dec.{leb, ltb}
@@ -29,7 +29,7 @@ use Rattle.arrived.specs.Stores.{Stores}
 use Rattle.arrived.proofs.Pools.{free-unnamed}
 use Rattle.link.specs.Runs.{Packet}
 use Rattle.promises.specs.Counts.{count}
-use Rattle.promises.specs.Packets.{packetAt, ready, present, payload, newly}
+use Rattle.promises.specs.Packets.{packetAt, ready, present, payload, Ledger, newly}
 
 -- the slots that a record's lists name
 abbrev pub named : Peer → List ℕ
@@ -44,7 +44,7 @@ unfolding count
 count-append f [] ls = omega arith
 count-append f (k ∷ ks) ls = omega (arith, count-append f ks ls)
 
-count-none : (f : Packet → Bool) → count f [] ≡ 0
+pub count-none : (f : Packet → Bool) → count f [] ≡ 0
 unfolding count
 count-none f = refl
 
@@ -67,6 +67,23 @@ map-same f g (x ∷ xs) h = ap₂ (λ (k : Packet) (ks : List Packet). k ∷ ks)
 pub record Passes (x y : State) (put out : List Packet) : Type 0 where
   pub once : (f : Packet → Bool) → count f out + count f (present y) ≡ count f put + count f (present x)
   pub order : out ++ ready y ≡ ready x ++ newly x y
+
+-- ---- the ledger, where one call after another lets packets pass so
+pub record Booked (l : Ledger) (y : State) : Type 0 where
+  pub once : (f : Packet → Bool) → count f (l .received) + count f (present y) ≡ count f (l .stored)
+  pub order : l .received ++ ready y ≡ l .joined
+
+abbrev pub with : Ledger → State → State → List Packet → List Packet → Ledger
+with l x y put out = record { stored = l .stored ++ put; joined = l .joined ++ newly x y; received = l .received ++ out }
+
+pub passed : {x y : State} {put out : List Packet} (l : Ledger) → Booked l x → Passes x y put out → Booked (with l x y put out) y
+passed {x} {y} {put} {out} l h k =
+    record {
+      once = λ f. omega (arith, h .once f, k .once f, count-append f (l .received) out, count-append f (l .stored) put);
+      order =
+          append-assoc (l .received) out (ready y) ∙ ap (λ (ks : List Packet). l .received ++ ks) (k .order)
+          ∙ sym (append-assoc (l .received) (ready x) (newly x y)) ∙ ap (λ (ks : List Packet). ks ++ newly x y) (h .order);
+    }
 
 -- what joined is what is new
 grown : (x y : State) (js : List Packet) → ready y ≡ ready x ++ js → ready y ≡ ready x ++ newly x y
@@ -196,8 +213,8 @@ module _ (a : Arrival) (datagram : List ℕ) (x y : State) (k : Stores a datagra
       apart j low high true t = inl (omega (arith, fits s h, ltb-true s (k .slot) t))
       apart j low high false t = inr (omega (arith, ltb-false s (k .slot) t, other s h))
 
-  own : packetAt y (k .slot) ≡ payload a datagram
-  own =
+  pub stored-own : packetAt y (k .slot) ≡ payload a datagram
+  stored-own =
       ap (λ (j : Incoming). ofSlot j (take (j .length) (drop (k .slot * cell) (y .store)))) (k .holds) ∙ ap (ofSlot (arrivedSlot a)) (k .payload)
 
   pub stored-passes : (js : List ℕ) → inItems (y .peer .lists .dispatched) ≡ inItems (p .lists .dispatched) ++ js
@@ -211,7 +228,7 @@ module _ (a : Arrival) (datagram : List ℕ) (x y : State) (k : Stores a datagra
               arith,
               count-none f,
               more (passing f y) (passing-adds f y),
-              ap (λ (j : Packet). count f (j ∷ [])) own,
+              ap (λ (j : Packet). count f (j ∷ [])) stored-own,
               ap (count f) (map-same (packetAt y) (packetAt x) (named p) kept),
             );
         order =
