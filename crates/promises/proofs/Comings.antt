@@ -1,6 +1,7 @@
--- What comes out is what went in, each packet once, in the order in which they joined dispatched.
--- The argument: every call lets packets pass as Presence says, whatever it answers; a run is one call after another, and a reset that is done begins
--- with nothing.
+-- What comes out is what went in, each packet once, in the order in which they joined dispatched; each is reliable or unsequenced, and on each channel
+-- the reliable ones bear the numbers 1, 2, 3 and so on. The argument: every call lets packets pass as Presence says, whatever it answers; a run is one
+-- call after another, and a reset that is done begins with nothing. A channel's reliable ones that joined are those that `reports` tells of, and what
+-- came out is the front of what joined.
 use Prim.Native.Nat.{ℕ, _≤_}
 use mathlib.Core.Path.{_≡_, refl, ap, ap₂, sym, _∙_}
 use mathlib.Core.Bool.{Bool, true, false}
@@ -40,10 +41,10 @@ use Rattle.promises.proofs.Presence.{count-append, count-none, still, s
 use Rattle.promises.proofs.Reporting.{counts-once}
 use Rattle.promises.proofs.Quiet.{begin-still, state-still, outward-still}
 use Rattle.promises.proofs.Passing.{dispatch-passes, receive-passes, unsequenced-passes, reliable-passes}
-use Rattle.promises.proofs.Sorts.{
-  all-kinds, unsequenced-known, reliable-known, other, reliable-put, unsequenced-put, those-on, numbersOn, numbers-append, series-front, numbers-newly,
-  Unbegun, Joined, dispatch-joined, reliable-joined, unsequenced-enters, Before, state-before, outward-before, begin-at, still-newly, receive-shorter,
-}
+use Rattle.promises.proofs.Sorts.{all-kinds, unsequenced-known, reliable-known, other, reliable-put, unsequenced-put}
+use Rattle.promises.proofs.Sorts.{those-on, numbersOn, numbers-append, numbers-newly, series-front}
+use Rattle.promises.proofs.Sorts.{Unbegun, Joined, dispatch-joined, reliable-joined, unsequenced-enters}
+use Rattle.promises.proofs.Sorts.{Before, state-before, outward-before, begin-at, still-newly, receive-shorter}
 
 -- nothing is there after a reset
 fresh-holds : (mtu : ℕ) (k : Kept) (store : List ℕ) → Booked freshLedger (resetState mtu k store)

@@ -101,7 +101,7 @@ Comes a datagram x o =
 abbrev More : State → State → ℕ → Type 0
 More x y n = (g : List ℕ → ℕ) → Sums g → g (named (y .peer)) ≡ g (n ∷ []) + g (named (x .peer))
 
-same-slot : {f : Free} (n k : ℕ) → f ≡ Lowest n → f ≡ Lowest k → n ≡ k
+pub same-slot : {f : Free} (n k : ℕ) → f ≡ Lowest n → f ≡ Lowest k → n ≡ k
 same-slot n k d e = cc
 
 module _ (a : Arrival) (datagram : List ℕ) (x : State) where

@@ -1,4 +1,4 @@
--- What one call may do to the packets that are there: take some out at dispatched's head, put one in, let some join dispatched.
+-- What one call may do to the packets that are there: take some out at dispatched's head, put one in, let some join dispatched; and so to the ledger.
 -- The argument: how many packets of some slots pass a test adds up over lists joined, so that lists which name each slot as often count the same; a
 -- slot that stays named holds what it held, since a call that stores writes a free slot and its cell alone.
 use Prim.Native.Nat.{ℕ, suc, _+_, _*_, _≤_, _<_}

@@ -1,7 +1,6 @@
--- What joins dispatched, by its kind: what is stored is reliable or unsequenced by its byte; what joins by an unsequenced arrival is its payload, and what
--- joins by any other call is reliable and of that call's channel. So a channel's reliable ones in the ledger bear the numbers that `reports` tells of.
--- The argument: a stored arrival passed its gate; what is not reliable joined when it was stored, so by counting nothing else that joins is; a sound
--- record's channel lists hold slots of their own channel.
+-- What goes in and what joins dispatched, by its kind: what is stored is reliable or unsequenced by its byte; what joins by an unsequenced arrival is its
+-- payload, what joins by a reliable one or a dispatch is of its channel, and by no other call anything joins. The argument: a stored arrival passed its
+-- gate; a sound record's channel lists hold slots of their own channel; nothing arrives before begin, which alone makes channels count.
 use Prim.Native.Nat.{ℕ, zero, suc, _+_, _%_, _≤_, _<_}
 use mathlib.Core.Path.{_≡_, refl, ap, sym, _∙_}
 use mathlib.Core.Bool.{Bool, true, false}
@@ -22,8 +21,6 @@ use Rattle.numbers.proofs.Settled.{refused-not-done}
 use Rattle.numbers.proofs.BoolLaws.{both-left, both-right, both-true, both-false, both-with-true}
 use Rattle.slots.specs.Lists.{outItems, inItems}
 use Rattle.runs.specs.Runs.{first}
-use Rattle.runs.specs.declared.Free.{Free}
-use Rattle.runs.specs.declared.Free.the-variants.{Lowest}
 use Rattle.runs.specs.declared.First.{First}
 use Rattle.runs.specs.declared.First.the-variants.{Slot, Empty}
 use Rattle.parts.specs.Sizes.{channels}
@@ -48,7 +45,6 @@ use Rattle.peer.proofs.InClauses.{incoming-clauses, shorter-items}
 use Rattle.peer.proofs.Ranges.{count-high}
 use Rattle.arriving.specs.Arrivals.{stored, names, isReceiving, isWhole, arrivalGate, storedAt}
 use Rattle.opening.specs.Calls.{beginFits, begun, beginsSound, begins, stated, setsStateSound, setsState}
-use Rattle.stamps.specs.declared.pieces.Piece.{Piece}
 use Rattle.setup.specs.Queueing.{room, queued, queuedAll}
 use Rattle.setup.specs.Calls.{setupGate, setsUpSound}
 use Rattle.setup.proofs.Sound.{queued-standing, queuedAll-standing}
@@ -86,6 +82,7 @@ use Rattle.promises.specs.Reports.{dispatchedIn, numbersJoined, series}
 use Rattle.promises.specs.Packets.{packetAt, ready, payload, newly, reliableOn, isEither}
 use Rattle.promises.proofs.Answers.{refused-one}
 use Rattle.promises.proofs.Presence.{count-none, Still, stored-own}
+use Rattle.promises.proofs.Passing.{same-slot}
 use Rattle.promises.proofs.Picks.{picked}
 
 -- ---- how many of a list pass
@@ -326,7 +323,8 @@ count-all f g (x ∷ xs) e =
     omega (arith, is, count-all f g xs (both-right (f (g x)) (all (λ (s : ℕ). f (g s)) xs) e))
 
 module _ (channel : ℕ) (p : Peer) (whole : Whole p) (good : sound p ≡ true) (h : channel < p .standing .count) where
-  moved-own : all (λ (s : ℕ). eqb (getD (p .incoming) s noIncoming .channel) channel) (take (readyIn channel p) (inItems (chosen channel p .held))) ≡ true
+  moved-own : all (λ (s : ℕ). eqb (getD (p .incoming) s noIncoming .channel) channel) (take (readyIn channel p) (inItems (chosen channel p .held)))
+      ≡ true
   moved-own =
       let f : ℕ → Bool = λ s. eqb (getD (p .incoming) s noIncoming .channel) channel in
       let cs = below (p .channels) (p .standing .count) in
@@ -401,9 +399,6 @@ pub record Enters (a : Arrival) (datagram : List ℕ) (x : State) (o : Outcome S
   pub is : newly x (o .after) ≡ pick (saysOne (o .answer)) (payload a datagram ∷ []) []
   pub none : Unbegun (x .peer) → newly x (o .after) ≡ []
   pub same : Unbegun (o .after .peer) → Unbegun (x .peer)
-
-same-slot : {f : Free} (n k : ℕ) → f ≡ Lowest n → f ≡ Lowest k → n ≡ k
-same-slot n k d e = cc
 
 module _ (s : Settings) (a : Arrival) (group : Group) (datagram : List ℕ) (x : State) (whole : Whole (x .peer)) where
   abbrev left : Groups
