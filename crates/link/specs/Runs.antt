@@ -7,6 +7,7 @@ use lib.ListN.{getD, take, drop}
 use Rattle.numbers.specs.Pick.{pick, both}
 use Rattle.numbers.specs.Answers.{Answer, numbersOf}
 use Rattle.parts.specs.Sizes.{cell}
+use Rattle.parts.specs.Fresh.{noIncoming}
 use Rattle.peer.specs.Outcome.{State, Outcome}
 use Rattle.peer.specs.Fresh.{freshPeer}
 use Rattle.peer.specs.declared.settings.Settings.{Settings}
@@ -24,30 +25,34 @@ pub record Asked : Type 0 where
 abbrev pub comesTo : Asked → State → Outcome State
 comesTo a x = step (a .settings) (a .call) (a .datagram) x
 
--- a packet that comes out: its channel, and the bytes of its cell
+-- a packet that comes out: its channel, its command's byte, its number, and the bytes of its cell
 pub record Packet : Type 0 where
   pub channel : ℕ
+  pub byte : ℕ
+  pub number : ℕ
   pub bytes : List ℕ
 
 -- number 0, and 1 for the first value: a receive hands out a packet, an arrival was stored
 abbrev pub saysOne : Answer → Bool
 saysOne a = both (eqb (a .number) 0) (eqb (getD (numbersOf a) 0 0) 1)
 
--- what a receive that answers so hands out of the store: 1, channel, cell, length
-abbrev pub handed : Answer → List ℕ → List Packet
-handed a store =
+-- what a receive that answers so hands out: 1, channel, cell, length; byte and number stand in the cell's slot, the bytes in the store
+abbrev pub handed : Answer → State → List Packet
+handed a x =
     let v = numbersOf a in
-    pick (saysOne a) (record { channel = getD v 1 0; bytes = take (getD v 3 0) (drop (getD v 2 0 * cell) store) } ∷ []) []
+    let slot = getD (x .peer .incoming) (getD v 2 0) noIncoming in
+    let bytes = take (getD v 3 0) (drop (getD v 2 0 * cell) (x .store)) in
+    pick (saysOne a) (record { channel = getD v 1 0; byte = slot .byte; number = slot .number .0; bytes = bytes } ∷ []) []
 
-abbrev pub packetsOf : Call → Answer → List ℕ → List Packet
-packetsOf (call.Inward inw.Receive) a store = handed a store
-packetsOf (call.Inward (inw.UnsequencedArrival arrival group)) a store = []
-packetsOf (call.Inward (inw.ReliableArrival arrival)) a store = []
-packetsOf (call.Inward (inw.Dispatch channel)) a store = []
-packetsOf (call.Outward c) a store = []
-packetsOf call.Reset a store = []
-packetsOf (call.Begin mtu channels) a store = []
-packetsOf (call.SetState state) a store = []
+abbrev pub packetsOf : Call → Answer → State → List Packet
+packetsOf (call.Inward inw.Receive) a x = handed a x
+packetsOf (call.Inward (inw.UnsequencedArrival arrival group)) a x = []
+packetsOf (call.Inward (inw.ReliableArrival arrival)) a x = []
+packetsOf (call.Inward (inw.Dispatch channel)) a x = []
+packetsOf (call.Outward c) a x = []
+packetsOf call.Reset a x = []
+packetsOf (call.Begin mtu channels) a x = []
+packetsOf (call.SetState state) a x = []
 
 -- what a run of calls answers, the packets that come out, and the end
 pub record Ran : Type 0 where
@@ -61,7 +66,7 @@ ended x = record { answers = []; packets = []; end = x }
 -- a step, then the rest of the run
 abbrev pub before : Asked → State → Outcome State → Ran → Ran
 before a x o rest =
-    record { answers = o .answer ∷ rest .answers; packets = packetsOf (a .call) (o .answer) (x .store) ++ rest .packets; end = rest .end }
+    record { answers = o .answer ∷ rest .answers; packets = packetsOf (a .call) (o .answer) x ++ rest .packets; end = rest .end }
 
 unfoldable pub run : List Asked → State → Ran
 run [] x = ended x

@@ -1,67 +1,70 @@
--- What comes out is what went in, each packet once, in the order in which they joined dispatched.
--- The argument: every call lets packets pass as Presence says, whatever it answers; a run is one call after another, and a reset that is done begins
--- with nothing.
-use Prim.Native.Nat.{ℕ}
-use mathlib.Core.Path.{refl, ap, sym, _∙_}
+-- What comes out is what went in, each packet once, in the order in which they joined dispatched; each is reliable or unsequenced, and on each channel
+-- the reliable ones bear the numbers 1, 2, 3 and so on. The argument: every call lets packets pass as Presence says, whatever it answers; a run is one
+-- call after another, and a reset that is done begins with nothing. A channel's reliable ones that joined are those that `reports` tells of, and what
+-- came out is the front of what joined.
+use Prim.Native.Nat.{ℕ, _≤_}
+use mathlib.Core.Path.{_≡_, refl, ap, ap₂, sym, _∙_}
 use mathlib.Core.Bool.{Bool, true, false}
-use mathlib.Core.List.{List, [], _∷_, _++_, append-assoc}
+use mathlib.Core.List.{List, [], _∷_, _++_, map, map-append, append-nil}
 use native.Mathlib.Omega.{arith}
+use lib.Dec.{eqb}
+use lib.ListN.{length, length-append, length-map}
+use borrow.Author.Tests.{eqb-true}
 use Rattle.numbers.specs.Pick.{pick}
 use Rattle.numbers.specs.declared.refusals.Refusal.the-variants.{OutOfRange}
 use Rattle.parts.specs.Fresh.{noLists}
-use Rattle.parts.specs.Damage.{held}
+use Rattle.parts.specs.Damage.{below, held}
 use Rattle.peer.specs.Settings.{fitSettings}
 use Rattle.peer.specs.Fresh.{freshPeer}
-use Rattle.peer.specs.Outcome.{State, finished, unchanged}
+use Rattle.peer.specs.Outcome.{State, Outcome, finished, unchanged}
 use Rattle.peer.specs.Sounds.{Whole}
 use Rattle.peer.specs.declared.settings.Settings.{Settings}
+use Rattle.peer.specs.declared.record.Peer.{Peer}
 use Rattle.peer.specs.declared.defaults.Kept.{Kept}
 use Rattle.opening.specs.Calls.{kept, begins, setsState}
+use Rattle.dispatch.specs.Calls.{dispatches}
+use Rattle.receive.specs.Calls.{receives}
+use Rattle.unsequenced.specs.Calls.{arrivesUnsequenced}
+use Rattle.reliable.specs.Calls.{arrivesReliable}
 use Rattle.outward.specs.Steps.{goes}
 use Rattle.inward.specs.Steps.{beside}
 use Rattle.link.specs.Steps.{step}
-use Rattle.link.specs.Runs.{Asked, comesTo, Packet, packetsOf, run, resetState}
+use Rattle.link.specs.Runs.{Asked, comesTo, Packet, handed, packetsOf, run, resetState}
 use Rattle.inward.specs.declared.calls.Call.the-variants as inw
 use Rattle.link.specs.declared.calls.Call.{Call}
 use Rattle.link.specs.declared.calls.Call.the-variants as call
-use Rattle.promises.specs.Packets.{ready, putIn, Ledger, freshLedger, newly, isReset, writes, ledger, count, InAndOut, ComesOut}
+use Rattle.promises.specs.Counts.{count, those}
+use Rattle.promises.specs.Reports.{dispatchedIn, numbersJoined, isOn, isAnew, reports, series}
+use Rattle.promises.specs.Packets.{packetAt, ready, present, putIn, Ledger, freshLedger, newly, isReset, writes, ledger, reliableOn, isEither, ComesOut}
 use Rattle.promises.proofs.Sounding.{fresh-whole, call-sounds}
-use Rattle.promises.proofs.Presence.{count-append, Passes, still, still-passes}
+use Rattle.promises.proofs.Presence.{count-append, count-none, still, still-passes, Booked, with, passed}
+use Rattle.promises.proofs.Reporting.{counts-once}
 use Rattle.promises.proofs.Quiet.{begin-still, state-still, outward-still}
 use Rattle.promises.proofs.Passing.{dispatch-passes, receive-passes, unsequenced-passes, reliable-passes}
-
--- ---- the ledger
-abbrev with : Ledger → State → State → List Packet → List Packet → Ledger
-with l x y put out = record { stored = l .stored ++ put; joined = l .joined ++ newly x y; received = l .received ++ out }
-
-passed : {x y : State} {put out : List Packet} (l : Ledger) → InAndOut l x → Passes x y put out → InAndOut (with l x y put out) y
-passed {x} {y} {put} {out} l h k =
-    record {
-      once = λ f. omega (arith, h .once f, k .once f, count-append f (l .received) out, count-append f (l .stored) put);
-      order =
-          append-assoc (l .received) out (ready y) ∙ ap (λ (ks : List Packet). l .received ++ ks) (k .order)
-          ∙ sym (append-assoc (l .received) (ready x) (newly x y)) ∙ ap (λ (ks : List Packet). ks ++ newly x y) (h .order);
-    }
+use Rattle.promises.proofs.Sorts.{all-kinds, unsequenced-known, reliable-known, other, reliable-put, unsequenced-put}
+use Rattle.promises.proofs.Sorts.{those-on, numbersOn, numbers-append, numbers-newly, series-front}
+use Rattle.promises.proofs.Sorts.{Unbegun, Joined, dispatch-joined, reliable-joined, unsequenced-enters}
+use Rattle.promises.proofs.Sorts.{Before, state-before, outward-before, begin-at, still-newly, receive-shorter}
 
 -- nothing is there after a reset
-fresh-holds : (mtu : ℕ) (k : Kept) (store : List ℕ) → InAndOut freshLedger (resetState mtu k store)
+fresh-holds : (mtu : ℕ) (k : Kept) (store : List ℕ) → Booked freshLedger (resetState mtu k store)
 unfolding freshPeer noLists held count
 fresh-holds mtu k store = record { once = λ f. refl; order = refl }
 
 abbrev Holds : Settings → Call → List ℕ → State → Ledger → Type 0
 Holds s c datagram x l =
     let o = step s c datagram x in
-    InAndOut (pick (isReset c (o .answer)) freshLedger (with l x (o .after) (putIn c (o .answer) datagram) (packetsOf c (o .answer) (x .store)))) (o .after)
+    Booked (pick (isReset c (o .answer)) freshLedger (with l x (o .after) (putIn c (o .answer) datagram) (packetsOf c (o .answer) x))) (o .after)
 
-reset-holds : (s : Settings) (datagram : List ℕ) (x : State) (l : Ledger) → InAndOut l x → Holds s call.Reset datagram x l
+reset-holds : (s : Settings) (datagram : List ℕ) (x : State) (l : Ledger) → Booked l x → Holds s call.Reset datagram x l
 reset-holds s datagram x l h = go (fitSettings s)
   where
     go : (b : Bool) → let o = beside x (pick b (finished (freshPeer (s .mtu) (kept (x .peer)))) (unchanged OutOfRange (x .peer))) in
-        InAndOut (pick (isReset call.Reset (o .answer)) freshLedger (with l x (o .after) [] [])) (o .after)
+        Booked (pick (isReset call.Reset (o .answer)) freshLedger (with l x (o .after) [] [])) (o .after)
     go true = fresh-holds (s .mtu) (kept (x .peer)) (x .store)
     go false = passed l h (still-passes x (x .peer) (still (x .peer)))
 
-call-holds : (c : Call) (s : Settings) (datagram : List ℕ) (x : State) (l : Ledger) → Whole (x .peer) → InAndOut l x → Holds s c datagram x l
+call-holds : (c : Call) (s : Settings) (datagram : List ℕ) (x : State) (l : Ledger) → Whole (x .peer) → Booked l x → Holds s c datagram x l
 call-holds call.Reset s datagram x l w h = reset-holds s datagram x l h
 call-holds (call.Begin mtu channels) s datagram x l w h = passed l h (still-passes x (begins s mtu channels (x .peer) .after) (begin-still s mtu channels (x .peer)))
 call-holds (call.SetState state) s datagram x l w h = passed l h (still-passes x (setsState s state (x .peer) .after) (state-still s state (x .peer)))
@@ -71,13 +74,229 @@ call-holds (call.Inward (inw.ReliableArrival a)) s datagram x l w h = passed l h
 call-holds (call.Inward (inw.Dispatch channel)) s datagram x l w h = passed l h (dispatch-passes s channel x w)
 call-holds (call.Inward inw.Receive) s datagram x l w h = passed l h (receive-passes s x)
 
-run-holds : (calls : List Asked) (x : State) (l : Ledger) → Whole (x .peer) → InAndOut l x → InAndOut (ledger calls x l) (run calls x .end)
+-- ---- what stands along a run: what is stored is of either kind; what of it is not reliable has joined; nothing joined before begin
+pub record Sorted (l : Ledger) (x : State) : Type 0 where
+  pub known : count isEither (l .stored) ≡ length (l .stored)
+  pub early : count other (l .stored) ≤ count other (l .joined)
+  pub none : Unbegun (x .peer) → l .joined ≡ []
+
+pub fresh-sorted : (x : State) → Sorted freshLedger x
+unfolding count
+fresh-sorted x = record { known = refl; early = omega arith; none = λ z. refl }
+
+sorted-on : (l : Ledger) (x y : State) (put out : List Packet) → Sorted l x → count isEither put ≡ length put → count other put ≤ count other (newly x y)
+    → (Unbegun (x .peer) → newly x y ≡ []) → Before (x .peer) (y .peer) → Sorted (with l x y put out) y
+sorted-on l x y put out h known early none before =
+    record {
+      known = omega (arith, h .known, known, count-append isEither (l .stored) put, length-append (l .stored) put);
+      early = omega (arith, h .early, early, count-append other (l .stored) put, count-append other (l .joined) (newly x y));
+      none = λ z. ap₂ (λ (ks ls : List Packet). ks ++ ls) (h .none (before z)) (none (before z));
+    }
+
+-- nothing put in
+sorted-none : (l : Ledger) (x y : State) (out : List Packet) → Sorted l x → (Unbegun (x .peer) → newly x y ≡ []) → Before (x .peer) (y .peer)
+    → Sorted (with l x y [] out) y
+sorted-none l x y out h none before =
+    sorted-on l x y [] out h (count-none isEither) (omega (arith, count-none other)) none before
+
+-- what joins is reliable, if what was put in is: else more of the others had joined than went in
+late-reliable : (l : Ledger) (x y : State) (put out : List Packet) → Sorted l x → Booked (with l x y put out) y → count other put ≡ 0
+    → count other (newly x y) ≡ 0
+late-reliable l x y put out h b none =
+    let there = dispatchedIn y in
+    let inside = held (below (y .peer .channels) (y .peer .standing .count)) in
+    omega (
+      arith,
+      none,
+      h .early,
+      b .once other,
+      ap (count other) (b .order),
+      count-append other (l .received ++ out) (ready y),
+      count-append other (l .stored) put,
+      count-append other (l .joined) (newly x y),
+      ap (count other) (map-append (packetAt y) there inside),
+      count-append other (map (packetAt y) there) (map (packetAt y) inside),
+    )
+
+-- ---- the log of a channel, beside the ledger
+none-log : (channel : ℕ) (ks ls : List Packet) → ls ≡ [] → numbersOn channel ks ≡ numbersOn channel (ks ++ ls)
+none-log channel ks ls e = ap (numbersOn channel) (sym (append-nil ks) ∙ ap (λ (ms : List Packet). ks ++ ms) (sym e))
+
+unsequenced-log : (channel : ℕ) (ks ls put : List Packet) → ls ≡ put → those (reliableOn channel) put ≡ []
+    → numbersOn channel ks ≡ numbersOn channel (ks ++ ls)
+unsequenced-log channel ks ls put is none =
+    sym (append-nil (numbersOn channel ks))
+    ∙ ap (λ (ms : List Packet). numbersOn channel ks ++ map (λ (k : Packet). k .number) ms) (sym (ap (those (reliableOn channel)) is ∙ none))
+    ∙ sym (numbers-append channel ks ls)
+
+joined-log : (channel on : ℕ) (x y : State) (ks : List Packet) → Joined on x y → count other (newly x y) ≡ 0
+    → pick (eqb on channel) (numbersOn channel ks ++ numbersJoined x y) (numbersOn channel ks) ≡ numbersOn channel (ks ++ newly x y)
+joined-log channel on x y ks j none =
+    go (eqb on channel) (those-on channel on (newly x y) (j .of) none) ∙ sym (numbers-append channel ks (newly x y))
+  where
+    go : (b : Bool) → those (reliableOn channel) (newly x y) ≡ pick b (newly x y) []
+        → pick b (numbersOn channel ks ++ numbersJoined x y) (numbersOn channel ks) ≡ numbersOn channel ks ++ numbersOn channel (newly x y)
+    go true e = ap (λ (ns : List ℕ). numbersOn channel ks ++ ns) (sym (numbers-newly x y) ∙ sym (ap (map (λ (k : Packet). k .number)) e))
+    go false e =
+        sym (append-nil (numbersOn channel ks))
+        ∙ ap (λ (ns : List ℕ). numbersOn channel ks ++ ns) (sym (ap (map (λ (k : Packet). k .number)) e))
+
+-- ---- each call: the ledger after it is sorted, and the log of each channel goes on beside it
+abbrev written : Call → List ℕ → State → Outcome State → Ledger → Ledger
+written c datagram x o l = pick (isReset c (o .answer)) freshLedger (with l x (o .after) (putIn c (o .answer) datagram) (packetsOf c (o .answer) x))
+
+record Next (c : Call) (datagram : List ℕ) (x : State) (o : Outcome State) (l : Ledger) : Type 0 where
+  pub sorted : Sorted (written c datagram x o l) (o .after)
+  pub logs : (channel : ℕ) → let log = numbersOn channel (l .joined) in
+      pick (isAnew c (o .answer)) [] (pick (isOn channel c) (log ++ numbersJoined x (o .after)) log) ≡ numbersOn channel (written c datagram x o l .joined)
+
+none-numbers : (channel : ℕ) → [] ≡ numbersOn channel []
+unfolding those
+none-numbers channel = refl
+
+reset-next : (s : Settings) (datagram : List ℕ) (x : State) (l : Ledger) → Sorted l x
+    → Next call.Reset datagram x (step s call.Reset datagram x) l
+reset-next s datagram x l h = go (fitSettings s)
+  where
+    go : (b : Bool) → Next call.Reset datagram x (beside x (pick b (finished (freshPeer (s .mtu) (kept (x .peer)))) (unchanged OutOfRange (x .peer)))) l
+    go true = record { sorted = fresh-sorted (resetState (s .mtu) (kept (x .peer)) (x .store)); logs = none-numbers }
+    go false =
+        let none = still-newly x (x .peer) (still (x .peer)) in
+        record { sorted = sorted-none l x x [] h (λ z. none) (λ z. z); logs = λ channel. none-log channel (l .joined) (newly x x) none }
+
+begin-next : (s : Settings) (mtu count : ℕ) (datagram : List ℕ) (x : State) (l : Ledger) → Sorted l x
+    → Next (call.Begin mtu count) datagram x (step s (call.Begin mtu count) datagram x) l
+begin-next s mtu count datagram x l h =
+    record {
+      sorted = sorted-none l x y [] h (λ z. none) (begin-at s mtu count (x .peer) .before);
+      logs = λ channel. go channel (eqb (o .answer .number) 0) refl ∙ none-log channel (l .joined) (newly x y) none;
+    }
+  where
+    o : Outcome Peer
+    o = begins s mtu count (x .peer)
+
+    y : State
+    y = record { peer = o .after; store = x .store }
+
+    none : newly x y ≡ []
+    none = still-newly x (o .after) (begin-still s mtu count (x .peer))
+
+    go : (channel : ℕ) (b : Bool) → eqb (o .answer .number) 0 ≡ b → pick b [] (numbersOn channel (l .joined)) ≡ numbersOn channel (l .joined)
+    go channel true e =
+        none-numbers channel ∙ ap (numbersOn channel) (sym (h .none (begin-at s mtu count (x .peer) .at (eqb-true (o .answer .number) 0 e))))
+    go channel false e = refl
+
+call-next : (c : Call) (s : Settings) (datagram : List ℕ) (x : State) (l : Ledger) → Whole (x .peer) → Sorted l x → Holds s c datagram x l
+    → Next c datagram x (step s c datagram x) l
+call-next call.Reset s datagram x l w h b = reset-next s datagram x l h
+call-next (call.Begin mtu channels) s datagram x l w h b = begin-next s mtu channels datagram x l h
+call-next (call.SetState state) s datagram x l w h b =
+    let q = setsState s state (x .peer) .after in
+    let none = still-newly x q (state-still s state (x .peer)) in
+    record {
+      sorted = sorted-none l x (record { peer = q; store = x .store }) [] h (λ z. none) (state-before s state (x .peer));
+      logs = λ channel. none-log channel (l .joined) _ none;
+    }
+call-next (call.Outward c) s datagram x l w h b =
+    let q = goes s c (x .peer) .after in
+    let none = still-newly x q (outward-still s c (x .peer)) in
+    record {
+      sorted = sorted-none l x (record { peer = q; store = x .store }) [] h (λ z. none) (outward-before s c (x .peer));
+      logs = λ channel. none-log channel (l .joined) _ none;
+    }
+call-next (call.Inward (inw.UnsequencedArrival a group)) s datagram x l w h b =
+    let y = arrivesUnsequenced s a group datagram x .after in
+    let put = putIn (call.Inward (inw.UnsequencedArrival a group)) (arrivesUnsequenced s a group datagram x .answer) datagram in
+    let e = unsequenced-enters s a group datagram x w in
+    record {
+      sorted =
+          sorted-on l x y put [] h (unsequenced-known s a datagram x group) (omega (arith, ap (count other) (e .is))) (e .none) (e .same);
+      logs = λ channel. unsequenced-log channel (l .joined) (newly x y) put (e .is) (unsequenced-put s a datagram x group channel);
+    }
+call-next (call.Inward (inw.ReliableArrival a)) s datagram x l w h b =
+    let y = arrivesReliable s a datagram x .after in
+    let put = putIn (call.Inward (inw.ReliableArrival a)) (arrivesReliable s a datagram x .answer) datagram in
+    let j = reliable-joined s a datagram x w in
+    let none = reliable-put s a datagram x in
+    record {
+      sorted = sorted-on l x y put [] h (reliable-known s a datagram x) (omega (arith, none)) (j .none) (j .same);
+      logs = λ channel. joined-log channel (a .channel) x y (l .joined) j (late-reliable l x y put [] h b none);
+    }
+call-next (call.Inward (inw.Dispatch on)) s datagram x l w h b =
+    let y = beside x (dispatches s on (x .peer)) .after in
+    let j = dispatch-joined s on x w in
+    record {
+      sorted = sorted-none l x y [] h (j .none) (j .same);
+      logs = λ channel. joined-log channel on x y (l .joined) j (late-reliable l x y [] [] h b (count-none other));
+    }
+call-next (call.Inward inw.Receive) s datagram x l w h b =
+    let o = beside x (receives s (x .peer)) in
+    let r = receive-shorter s x in
+    record {
+      sorted = sorted-none l x (o .after) (handed (o .answer) x) h (λ z. r .none) (r .same);
+      logs = λ channel. none-log channel (l .joined) (newly x (o .after)) (r .none);
+    }
+
+-- ---- a run
+record Stands (l : Ledger) (x : State) : Type 0 where
+  pub whole : Whole (x .peer)
+  pub booked : Booked l x
+  pub sorted : Sorted l x
+
+asked-stands : (a : Asked) (x : State) (l : Ledger) → Stands l x → Stands (writes a x l) (comesTo a x .after)
+asked-stands a x l k =
+    let b = call-holds (a .call) (a .settings) (a .datagram) x l (k .whole) (k .booked) in
+    record {
+      whole = call-sounds (a .settings) (a .call) (a .datagram) (x .store) .whole (x .peer) (k .whole);
+      booked = b;
+      sorted = call-next (a .call) (a .settings) (a .datagram) x l (k .whole) (k .sorted) b .sorted;
+    }
+
+run-stands : (calls : List Asked) (x : State) (l : Ledger) → Stands l x → Stands (ledger calls x l) (run calls x .end)
 unfolding run ledger
-run-holds [] x l w h = h
-run-holds (a ∷ rest) x l w h =
-    run-holds rest (comesTo a x .after) (writes a x l)
-    (call-sounds (a .settings) (a .call) (a .datagram) (x .store) .whole (x .peer) w)
-    (call-holds (a .call) (a .settings) (a .datagram) x l w h)
+run-stands [] x l k = k
+run-stands (a ∷ rest) x l k = run-stands rest (comesTo a x .after) (writes a x l) (asked-stands a x l k)
+
+-- the reliable ones of a channel that joined are those that `reports` tells of
+run-logs : (channel : ℕ) (calls : List Asked) (x : State) (l : Ledger) → Stands l x
+    → reports channel calls x (numbersOn channel (l .joined)) ≡ numbersOn channel (ledger calls x l .joined)
+unfolding reports ledger
+run-logs channel [] x l k = refl
+run-logs channel (a ∷ rest) x l k =
+    let b = call-holds (a .call) (a .settings) (a .datagram) x l (k .whole) (k .booked) in
+    ap (reports channel rest (comesTo a x .after)) (call-next (a .call) (a .settings) (a .datagram) x l (k .whole) (k .sorted) b .logs channel)
+    ∙ run-logs channel rest (comesTo a x .after) (writes a x l) (asked-stands a x l k)
+
+module _ (mtu : ℕ) (kept : Kept) (store : List ℕ) (calls : List Asked) where
+  abbrev start : State
+  start = resetState mtu kept store
+
+  abbrev book : Ledger
+  book = ledger calls start freshLedger
+
+  fresh-stands : Stands freshLedger start
+  fresh-stands = record { whole = fresh-whole mtu kept; booked = fresh-holds mtu kept store; sorted = fresh-sorted start }
+
+  numbered : (channel : ℕ) → numbersOn channel (book .received) ≡ series 0 (length (numbersOn channel (book .received)))
+  numbered channel =
+      let y = run calls start .end in
+      let log = reports channel calls start [] in
+      let told : log ≡ numbersOn channel (book .joined) =
+      ap (reports channel calls start) (none-numbers channel) ∙ run-logs channel calls start freshLedger fresh-stands in
+      series-front 0 (numbersOn channel (book .received)) (numbersOn channel (ready y)) (length log)
+      (sym (numbers-append channel (book .received) (ready y))
+      ∙ ap (numbersOn channel) (run-stands calls start freshLedger fresh-stands .booked .order)
+      ∙ sym told ∙ counts-once mtu kept store calls channel)
 
 pub comes-out : ComesOut
-comes-out mtu kept store calls = run-holds calls (resetState mtu kept store) freshLedger (fresh-whole mtu kept) (fresh-holds mtu kept store)
+comes-out mtu kept store calls =
+    let k = run-stands calls (resetState mtu kept store) freshLedger (fresh-stands mtu kept store calls) in
+    let l = book mtu kept store calls in
+    record {
+      once = k .booked .once;
+      order = k .booked .order;
+      numbers = λ channel.
+          numbered mtu kept store calls channel
+          ∙ ap (series 0) (length-map (those (reliableOn channel) (l .received)) (λ (k : Packet). k .number));
+      kinds = all-kinds (l .received) (present (run calls (resetState mtu kept store) .end)) (l .stored) (k .booked .once) (k .sorted .known);
+    }

@@ -76,15 +76,15 @@ dispatch-passes s channel x whole =
 
 -- ---- receive: the head comes out, or nothing
 pub receive-passes : (s : Settings) (x : State)
-    → let o = beside x (receives s (x .peer)) in Passes x (o .after) [] (handed (o .answer) (x .store))
+    → let o = beside x (receives s (x .peer)) in Passes x (o .after) [] (handed (o .answer) x)
 receive-passes s x =
     behind-has (gateOf (fits s lent.Nothing) (sound (x .peer))) (x .peer) (receivesSound (x .peer))
-    (λ (o : Outcome Peer). Passes x (record { peer = o .after; store = x .store }) [] (handed (o .answer) (x .store)))
+    (λ (o : Outcome Peer). Passes x (record { peer = o .after; store = x .store }) [] (handed (o .answer) x))
     (λ why. rw (refused-one why) (still-passes x (x .peer) (still (x .peer))))
     (λ e. go (inItems (x .peer .lists .dispatched)) refl)
   where
     go : (xs : List ℕ) → inItems (x .peer .lists .dispatched) ≡ xs
-        → let o = beside x (receivesFrom (first xs) (x .peer)) in Passes x (o .after) [] (handed (o .answer) (x .store))
+        → let o = beside x (receivesFrom (first xs) (x .peer)) in Passes x (o .after) [] (handed (o .answer) x)
     go [] e = still-passes x (x .peer) (still (x .peer))
     go (n ∷ rest) e =
         let l = x .peer .lists in
@@ -101,7 +101,7 @@ Comes a datagram x o =
 abbrev More : State → State → ℕ → Type 0
 More x y n = (g : List ℕ → ℕ) → Sums g → g (named (y .peer)) ≡ g (n ∷ []) + g (named (x .peer))
 
-same-slot : {f : Free} (n k : ℕ) → f ≡ Lowest n → f ≡ Lowest k → n ≡ k
+pub same-slot : {f : Free} (n k : ℕ) → f ≡ Lowest n → f ≡ Lowest k → n ≡ k
 same-slot n k d e = cc
 
 module _ (a : Arrival) (datagram : List ℕ) (x : State) where

@@ -1,10 +1,10 @@
--- What one call may do to the packets that are there: take some out at dispatched's head, put one in, let some join dispatched.
+-- What one call may do to the packets that are there: take some out at dispatched's head, put one in, let some join dispatched; and so to the ledger.
 -- The argument: how many packets of some slots pass a test adds up over lists joined, so that lists which name each slot as often count the same; a
 -- slot that stays named holds what it held, since a call that stores writes a free slot and its cell alone.
 use Prim.Native.Nat.{ℕ, suc, _+_, _*_, _≤_, _<_}
 use mathlib.Core.Path.{_≡_, refl, ap, ap₂, sym, _∙_}
 use mathlib.Core.Bool.{Bool, true, false}
-use mathlib.Core.List.{List, [], _∷_, _++_, map, map-append, append-nil}
+use mathlib.Core.List.{List, [], _∷_, _++_, map, map-append, append-nil, append-assoc}
 use mathlib.Core.Logic.{_⊎_, inl, inr}
 use native.Mathlib.Omega.{arith}
 use lib.Dec.{leb, ltb}
@@ -23,11 +23,13 @@ use Rattle.peer.specs.Outcome.{State}
 use Rattle.peer.specs.declared.record.Peer.{Peer}
 use Rattle.peer.proofs.Clauses.{all-at}
 use Rattle.peer.proofs.InClauses.{InClauses, incoming-clauses}
+use Rattle.arriving.specs.Arrivals.{arrivedSlot}
 use Rattle.arriving.specs.declared.Arrival.{Arrival}
 use Rattle.arrived.specs.Stores.{Stores}
 use Rattle.arrived.proofs.Pools.{free-unnamed}
 use Rattle.link.specs.Runs.{Packet}
-use Rattle.promises.specs.Packets.{packetAt, ready, present, payload, newly, count}
+use Rattle.promises.specs.Counts.{count}
+use Rattle.promises.specs.Packets.{packetAt, ready, present, payload, Ledger, newly}
 
 -- the slots that a record's lists name
 abbrev pub named : Peer → List ℕ
@@ -42,7 +44,7 @@ unfolding count
 count-append f [] ls = omega arith
 count-append f (k ∷ ks) ls = omega (arith, count-append f ks ls)
 
-count-none : (f : Packet → Bool) → count f [] ≡ 0
+pub count-none : (f : Packet → Bool) → count f [] ≡ 0
 unfolding count
 count-none f = refl
 
@@ -66,6 +68,23 @@ pub record Passes (x y : State) (put out : List Packet) : Type 0 where
   pub once : (f : Packet → Bool) → count f out + count f (present y) ≡ count f put + count f (present x)
   pub order : out ++ ready y ≡ ready x ++ newly x y
 
+-- ---- the ledger, where one call after another lets packets pass so
+pub record Booked (l : Ledger) (y : State) : Type 0 where
+  pub once : (f : Packet → Bool) → count f (l .received) + count f (present y) ≡ count f (l .stored)
+  pub order : l .received ++ ready y ≡ l .joined
+
+abbrev pub with : Ledger → State → State → List Packet → List Packet → Ledger
+with l x y put out = record { stored = l .stored ++ put; joined = l .joined ++ newly x y; received = l .received ++ out }
+
+pub passed : {x y : State} {put out : List Packet} (l : Ledger) → Booked l x → Passes x y put out → Booked (with l x y put out) y
+passed {x} {y} {put} {out} l h k =
+    record {
+      once = λ f. omega (arith, h .once f, k .once f, count-append f (l .received) out, count-append f (l .stored) put);
+      order =
+          append-assoc (l .received) out (ready y) ∙ ap (λ (ks : List Packet). l .received ++ ks) (k .order)
+          ∙ sym (append-assoc (l .received) (ready x) (newly x y)) ∙ ap (λ (ks : List Packet). ks ++ newly x y) (h .order);
+    }
+
 -- what joined is what is new
 grown : (x y : State) (js : List Packet) → ready y ≡ ready x ++ js → ready y ≡ ready x ++ newly x y
 grown x y js e =
@@ -80,9 +99,13 @@ pub record Still (p q : Peer) : Type 0 where
 pub still : (p : Peer) → Still p p
 still p = record { slots = refl; items = refl; names = refl }
 
+-- the packet of a slot with these bytes
+abbrev ofSlot : Incoming → List ℕ → Packet
+ofSlot i bs = record { channel = i .channel; byte = i .byte; number = i .number .0; bytes = bs }
+
 -- the packet in a slot, by the parts that it is read from
 abbrev partsAt : List ℕ → List Incoming → ℕ → Packet
-partsAt store is s = let i = getD is s noIncoming in record { channel = i .channel; bytes = take (i .length) (drop (s * cell) store) }
+partsAt store is s = ofSlot (getD is s noIncoming) (take (getD is s noIncoming .length) (drop (s * cell) store))
 
 parts-same : (store : List ℕ) {is js : List Incoming} {xs ys : List ℕ} → is ≡ js → xs ≡ ys → map (partsAt store is) xs ≡ map (partsAt store js) ys
 parts-same store d e = ap₂ (λ (is : List Incoming) (xs : List ℕ). map (partsAt store is) xs) d e
@@ -181,8 +204,8 @@ module _ (a : Arrival) (datagram : List ℕ) (x y : State) (k : Stores a datagra
   kept : (s : ℕ) → 0 < times (named p) s → packetAt y s ≡ packetAt x s
   kept s h =
       let i = getD (p .incoming) s noIncoming in
-      ap (λ (j : Incoming). record { channel = j .channel; bytes = take (j .length) (drop (s * cell) (y .store)) }) (k .slots s (other s h))
-      ∙ ap (λ (bs : List ℕ). record { channel = i .channel; bytes = bs })
+      ap (λ (j : Incoming). ofSlot j (take (j .length) (drop (s * cell) (y .store)))) (k .slots s (other s h))
+      ∙ ap (ofSlot i)
       (take-same (i .length) (s * cell) (y .store) (x .store) (k .length) (λ j low high. k .bytes j (apart j low high (ltb s (k .slot)) refl)))
     where
       apart : (j : ℕ) → s * cell ≤ j → j < s * cell + getD (p .incoming) s noIncoming .length → (b : Bool) → ltb s (k .slot) ≡ b
@@ -190,10 +213,9 @@ module _ (a : Arrival) (datagram : List ℕ) (x y : State) (k : Stores a datagra
       apart j low high true t = inl (omega (arith, fits s h, ltb-true s (k .slot) t))
       apart j low high false t = inr (omega (arith, ltb-false s (k .slot) t, other s h))
 
-  own : packetAt y (k .slot) ≡ payload a datagram
-  own =
-      ap (λ (j : Incoming). record { channel = j .channel; bytes = take (j .length) (drop (k .slot * cell) (y .store)) }) (k .holds)
-      ∙ ap (λ (bs : List ℕ). record { channel = a .channel; bytes = bs }) (k .payload)
+  pub stored-own : packetAt y (k .slot) ≡ payload a datagram
+  stored-own =
+      ap (λ (j : Incoming). ofSlot j (take (j .length) (drop (k .slot * cell) (y .store)))) (k .holds) ∙ ap (ofSlot (arrivedSlot a)) (k .payload)
 
   pub stored-passes : (js : List ℕ) → inItems (y .peer .lists .dispatched) ≡ inItems (p .lists .dispatched) ++ js
       → ((g : List ℕ → ℕ) → Sums g → g (named (y .peer)) ≡ g (k .slot ∷ []) + g (named p))
@@ -206,7 +228,7 @@ module _ (a : Arrival) (datagram : List ℕ) (x y : State) (k : Stores a datagra
               arith,
               count-none f,
               more (passing f y) (passing-adds f y),
-              ap (λ (j : Packet). count f (j ∷ [])) own,
+              ap (λ (j : Packet). count f (j ∷ [])) stored-own,
               ap (count f) (map-same (packetAt y) (packetAt x) (named p) kept),
             );
         order =

@@ -1,12 +1,12 @@
 -- What comes out is what went in: a receive hands out the payload of an arrival that was stored, each of them once, in the order in which they joined
--- dispatched.
+-- dispatched; on each channel the reliable ones bear the numbers 1, 2, 3 and so on, and the others are unsequenced.
 use Prim.Native.Nat.{ℕ, _+_, _*_}
 use mathlib.Core.Path.{_≡_}
-use mathlib.Core.Bool.{Bool, false}
+use mathlib.Core.Bool.{Bool, true, false}
 use mathlib.Core.List.{List, [], _∷_, _++_, map}
 use lib.Dec.{eqb}
 use lib.ListN.{length, getD, take, drop}
-use Rattle.numbers.specs.Pick.{pick}
+use Rattle.numbers.specs.Pick.{pick, both}
 use Rattle.numbers.specs.Answers.{Answer}
 use Rattle.slots.specs.Lists.{inItems}
 use Rattle.parts.specs.Sizes.{cell}
@@ -14,16 +14,22 @@ use Rattle.parts.specs.Fresh.{noIncoming}
 use Rattle.parts.specs.Damage.{below, usedIn}
 use Rattle.peer.specs.Outcome.{State, Outcome}
 use Rattle.peer.specs.declared.defaults.Kept.{Kept}
+use Rattle.arriving.specs.Arrivals.{names}
 use Rattle.arriving.specs.declared.Arrival.{Arrival}
+use Rattle.unsequenced.specs.Calls.{sendUnsequenced}
+use Rattle.reliable.specs.Calls.{sendReliable}
 use Rattle.link.specs.Runs.{Asked, comesTo, saysOne, Packet, packetsOf, run, resetState}
 use Rattle.inward.specs.declared.calls.Call.the-variants as inw
 use Rattle.link.specs.declared.calls.Call.{Call}
 use Rattle.link.specs.declared.calls.Call.the-variants as call
+use Rattle.promises.specs.Counts.{count, those}
+use Rattle.promises.specs.Reports.{series}
 
--- the packet in an incoming slot: its channel, and the bytes of its cell
+-- the packet in an incoming slot: its channel, its byte, its number, and the bytes of its cell
 abbrev pub packetAt : State → ℕ → Packet
 packetAt x s =
-    let i = getD (x .peer .incoming) s noIncoming in record { channel = i .channel; bytes = take (i .length) (drop (s * cell) (x .store)) }
+    let i = getD (x .peer .incoming) s noIncoming in
+    record { channel = i .channel; byte = i .byte; number = i .number .0; bytes = take (i .length) (drop (s * cell) (x .store)) }
 
 -- the packets in dispatched, in their order
 abbrev pub ready : State → List Packet
@@ -35,7 +41,8 @@ present x = map (packetAt x) (usedIn (x .peer .lists) (below (x .peer .channels)
 
 -- the payload of an arrival
 abbrev pub payload : Arrival → List ℕ → Packet
-payload a datagram = record { channel = a .channel; bytes = take (a .length) (drop (a .place) datagram) }
+payload a datagram =
+    record { channel = a .channel; byte = a .byte; number = a .number .0; bytes = take (a .length) (drop (a .place) datagram) }
 
 -- what a call that answers so puts in: an arrival that was stored its payload, any other nothing
 abbrev pub putIn : Call → Answer → List ℕ → List Packet
@@ -66,7 +73,7 @@ entered a x o l =
     record {
       stored = l .stored ++ putIn (a .call) (o .answer) (a .datagram);
       joined = l .joined ++ newly x (o .after);
-      received = l .received ++ packetsOf (a .call) (o .answer) (x .store);
+      received = l .received ++ packetsOf (a .call) (o .answer) x;
     }
 
 -- a reset that is done begins a new ledger
@@ -84,16 +91,22 @@ unfoldable pub ledger : List Asked → State → Ledger → Ledger
 ledger [] x l = l
 ledger (a ∷ rest) x l = ledger rest (comesTo a x .after) (writes a x l)
 
--- how many packets pass a test
-unfoldable pub count : (Packet → Bool) → List Packet → ℕ
-count f [] = 0
-count f (k ∷ ks) = pick (f k) 1 0 + count f ks
+-- a reliable packet of this channel, by its byte; and an unsequenced one
+abbrev pub reliableOn : ℕ → Packet → Bool
+reliableOn channel k = both (eqb (k .channel) channel) (names (k .byte) sendReliable)
+
+abbrev pub isEither : Packet → Bool
+isEither k = pick (names (k .byte) sendReliable) true (names (k .byte) sendUnsequenced)
 
 pub record InAndOut (l : Ledger) (y : State) : Type 0 where
   -- whatever is asked of packets: those received and those still there are the stored ones, each once
   pub once : (f : Packet → Bool) → count f (l .received) + count f (present y) ≡ count f (l .stored)
   -- they come out in the order in which they joined dispatched
   pub order : l .received ++ ready y ≡ l .joined
+  -- on each channel the reliable ones that come out are 1, 2, 3 and so on, past 65,535 to 0
+  pub numbers : (channel : ℕ) → let ks = those (reliableOn channel) (l .received) in map (λ (k : Packet). k .number) ks ≡ series 0 (length ks)
+  -- and what comes out is reliable or unsequenced
+  pub kinds : count isEither (l .received) ≡ length (l .received)
 
 abbrev pub ComesOut : Type 0
 ComesOut =

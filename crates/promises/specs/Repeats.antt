@@ -37,7 +37,7 @@ original (again k ∷ ls) = original ls
 
 -- an inserted call's answer is not the original calls'
 abbrev pub aside : Asked → State → Outcome State → Ran → Ran
-aside a x o rest = record { answers = rest .answers; packets = packetsOf (a .call) (o .answer) (x .store) ++ rest .packets; end = rest .end }
+aside a x o rest = record { answers = rest .answers; packets = packetsOf (a .call) (o .answer) x ++ rest .packets; end = rest .end }
 
 -- the run of all lines, by the call that an insertion is: what the original calls answer in it, all packets that come out, and the end
 unfoldable pub played : {A : Type 0} → (A → Asked) → List (Line A) → State → Ran
