@@ -51,10 +51,12 @@ fresh-holds : (mtu : ℕ) (k : Kept) (store : List ℕ) → Booked freshLedger (
 unfolding freshPeer noLists held count
 fresh-holds mtu k store = record { once = λ f. refl; order = refl }
 
+-- the ledger after a call that comes to this
+abbrev written : Call → List ℕ → State → Outcome State → Ledger → Ledger
+written c datagram x o l = pick (isReset c (o .answer)) freshLedger (with l x (o .after) (putIn c (o .answer) datagram) (packetsOf c (o .answer) x))
+
 abbrev Holds : Settings → Call → List ℕ → State → Ledger → Type 0
-Holds s c datagram x l =
-    let o = step s c datagram x in
-    Booked (pick (isReset c (o .answer)) freshLedger (with l x (o .after) (putIn c (o .answer) datagram) (packetsOf c (o .answer) x))) (o .after)
+Holds s c datagram x l = let o = step s c datagram x in Booked (written c datagram x o l) (o .after)
 
 reset-holds : (s : Settings) (datagram : List ℕ) (x : State) (l : Ledger) → Booked l x → Holds s call.Reset datagram x l
 reset-holds s datagram x l h = go (fitSettings s)
@@ -75,12 +77,12 @@ call-holds (call.Inward (inw.Dispatch channel)) s datagram x l w h = passed l h 
 call-holds (call.Inward inw.Receive) s datagram x l w h = passed l h (receive-passes s x)
 
 -- ---- what stands along a run: what is stored is of either kind; what of it is not reliable has joined; nothing joined before begin
-pub record Sorted (l : Ledger) (x : State) : Type 0 where
+record Sorted (l : Ledger) (x : State) : Type 0 where
   pub known : count isEither (l .stored) ≡ length (l .stored)
   pub early : count other (l .stored) ≤ count other (l .joined)
   pub none : Unbegun (x .peer) → l .joined ≡ []
 
-pub fresh-sorted : (x : State) → Sorted freshLedger x
+fresh-sorted : (x : State) → Sorted freshLedger x
 unfolding count
 fresh-sorted x = record { known = refl; early = omega arith; none = λ z. refl }
 
@@ -118,7 +120,7 @@ late-reliable l x y put out h b none =
       count-append other (map (packetAt y) there) (map (packetAt y) inside),
     )
 
--- ---- the log of a channel, beside the ledger
+-- ---- the log of a channel, beside the ledger: nothing joins; an unsequenced one does; reliable ones of one channel do
 none-log : (channel : ℕ) (ks ls : List Packet) → ls ≡ [] → numbersOn channel ks ≡ numbersOn channel (ks ++ ls)
 none-log channel ks ls e = ap (numbersOn channel) (sym (append-nil ks) ∙ ap (λ (ms : List Packet). ks ++ ms) (sym e))
 
@@ -142,9 +144,6 @@ joined-log channel on x y ks j none =
         ∙ ap (λ (ns : List ℕ). numbersOn channel ks ++ ns) (sym (ap (map (λ (k : Packet). k .number)) e))
 
 -- ---- each call: the ledger after it is sorted, and the log of each channel goes on beside it
-abbrev written : Call → List ℕ → State → Outcome State → Ledger → Ledger
-written c datagram x o l = pick (isReset c (o .answer)) freshLedger (with l x (o .after) (putIn c (o .answer) datagram) (packetsOf c (o .answer) x))
-
 record Next (c : Call) (datagram : List ℕ) (x : State) (o : Outcome State) (l : Ledger) : Type 0 where
   pub sorted : Sorted (written c datagram x o l) (o .after)
   pub logs : (channel : ℕ) → let log = numbersOn channel (l .joined) in
