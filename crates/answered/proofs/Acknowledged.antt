@@ -1,4 +1,4 @@
--- The acknowledgement, for all inputs, refused or not: it frees exactly one slot, of that number and channel, or none; and a sound record stays sound.
+-- The acknowledgement, for all inputs, refused or not: it frees exactly one slot, of that number and channel, or none; a sound record stays sound.
 -- The argument: it changes the lists by a removal alone; so no slot is named more often, and sent names none that it did not name before.
 use Prim.Native.Nat.{ℕ, _≤_}
 use mathlib.Core.Path.{_≡_, refl, ap, subst}

@@ -166,7 +166,8 @@ module _ (slots : List Outgoing) (number channel : ℕ) where
       rw z (that (getD xs (h .place) 0) (h .this))
 
   pub found-bears : (l : Lists) → Bears (slotAt (spotOf slots number channel l) l)
-  found-bears l = go (seek sent 0 (outItems (l .sent))) refl (seek queued 0 (outItems (l .outgoing))) refl (seek queued 0 (outItems (l .reliable))) refl
+  found-bears l =
+      go (seek sent 0 (outItems (l .sent))) refl (seek queued 0 (outItems (l .outgoing))) refl (seek queued 0 (outItems (l .reliable))) refl
     where
       sent : ℕ → ℕ
       sent s = inSent number channel (slot s)
