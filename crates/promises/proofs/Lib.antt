@@ -15,3 +15,10 @@ pub mod Quiet
 pub mod Passing
 pub mod Comings
 pub mod Examples
+pub mod OutCounts
+pub mod OutQueues
+pub mod OutLeaving
+pub mod OutAside
+pub mod OutSetting
+pub mod OutNumbers
+pub mod OutbookLaws

@@ -91,31 +91,31 @@ gate s p = gateOf (fits s lent.Nothing) (sound p)
 
 -- ---- numbers one after another
 -- each is the step of the one before, the first that of n
-abbrev Rises : ℕ → List ℕ → Type 0
+abbrev pub Rises : ℕ → List ℕ → Type 0
 Rises n [] = Unit {0}
 Rises n (x ∷ xs) = (x ≡ counters.step n) × Rises x xs
 
 -- the last of them, n where there is none
-abbrev lastFrom : ℕ → List ℕ → ℕ
+abbrev pub lastFrom : ℕ → List ℕ → ℕ
 lastFrom n [] = n
 lastFrom n (x ∷ xs) = lastFrom x xs
 
-rises-on : (n : ℕ) (xs ys : List ℕ) → Rises n xs → Rises (lastFrom n xs) ys → Rises n (xs ++ ys)
+pub rises-on : (n : ℕ) (xs ys : List ℕ) → Rises n xs → Rises (lastFrom n xs) ys → Rises n (xs ++ ys)
 rises-on n [] ys r t = t
 rises-on n (x ∷ xs) ys r t = (r .0, rises-on x xs ys (r .1) t)
 
-last-on : (n : ℕ) (xs ys : List ℕ) → lastFrom n (xs ++ ys) ≡ lastFrom (lastFrom n xs) ys
+pub last-on : (n : ℕ) (xs ys : List ℕ) → lastFrom n (xs ++ ys) ≡ lastFrom (lastFrom n xs) ys
 last-on n [] ys = refl
 last-on n (x ∷ xs) ys = last-on x xs ys
 
-rises-series : (n : ℕ) (xs : List ℕ) → Rises n xs → xs ≡ series n (length xs)
+pub rises-series : (n : ℕ) (xs : List ℕ) → Rises n xs → xs ≡ series n (length xs)
 unfolding series
 rises-series n [] r = refl
 rises-series n (x ∷ xs) r =
     ap (λ (ys : List ℕ). x ∷ ys) (rises-series x xs (r .1)) ∙ ap (λ (m : ℕ). m ∷ series m (length xs)) (r .0)
 
 -- ---- lists: a part of each element, where one is replaced by another with the same part; a list of one element alone
-part-set : {A B : Type 0} (f : A → B) (l : List A) (i : ℕ) (y d : A) (k : ℕ) → f y ≡ f (getD l i d) → f (getD (set l i y) k d) ≡ f (getD l k d)
+pub part-set : {A B : Type 0} (f : A → B) (l : List A) (i : ℕ) (y d : A) (k : ℕ) → f y ≡ f (getD l i d) → f (getD (set l i y) k d) ≡ f (getD l k d)
 part-set {A} {B} f l i y d k e =
     sym (List·getD-map f (set l i y) k d) ∙ ap (λ (m : List B). getD m k (f d)) (map-set-same f l i y d e) ∙ List·getD-map f l k d
 
