@@ -1,7 +1,7 @@
--- The acknowledgement, for all inputs, refused or not: it frees exactly one slot or none, and a sound record stays sound.
+-- The acknowledgement, for all inputs, refused or not: it frees exactly one slot, of that number and channel, or none; a sound record stays sound.
 -- The argument: it changes the lists by a removal alone; so no slot is named more often, and sent names none that it did not name before.
 use Prim.Native.Nat.{ℕ, _≤_}
-use mathlib.Core.Path.{_≡_, refl, ap}
+use mathlib.Core.Path.{_≡_, refl, ap, subst}
 use mathlib.Core.Bool.{Bool, true, false}
 use mathlib.Core.List.{List}
 use native.Mathlib.Omega.{arith}
@@ -34,14 +34,14 @@ use Rattle.peer.proofs.Gates.{behind-has, sound-open}
 use Rattle.peer.proofs.Sound.{gated-sounds}
 use Rattle.peer.proofs.Clauses.{Clauses, sound-clauses, all-at}
 use Rattle.peer.proofs.OutClauses.{others-fit, out-sound}
-use Rattle.removal.specs.Removal.{spotOf, inSent, inQueue, cut, listsWithout, flowWithout}
+use Rattle.removal.specs.Removal.{spotOf, inSent, inQueue, cut, listsWithout, slotAt, flowWithout}
 use Rattle.removal.specs.declared.Spot.{Spot}
 use Rattle.removal.specs.declared.Spot.the-variants as spot
 use Rattle.removal.proofs.Laws.{Placed, spot-placed}
 use Rattle.acknowledge.specs.Calls.{heardIn, heardAt, acknowledgesBy, acknowledgesSound, acknowledges}
 use Rattle.answered.specs.Freeing.{Removes}
 use Rattle.answered.specs.Freeing as freeing
-use Rattle.answered.proofs.Removing.{Lost, same, loses, removal-loses, cut-items, loses-times, loses-free}
+use Rattle.answered.proofs.Removing.{Lost, same, loses, removal-loses, cut-items, loses-times, loses-free, Bears, found-bears}
 
 -- ---- the spot that is found is a place of its list
 pub found-placed : (slots : List Outgoing) (number channel : ℕ) (l : Lists) → Placed (spotOf slots number channel l) l
@@ -49,10 +49,11 @@ found-placed slots number channel l =
     spot-placed (λ (s : ℕ). inSent number channel (getD slots s noOutgoing)) (λ (s : ℕ). inQueue number channel (getD slots s noOutgoing)) l
 
 -- ---- what it frees
-module _ (p : Peer) (h : sound p ≡ true) (w : Spot) (sample clock : ℕ) where
-  heard-removes : Lost (p .lists) w → Removes p (heardAt w sample clock p .after)
+module _ (p : Peer) (h : sound p ≡ true) (number channel : ℕ) (w : Spot) (sample clock : ℕ)
+    (bears : Bears (p .outgoing) number channel (slotAt w (p .lists))) where
+  heard-removes : Lost (p .lists) w → Removes number channel p (heardAt w sample clock p .after)
   heard-removes (same e) = freeing.none e refl
-  heard-removes (loses l) =
+  heard-removes (loses l is) =
       freeing.one
       (record {
         slot = l .slot;
@@ -60,20 +61,24 @@ module _ (p : Peer) (h : sound p ≡ true) (w : Spot) (sample clock : ℕ) where
         rest = l .rest;
         was = l .was;
         is = l .is;
+        bears = subst (Bears (p .outgoing) number channel) is bears;
         free = loses-free (usedOut (p .lists)) (usedOut (listsWithout w (p .lists))) l (sound-clauses p h .single);
         slots = refl;
       })
 
-by-removes : (t : Trip) (channel number clock : ℕ) (p : Peer) → sound p ≡ true → Removes p (acknowledgesBy t channel number clock p .after)
+by-removes : (t : Trip) (channel number clock : ℕ) (p : Peer) → sound p ≡ true
+    → Removes number channel p (acknowledgesBy t channel number clock p .after)
 by-removes PassedOver channel number clock p h = freeing.none refl refl
 by-removes (Taken sample) channel number clock p h =
     let w = spotOf (p .outgoing) number channel (p .lists) in
-    heard-removes p h w sample clock (removal-loses (p .lists) w (found-placed (p .outgoing) number channel (p .lists)))
+    heard-removes p h number channel w sample clock (found-bears (p .outgoing) number channel (p .lists))
+    (removal-loses (p .lists) w (found-placed (p .outgoing) number channel (p .lists)))
 
-pub acknowledge-removes : (s : Settings) (channel number sent clock : ℕ) (p : Peer) → Removes p (acknowledges s channel number sent clock p .after)
+pub acknowledge-removes : (s : Settings) (channel number sent clock : ℕ) (p : Peer)
+    → Removes number channel p (acknowledges s channel number sent clock p .after)
 acknowledge-removes s channel number sent clock p =
     behind-has (gateOf (fits s lent.Nothing) (sound p)) p (acknowledgesSound channel number sent clock p)
-    (λ (o : Outcome Peer). Removes p (o .after)) (λ why. freeing.none refl refl)
+    (λ (o : Outcome Peer). Removes number channel p (o .after)) (λ why. freeing.none refl refl)
     (λ e. by-removes (heardIn (p .standing .state) clock sent) channel number clock p (sound-open (fits s lent.Nothing) (sound p) e))
 
 -- ---- soundness: what a list without a place keeps
@@ -115,7 +120,7 @@ same-mtu spot.Nowhere o f = refl
 
 used-less : (l : Lists) (w : Spot) → Lost l w → (k : ℕ) → times (usedOut (listsWithout w l)) k ≤ times (usedOut l) k
 used-less l w (same e) k = omega (arith, ap (λ (x : Lists). times (usedOut x) k) e)
-used-less l w (loses x) k = omega (arith, loses-times (usedOut l) (usedOut (listsWithout w l)) x k)
+used-less l w (loses x is) k = omega (arith, loses-times (usedOut l) (usedOut (listsWithout w l)) x k)
 
 heard-sound : (w : Spot) (sample clock : ℕ) (p : Peer) → Placed w (p .lists) → Clauses p → sound (heardAt w sample clock p .after) ≡ true
 heard-sound w sample clock p st c =

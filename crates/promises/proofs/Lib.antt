@@ -24,3 +24,11 @@ pub mod HeldLaws
 pub mod Held
 pub mod NextReliable
 pub mod Sorts
+pub mod OutCounts
+pub mod OutQueues
+pub mod OutLeaving
+pub mod OutAside
+pub mod OutSetting
+pub mod OutNumbers
+pub mod OutbookLaws
+pub mod Promised

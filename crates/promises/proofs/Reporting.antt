@@ -102,7 +102,7 @@ abbrev pub lastFrom : ℕ → List ℕ → ℕ
 lastFrom n [] = n
 lastFrom n (x ∷ xs) = lastFrom x xs
 
-rises-on : (n : ℕ) (xs ys : List ℕ) → Rises n xs → Rises (lastFrom n xs) ys → Rises n (xs ++ ys)
+pub rises-on : (n : ℕ) (xs ys : List ℕ) → Rises n xs → Rises (lastFrom n xs) ys → Rises n (xs ++ ys)
 rises-on n [] ys r t = t
 rises-on n (x ∷ xs) ys r t = (r .0, rises-on x xs ys (r .1) t)
 

@@ -1,0 +1,179 @@
+-- What leaves the three outgoing lists: a send step frees its head only where that asks for no answer, an acknowledgement one slot or none, a timeout
+-- check none. The argument: the lists then name no slot more often, and what a slot holds stays but for its sent time, timeout and attempts.
+use Prim.Native.Nat.{ℕ, _+_, _≤_}
+use mathlib.Core.Path.{_≡_, refl, ap, sym, subst, _∙_}
+use mathlib.Core.Bool.{Bool, true, false}
+use mathlib.Core.List.{List, [], _∷_}
+use native.Mathlib.Omega.{arith}
+use lib.ListN.{getD, set}
+use Rattle.numbers.specs.Pick.{pick}
+use Rattle.runs.specs.Runs.{first}
+use Rattle.runs.specs.Free.{once}
+use Rattle.slots.specs.Lists.{outItems}
+use Rattle.slots.proofs.Keeps.{one, times, times-append}
+use Rattle.parts.specs.Damage.{usedOut}
+use Rattle.parts.specs.Fresh.{noOutgoing}
+use Rattle.parts.specs.declared.groups.Lists.{Lists}
+use Rattle.parts.specs.declared.groups.Outgoing.{Outgoing}
+use Rattle.peer.specs.Damage.{sound}
+use Rattle.peer.specs.Gate.{fits, gateOf}
+use Rattle.peer.specs.Outcome.{Outcome}
+use Rattle.peer.specs.Sounds.{Whole}
+use Rattle.peer.specs.declared.settings.Settings.{Settings}
+use Rattle.peer.specs.declared.record.Peer.{Peer}
+use Rattle.peer.specs.declared.gate.Lent.the-variants as lent
+use Rattle.peer.specs.declared.gate.Gate.{Gate}
+use Rattle.peer.proofs.Gates.{sound-open, behind-has}
+use Rattle.peer.proofs.Clauses.{Clauses, sound-clauses}
+use Rattle.stamps.specs.Counting.{acknowledged}
+use Rattle.sendstep.specs.Steps.{listOf, isAcknowledged, head, sentAs}
+use Rattle.sendstep.specs.Calls.{stepsFrom, stepsSound, steps}
+use Rattle.sendstep.specs.declared.heads.Queue.{Queue}
+use Rattle.sendstep.proofs.Freeing.{sentBy, sent-by, without-takes, joined-keeps}
+use Rattle.acknowledge.specs.Calls.{acknowledgesSound, acknowledges}
+use Rattle.timeouts.specs.Calls.{checksSound, checks}
+use Rattle.answered.specs.Freeing.{Removes}
+use Rattle.answered.specs.Freeing as freeing
+use Rattle.answered.specs.Moving.{Moves}
+use Rattle.answered.proofs.Acknowledged.{acknowledge-removes}
+use Rattle.answered.proofs.Checked.{check-moves, check-sounds}
+use Rattle.promises.specs.Counts.{count}
+use Rattle.promises.specs.Outbook.{Item, itemOf, itemsAt, waiting, missing, gone}
+use Rattle.promises.proofs.Reporting.{part-set}
+use Rattle.promises.proofs.OutCounts.{count-map, map-same, count-same, once-times, missing-none, missing-count}
+
+abbrev gate : Settings → Peer → Gate
+gate s p = gateOf (fits s lent.Nothing) (sound p)
+
+-- the command in a slot
+abbrev pub itemAt : Peer → ℕ → Item
+itemAt p s = itemOf (getD (p .outgoing) s noOutgoing)
+
+abbrev used : Peer → List ℕ
+used p = usedOut (p .lists)
+
+-- ---- two records whose slots hold the same commands
+module _ (p q : Peer) (same : (k : ℕ) → itemAt q k ≡ itemAt p k) where
+  by-slots : (f : Item → Bool) → count f (waiting q) ≡ count (λ (s : ℕ). f (itemAt p s)) (used q)
+  by-slots f = ap (count f) (map-same (itemAt q) (itemAt p) (used q) (λ s h. same s)) ∙ count-map f (itemAt p) (used q)
+
+  -- their lists name each slot as often
+  pub same-waiting : ((k : ℕ) → times (used q) k ≡ times (used p) k) → (f : Item → Bool) → count f (waiting q) ≡ count f (waiting p)
+  same-waiting h f = by-slots f ∙ count-same (λ (s : ℕ). f (itemAt p s)) (used q) (used p) h ∙ sym (count-map f (itemAt p) (used p))
+
+  -- the second's name none more often
+  leaving : once (used p) ≡ true → ((k : ℕ) → times (used q) k ≤ times (used p) k) → (f : Item → Bool)
+      → count f (gone p q) + count f (waiting q) ≡ count f (waiting p)
+  leaving single fewer f =
+      omega (
+        arith,
+        count-map f (itemAt p) (missing (used p) (used q)),
+        by-slots f,
+        count-map f (itemAt p) (used p),
+        missing-count (λ (s : ℕ). f (itemAt p s)) (used p) (used q) single fewer,
+      )
+
+  -- one slot fewer, of a command that does not pass
+  other-waiting : (f : Item → Bool) (s : ℕ) → f (itemAt p s) ≡ false → ((k : ℕ) → one s k + times (used q) k ≡ times (used p) k)
+      → count f (waiting q) ≡ count f (waiting p)
+  unfolding count
+  other-waiting f s fails takes =
+      let none : _≡_ {A = ℕ} (pick (f (itemAt p s)) 1 0) 0 = rw fails in
+      omega (
+        arith,
+        by-slots f,
+        count-map f (itemAt p) (used p),
+        count-same (λ (j : ℕ). f (itemAt p j)) (used p) (s ∷ used q) (λ k. sym (takes k)),
+        none,
+      )
+
+-- what is gone and what still waits are what waited
+abbrev pub Leaves : Peer → Peer → Type 0
+Leaves p q = (f : Item → Bool) → count f (gone p q) + count f (waiting q) ≡ count f (waiting p)
+
+none-gone : (p : Peer) → gone p p ≡ []
+none-gone p = ap (itemsAt p) (missing-none (used p))
+
+none-leaves : (p : Peer) → Leaves p p
+unfolding count
+none-leaves p f = ap (λ (is : List Item). count f is + count f (waiting p)) (none-gone p) ∙ omega arith
+
+-- ---- a send step
+abbrev pub asks : Item → Bool
+asks i = acknowledged (i .command .byte)
+
+pub record Steps (p q : Peer) : Type 0 where
+  pub leaves : Leaves p q
+  pub plain : count asks (gone p q) ≡ 0
+
+none-steps : (p : Peer) → Steps p p
+unfolding count
+none-steps p = record { leaves = none-leaves p; plain = ap (count asks) (none-gone p) }
+
+module _ (k : Queue) (s time : ℕ) (rest : List ℕ) (p : Peer) (e : outItems (listOf k (p .lists)) ≡ s ∷ rest) (w : Clauses p) where
+  abbrev o : Outgoing
+  o = head p s time
+
+  -- the head keeps its command
+  kept-items : (j : ℕ) → itemOf (getD (set (p .outgoing) s o) j noOutgoing) ≡ itemAt p j
+  kept-items j = part-set itemOf (p .outgoing) s o noOutgoing j refl
+
+  by-steps : (b : Bool) → isAcknowledged o ≡ b → Steps p (sentBy b k s o p)
+  by-steps true a =
+      let q = sentBy true k s o p in
+      let same = joined-keeps k (p .lists) s rest e (w .exists) (w .single) in
+      let leaves = leaving p q kept-items (w .single) (λ j. omega (arith, same j)) in
+      record { leaves = leaves; plain = omega (arith, leaves asks, same-waiting p q kept-items same asks) }
+  by-steps false a =
+      let q = sentBy false k s o p in
+      let takes = without-takes k (p .lists) s rest e in
+      let leaves = leaving p q kept-items (w .single) (λ j. omega (arith, takes j)) in
+      record { leaves = leaves; plain = omega (arith, leaves asks, other-waiting p q kept-items asks s a takes) }
+
+  as-steps : Steps p (sentAs k s o p)
+  as-steps = subst (Steps p) (sym (sent-by k s o p)) (by-steps (isAcknowledged o) refl)
+
+pub step-leaves : (s : Settings) (k : Queue) (time : ℕ) (p : Peer) → Steps p (steps s k time p .after)
+step-leaves s k time p =
+    behind-has (gate s p) p (stepsSound k time p) (λ (o : Outcome Peer). Steps p (o .after)) (λ why. none-steps p)
+    (λ e. go (sound-clauses p (sound-open (fits s lent.Nothing) (sound p) e)) (outItems (listOf k (p .lists))) refl)
+  where
+    go : Clauses p → (xs : List ℕ) → outItems (listOf k (p .lists)) ≡ xs → Steps p (stepsFrom (first xs) k time p .after)
+    go w [] e = none-steps p
+    go w (n ∷ rest) e = as-steps k n time rest p e w
+
+-- ---- an acknowledgement
+removes-leaves : (number channel : ℕ) (p q : Peer) → sound p ≡ true → Removes number channel p q → Leaves p q
+removes-leaves number channel p q good (freeing.none lists slots) =
+    leaving p q (λ k. ap (λ (os : List Outgoing). itemOf (getD os k noOutgoing)) slots) (sound-clauses p good .single)
+    (λ k. omega (arith, ap (λ (l : Lists). times (usedOut l) k) lists))
+removes-leaves number channel p q good (freeing.one r) =
+    leaving p q (λ k. ap (λ (os : List Outgoing). itemOf (getD os k noOutgoing)) (r .slots)) (sound-clauses p good .single)
+    (λ k.
+    omega (
+      arith,
+      ap (λ (xs : List ℕ). times xs k) (r .was) ∙ times-append (r .front) (r .slot ∷ r .rest) k,
+      ap (λ (xs : List ℕ). times xs k) (r .is) ∙ times-append (r .front) (r .rest) k,
+    ))
+
+pub acknowledge-leaves : (s : Settings) (channel number sent clock : ℕ) (p : Peer) → Leaves p (acknowledges s channel number sent clock p .after)
+acknowledge-leaves s channel number sent clock p =
+    behind-has (gate s p) p (acknowledgesSound channel number sent clock p)
+    (λ (o : Outcome Peer). Removes number channel p (o .after) → Leaves p (o .after)) (λ why r. none-leaves p)
+    (λ e. removes-leaves number channel p (acknowledgesSound channel number sent clock p .after) (sound-open (fits s lent.Nothing) (sound p) e))
+    (acknowledge-removes s channel number sent clock p)
+
+-- ---- a timeout check
+pub check-keeps : (s : Settings) (clock : ℕ) (p : Peer) → Whole p → (f : Item → Bool)
+    → count f (waiting (checks s clock p .after)) ≡ count f (waiting p)
+check-keeps s clock p whole =
+    behind-has (gate s p) p (checksSound clock p)
+    (λ (o : Outcome Peer).
+    (sound p ≡ true → sound (o .after) ≡ true) → Moves p (o .after) → (f : Item → Bool) → count f (waiting (o .after)) ≡ count f (waiting p))
+    (λ why keeps m f. refl)
+    (λ e keeps m.
+    let good = sound-open (fits s lent.Nothing) (sound p) e in
+    let q = checksSound clock p .after in
+    same-waiting p q (λ k. ap itemOf (m .slots k))
+    (once-times (used q) (used p) (sound-clauses q (keeps good) .single) (sound-clauses p good .single) (m .names)))
+    (check-sounds s clock .keeps p whole) (check-moves s clock p)
