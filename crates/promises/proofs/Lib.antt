@@ -15,6 +15,7 @@ pub mod Quiet
 pub mod Passing
 pub mod Comings
 pub mod Examples
+pub mod Fitting
 pub mod Marking
 pub mod Eight
 pub mod ReportTraces

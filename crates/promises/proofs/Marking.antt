@@ -8,8 +8,8 @@ use mathlib.Core.List.{List, [], _∷_}
 use mathlib.Core.Logic.{_⊎_, inr, ⊎-elim}
 use native.Mathlib.Omega.{arith}
 use lib.Dec.{eqb, leb}
-use lib.ListN.{length, length-set, length-replicate}
-use borrow.Author.Tests.{eqb-true, eqb-false, eq-eqb, ne-eqb, lt-ltb, le-ltb, lt-leb}
+use lib.ListN.{length, length-replicate}
+use borrow.Author.Tests.{eqb-true, eqb-false, eq-eqb, ne-eqb, le-ltb, lt-leb}
 use Rattle.numbers.specs.Pick.{pick, both}
 use Rattle.numbers.specs.Limits.{windowWords}
 use Rattle.numbers.specs.Answers.{numberOf}
@@ -23,12 +23,11 @@ use Rattle.runs.specs.declared.Free.{Free}
 use Rattle.runs.specs.declared.Free.the-variants.{Lowest, Full}
 use Rattle.window.specs.Window.{first, distant, marked, marking, cleared}
 use Rattle.window.proofs.Marks.{marked-cleared, marked-same, marked-other}
-use Rattle.parts.specs.Sizes.{storeLength}
 use Rattle.parts.specs.declared.groups.Groups.{Groups}
 use Rattle.peer.specs.Damage.{sound}
 use Rattle.peer.specs.Gate.{fits, gateOf, then, behind}
 use Rattle.peer.specs.Settings.{fitSettings}
-use Rattle.peer.specs.States.{connected, disconnectLater}
+use Rattle.peer.specs.States.{disconnectLater}
 use Rattle.peer.specs.Fresh.{freshPeer}
 use Rattle.peer.specs.Outcome.{State, Outcome, unchanged}
 use Rattle.peer.specs.declared.settings.Settings.{Settings}
@@ -39,7 +38,7 @@ use Rattle.peer.specs.declared.gate.Gate.the-variants.{Open, Shut}
 use Rattle.peer.proofs.Gates.{behind-open, behind-has}
 use Rattle.opening.specs.Calls.{kept, resets}
 use Rattle.storing.specs.Storing.{freeSlot}
-use Rattle.arriving.specs.Arrivals.{answerOf, names, isReceiving, isWhole, arrivalGate, inSlot, roomFor, roomOf, replyOf}
+use Rattle.arriving.specs.Arrivals.{answerOf, names, isReceiving, isWhole, arrivalGate, inSlot, roomOf, replyOf}
 use Rattle.arriving.specs.Window.{takenAt, passedBy, judged}
 use Rattle.arriving.specs.declared.Arrival.{Arrival}
 use Rattle.arriving.specs.declared.Fate.{Fate}
@@ -56,34 +55,13 @@ use Rattle.inward.specs.declared.calls.Call.the-variants as inw
 use Rattle.link.specs.declared.calls.Call.{Call}
 use Rattle.link.specs.declared.calls.Call.the-variants as call
 use Rattle.promises.specs.History.{Concern, resetting, arriving, neither, concern, baseOf}
-use Rattle.promises.specs.Next.{Fits, unsequencedly, NearStored}
+use Rattle.promises.specs.Repeats.{unsequencedly}
+use Rattle.promises.specs.Next.{NearStored}
 use Rattle.promises.specs.Marks.{takes, tookBy, took, MarkedExactly, Aside, StoredAfterEight}
 use Rattle.promises.proofs.Picks.{picked}
-use Rattle.promises.proofs.Windows.{Window, windowIn, windowOf}
+use Rattle.promises.proofs.Fitting.{fits-open, fits-admitted, fits-room}
+use Rattle.promises.proofs.Windows.{Window, windowIn, windowOf, length-marking}
 use Rattle.promises.proofs.Sending.{outward-steady}
-
--- ---- what fits finds both gates open, and room
-module _ (command : ℕ) (s : Settings) (a : Arrival) (datagram : List ℕ) (x : State) (f : Fits command s a datagram x) where
-  pub fits-open : sound (x .peer) ≡ true → gateOf (fits s (Store (length (x .store)))) (sound (x .peer)) ≡ Open
-  fits-open good = rw (f .settings, eq-eqb (length (x .store)) storeLength (f .store), good)
-
-  pub fits-admitted : arrivalGate command a s (x .peer .standing) (length datagram) ≡ Open
-  fits-admitted =
-      let here = lt-ltb (a .channel) (x .peer .standing .count) (f .on) in
-      let five = eq-eqb (x .peer .standing .state) connected (f .state) in
-      rw (f .byte, here, five, f .whole)
-
-  -- its slot is the lowest free one
-  pub fits-room : (n : ℕ) × (roomOf s (x .peer) ≡ fate.Stored n)
-  fits-room = go (freeSlot (x .peer .lists) (x .peer .channels) (x .peer .standing .count)) refl
-    where
-      go : (free : Free) → freeSlot (x .peer .lists) (x .peer .channels) (x .peer .standing .count) ≡ free
-          → (n : ℕ) × (roomFor s (x .peer .standing .state) (x .peer .waiting .total) free ≡ fate.Stored n)
-      go Full e = absurd (f .slot e)
-      go (Lowest n) e =
-          let five = f .state in
-          let later = ne-eqb (x .peer .standing .state) disconnectLater (λ six. omega (arith, five, six)) in
-          (n, rw (later, lt-leb (s .waiting) (x .peer .waiting .total) (f .below)))
 
 -- a group that is near, in another window than the base's or not marked, is taken
 near-taken : (gs : Groups) (g : Group) (n : ℕ) → distant (gs .incoming .0) (g .0) ≡ false
@@ -221,10 +199,6 @@ at base words = record { base = base; words = words }
 cleared-marks : (base : ℕ) → Marks (at base cleared) []
 cleared-marks base = record { full = length-replicate {A = ℕ} windowWords 0; exact = λ h home. marked-cleared h }
 
-marking-full : (words : List ℕ) (g : ℕ) → length words ≡ windowWords → length (marking words g) ≡ windowWords
-unfolding marking
-marking-full words g full = length-set words (g % 1024 / 32) _ ∙ full
-
 -- words that mark g, and every other group as the log says
 grown-marks : (w : Window) (log : List ℕ) (g : ℕ) → length (w .words) ≡ windowWords → marked (w .words) g ≡ true
     → ((h : ℕ) → (g ≡ h → ⊥) → first h ≡ w .base → marked (w .words) h ≡ has log h) → Marks w (g ∷ log)
@@ -237,7 +211,7 @@ grown-marks w log g full here others = record { full = full; exact = λ h home. 
 -- marked now
 join-marks : (base : ℕ) (words log : List ℕ) (g : ℕ) → first g ≡ base → Marks (at base words) log → Marks (at base (marking words g)) (g ∷ log)
 join-marks base words log g here m =
-    grown-marks (at base (marking words g)) log g (marking-full words g (m .full)) (marked-same words g (m .full))
+    grown-marks (at base (marking words g)) log g (length-marking words g ∙ m .full) (marked-same words g (m .full))
     (λ h n home. marked-other words g h (m .full) (λ p. n (omega (arith, p, home, here))) ∙ m .exact h home)
 
 -- marked already

@@ -9,31 +9,23 @@ use native.Mathlib.Omega.{arith}
 use lib.Dec.{eqb, ltb}
 use lib.ListN.{length, take, drop, getD, set}
 use lib.Seq.{getD-set-same}
-use borrow.Author.Tests.{eq-eqb, lt-ltb, lt-leb}
+use borrow.Author.Tests.{eq-eqb}
 use Rattle.numbers.specs.Pick.{pick}
 use Rattle.numbers.specs.Counters.{step}
-use Rattle.numbers.proofs.BoolLaws.{both-true}
 use Rattle.slots.specs.Lists.{inItems}
-use Rattle.runs.specs.declared.Free.{Free}
-use Rattle.runs.specs.declared.Free.the-variants.{Lowest, Full}
-use Rattle.parts.specs.Sizes.{storeLength}
 use Rattle.parts.specs.Fresh.{noIncoming}
 use Rattle.parts.specs.declared.groups.Channel.{Channel}
 use Rattle.parts.specs.declared.groups.Incoming.{Incoming}
 use Rattle.peer.specs.Damage.{sound}
 use Rattle.peer.specs.Gate.{fits, gateOf}
 use Rattle.peer.specs.Sounds.{Whole}
-use Rattle.peer.specs.Settings.{fitSettings}
-use Rattle.peer.specs.States.{connected}
 use Rattle.peer.specs.Outcome.{State}
 use Rattle.peer.specs.declared.settings.Settings.{Settings}
 use Rattle.peer.specs.declared.record.Peer.{Peer}
 use Rattle.peer.specs.declared.gate.Lent.the-variants.{Store}
-use Rattle.peer.specs.declared.gate.Gate.the-variants.{Open}
 use Rattle.peer.proofs.Gates.{behind-open}
 use Rattle.dispatching.specs.Dispatching.{follows, numberAfter, readyCount}
-use Rattle.storing.specs.Storing.{freeSlot}
-use Rattle.arriving.specs.Arrivals.{stored, answerOf, isReceiving, arrivalGate, replyOf, inSlot, roomFor, roomOf, arrivedSlot}
+use Rattle.arriving.specs.Arrivals.{stored, answerOf, arrivalGate, replyOf, roomOf, arrivedSlot}
 use Rattle.arriving.specs.declared.Arrival.{Arrival}
 use Rattle.arriving.specs.declared.Fate.{Fate}
 use Rattle.arriving.specs.declared.Fate.the-variants as fate
@@ -45,40 +37,11 @@ use Rattle.link.specs.Runs.{run, resetState}
 use Rattle.promises.specs.Reports.{numbersJoined, series}
 use Rattle.promises.specs.Held.{lastIn}
 use Rattle.promises.specs.Next.{Fits, Delivers, NextDelivered}
+use Rattle.promises.proofs.Fitting.{fits-open, fits-admitted, fits-room}
 use Rattle.promises.proofs.Sounding.{fresh-whole, reset-stands, run-stands}
 use Rattle.promises.proofs.Reporting.{Plain, plain-set, numbersOf, rises-series, ready-rises, joined, is-more}
 use Rattle.promises.proofs.HeldLaws.{Stands, next-near, next-free, nearest}
 use Rattle.promises.proofs.Held.{Orderly, in-pool, longer, longer-is, free-now, after, own-stored, fresh-orderly, run-orderly, none-ready}
-
--- ---- what fits passes both gates, and there is room
-module _ (command : ℕ) (s : Settings) (a : Arrival) (datagram : List ℕ) (x : State) (good : sound (x .peer) ≡ true)
-    (f : Fits command s a datagram x) where
-  pub gate-open : gateOf (fits s (Store (length (x .store)))) (sound (x .peer)) ≡ Open
-  gate-open = rw (good, both-true (fitSettings s) (eqb (length (x .store)) storeLength) (f .settings) (eq-eqb (length (x .store)) storeLength (f .store)))
-
-  receiving : isReceiving (a .channel) (x .peer .standing) ≡ true
-  receiving = rw (lt-ltb (a .channel) (x .peer .standing .count) (f .on), f .state)
-
-  pub arrival-open : arrivalGate command a s (x .peer .standing) (length datagram) ≡ Open
-  arrival-open = rw (f .byte, receiving, f .whole)
-
-  pub record Room : Type 0 where
-    pub slot : ℕ
-    pub is : roomOf s (x .peer) ≡ fate.Stored slot
-
-  abbrev free : Free
-  free = freeSlot (x .peer .lists) (x .peer .channels) (x .peer .standing .count)
-
-  pub room-there : Room
-  room-there = go free refl
-    where
-      by : (state total : ℕ) (l : Free) → state ≡ connected → total < s .waiting → roomFor s state total l ≡ inSlot l
-      by state total l e h = rw (e, lt-leb (s .waiting) total h)
-
-      go : (l : Free) → free ≡ l → Room
-      go (Lowest n) e =
-          record { slot = n; is = by (x .peer .standing .state) (x .peer .waiting .total) free (f .state) (f .below) ∙ ap inSlot e }
-      go Full e = absurd (f .slot e)
 
 -- ---- the next number
 module _ (s : Settings) (a : Arrival) (datagram : List ℕ) (x : State) (w : Whole (x .peer)) (good : sound (x .peer) ≡ true)
@@ -111,20 +74,20 @@ module _ (s : Settings) (a : Arrival) (datagram : List ℕ) (x : State) (w : Who
       by d b z q = rw (z, q)
 
   abbrev n : ℕ
-  n = room-there sendReliable s a datagram x good f .slot
+  n = fits-room sendReliable s a datagram x f .0
 
   stored-there : fateOn s a p ≡ fate.Stored n
-  stored-there = ap (λ (b : Bool). fateOf b (roomOf s p)) not-passed ∙ room-there sendReliable s a datagram x good f .is
+  stored-there = ap (λ (b : Bool). fateOf b (roomOf s p)) not-passed ∙ fits-room sendReliable s a datagram x f .1
 
   comes : arrivesReliable s a datagram x ≡ record { answer = stored; after = reliableAfter (fate.Stored n) a datagram x }
   comes =
       behind-open (gateOf (fits s (Store (length (x .store)))) (sound p)) x (reliableSound s a datagram x)
-      (gate-open sendReliable s a datagram x good f)
-      ∙ behind-open (arrivalGate sendReliable a s (p .standing) (length datagram)) x _ (arrival-open sendReliable s a datagram x good f)
+      (fits-open sendReliable s a datagram x f good)
+      ∙ behind-open (arrivalGate sendReliable a s (p .standing) (length datagram)) x _ (fits-admitted sendReliable s a datagram x f)
       ∙ ap (λ (t : Fate). record { answer = answerOf (replyOf t); after = reliableAfter t a datagram x }) stored-there
 
   may : Admitted a (p .standing) (length datagram)
-  may = admitted sendReliable a s (p .standing) (length datagram) (arrival-open sendReliable s a datagram x good f)
+  may = admitted sendReliable a s (p .standing) (length datagram) (fits-admitted sendReliable s a datagram x f)
 
   low : a .number .0 < 65536
   low = omega (arith, e)

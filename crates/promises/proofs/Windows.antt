@@ -58,7 +58,7 @@ pub record Took (w v : Window) (g : ℕ) (marks : Bool) : Type 0 where
   pub base : v .base ≡ baseAfter (w .base) (w .words) g
   pub words : v .words ≡ pick marks (marking (wordsAfter (w .base) (w .words) g) g) (wordsAfter (w .base) (w .words) g)
 
-length-marking : (words : List ℕ) (g : ℕ) → length (marking words g) ≡ length words
+pub length-marking : (words : List ℕ) (g : ℕ) → length (marking words g) ≡ length words
 unfolding marking
 length-marking words g = length-set words (g % 1024 / 32) _
 

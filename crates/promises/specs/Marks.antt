@@ -20,7 +20,8 @@ use Rattle.arriving.specs.declared.Arrival.{Arrival}
 use Rattle.unsequenced.specs.Calls.{sendUnsequenced}
 use Rattle.link.specs.Runs.{Asked, comesTo, saysOne, run, resetState}
 use Rattle.promises.specs.History.{Concern, resetting, arriving, neither, concern, baseOf}
-use Rattle.promises.specs.Next.{Fits, unsequencedly}
+use Rattle.promises.specs.Repeats.{unsequencedly}
+use Rattle.promises.specs.Next.{Fits}
 
 -- an arrival of group g that answers so took it: delivered; or, in state 6, passed over in the window that is then the base's
 abbrev pub takes : ℕ → State → Outcome State → Bool

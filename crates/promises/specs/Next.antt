@@ -27,6 +27,7 @@ use Rattle.inward.specs.declared.calls.Call.the-variants as inw
 use Rattle.link.specs.declared.calls.Call.{Call}
 use Rattle.link.specs.declared.calls.Call.the-variants as call
 use Rattle.promises.specs.History.{baseOf}
+use Rattle.promises.specs.Repeats.{unsequencedly}
 use Rattle.promises.specs.Reports.{numbersJoined, series}
 use Rattle.promises.specs.Held.{lastIn, NoneReady, AllNumbered}
 
@@ -61,10 +62,6 @@ NextDelivered =
     Fits sendReliable s a datagram y
     → a .number .0 ≡ step (lastIn y (a .channel))
     → Delivers (a .channel) y (comesTo (reliably s a datagram) y)
-
--- an unsequenced arrival with its settings and its datagram
-abbrev pub unsequencedly : Settings → Arrival → Group → List ℕ → Asked
-unsequencedly s a g datagram = record { settings = s; call = call.Inward (inw.UnsequencedArrival a g); datagram = datagram }
 
 -- of any sound record: near, and in another window than the base's or not marked
 abbrev pub NearStored : Type 0

@@ -21,8 +21,11 @@ pub record Insertion : Type 0 where
   pub group : Group
   pub datagram : List ℕ
 
+abbrev pub unsequencedly : Settings → Arrival → Group → List ℕ → Asked
+unsequencedly s a g datagram = record { settings = s; call = call.Inward (inw.UnsequencedArrival a g); datagram = datagram }
+
 abbrev pub arrives : Insertion → Asked
-arrives k = record { settings = k .settings; call = call.Inward (inw.UnsequencedArrival (k .arrival) (k .group)); datagram = k .datagram }
+arrives k = unsequencedly (k .settings) (k .arrival) (k .group) (k .datagram)
 
 -- a line of a run with insertions: a call of the original run, or something that was inserted
 pub data Line (A : Type 0) : Type 0 where
