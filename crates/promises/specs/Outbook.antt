@@ -102,7 +102,7 @@ enters (out.Send channel length flags) p q b = queues (joinedOut p q) b
 enters (out.Setup piece) p q b = queues (joinedOut p q) b
 enters (out.SendStep queue time) p q b = record { queued = b .queued; removed = b .removed; freed = b .freed ++ gone p q }
 enters (out.Acknowledgement channel number sent clock) p q b =
-    let heard = map (λ (i : Item). record { item = i; number = number .0; channel = channel }) (gone p q) in
+    let heard : List Removed = map (λ (i : Item). record { item = i; number = number .0; channel = channel }) (gone p q) in
     record { queued = b .queued; removed = b .removed ++ heard; freed = b .freed }
 enters (out.TimeoutCheck clock) p q b = b
 enters (out.Throttle sample) p q b = b
