@@ -6,6 +6,7 @@ use mathlib.Core.Bool.{Bool, true, false}
 use mathlib.Core.List.{List, [], _∷_, _++_, map, map-append}
 use native.Mathlib.Omega.{arith}
 use lib.Dec.{eqb}
+use lib.ListN.{length}
 use borrow.Author.Tests.{eqb-true, eq-eqb}
 use Rattle.numbers.specs.Pick.{pick}
 use Rattle.runs.specs.Runs.{has}
@@ -24,11 +25,17 @@ module _ {A : Type 0} (f : A → Bool) where
   count-append [] ls = omega arith
   count-append (k ∷ ks) ls = omega (arith, count-append ks ls)
 
-  -- what is made of slots, by a test of the slots
-  pub count-map : (g : ℕ → A) (ss : List ℕ) → count f (map g ss) ≡ count (λ (s : ℕ). f (g s)) ss
+  -- what is made of others, by a test of the others
+  pub count-map : {B : Type 0} (g : B → A) (ss : List B) → count f (map g ss) ≡ count (λ (s : B). f (g s)) ss
   unfolding count
   count-map g [] = refl
   count-map g (s ∷ ss) = ap (λ (n : ℕ). pick (f (g s)) 1 0 + n) (count-map g ss)
+
+-- a test that all pass
+pub count-all : {A : Type 0} (ks : List A) → count (λ (k : A). true) ks ≡ length ks
+unfolding count
+count-all [] = refl
+count-all (k ∷ ks) = omega (arith, count-all ks)
 
 -- what is the same of every slot of a list
 pub map-same : {A : Type 0} (f g : ℕ → A) (xs : List ℕ) → ((s : ℕ) → 0 < times xs s → f s ≡ g s) → map f xs ≡ map g xs

@@ -1,11 +1,12 @@
--- What leaves the three outgoing lists: a send step frees its head only where that asks for no answer, an acknowledgement one slot or none, a timeout
--- check none. The argument: the lists then name no slot more often, and what a slot holds stays but for its sent time, timeout and attempts.
+-- What leaves the three outgoing lists: a send step frees its head only where that asks for no answer, an acknowledgement one slot of the number and
+-- channel that it names or none, a timeout check none. The argument: the lists then name no slot more often, and what a slot holds stays but for its
+-- sent time, timeout and attempts.
 use Prim.Native.Nat.{ℕ, _+_, _≤_}
 use mathlib.Core.Path.{_≡_, refl, ap, sym, subst, _∙_}
 use mathlib.Core.Bool.{Bool, true, false}
 use mathlib.Core.List.{List, [], _∷_}
 use native.Mathlib.Omega.{arith}
-use lib.ListN.{getD, set}
+use lib.ListN.{length, getD, set}
 use Rattle.numbers.specs.Pick.{pick}
 use Rattle.runs.specs.Runs.{first}
 use Rattle.runs.specs.Free.{once}
@@ -38,9 +39,9 @@ use Rattle.answered.specs.Moving.{Moves}
 use Rattle.answered.proofs.Acknowledged.{acknowledge-removes}
 use Rattle.answered.proofs.Checked.{check-moves, check-sounds}
 use Rattle.promises.specs.Counts.{count}
-use Rattle.promises.specs.Outbook.{Item, itemOf, itemsAt, waiting, missing, gone}
+use Rattle.promises.specs.Outbook.{Item, itemOf, itemsAt, waiting, missing, gone, Removed, isNamed}
 use Rattle.promises.proofs.Reporting.{part-set}
-use Rattle.promises.proofs.OutCounts.{count-map, map-same, count-same, once-times, missing-none, missing-count}
+use Rattle.promises.proofs.OutCounts.{count-map, count-all, map-same, count-same, once-times, missing-none, missing-count}
 
 abbrev gate : Settings → Peer → Gate
 gate s p = gateOf (fits s lent.Nothing) (sound p)
@@ -73,18 +74,17 @@ module _ (p q : Peer) (same : (k : ℕ) → itemAt q k ≡ itemAt p k) where
         missing-count (λ (s : ℕ). f (itemAt p s)) (used p) (used q) single fewer,
       )
 
-  -- one slot fewer, of a command that does not pass
-  other-waiting : (f : Item → Bool) (s : ℕ) → f (itemAt p s) ≡ false → ((k : ℕ) → one s k + times (used q) k ≡ times (used p) k)
-      → count f (waiting q) ≡ count f (waiting p)
+  -- one slot fewer, and its command is gone
+  one-gone : once (used p) ≡ true → (s : ℕ) → ((k : ℕ) → one s k + times (used q) k ≡ times (used p) k) → (f : Item → Bool)
+      → count f (gone p q) ≡ pick (f (itemAt p s)) 1 0
   unfolding count
-  other-waiting f s fails takes =
-      let none : _≡_ {A = ℕ} (pick (f (itemAt p s)) 1 0) 0 = rw fails in
+  one-gone single s takes f =
       omega (
         arith,
         by-slots f,
         count-map f (itemAt p) (used p),
         count-same (λ (j : ℕ). f (itemAt p j)) (used p) (s ∷ used q) (λ k. sym (takes k)),
-        none,
+        leaving single (λ k. omega (arith, takes k)) f,
       )
 
 -- what is gone and what still waits are what waited
@@ -128,7 +128,7 @@ module _ (k : Queue) (s time : ℕ) (rest : List ℕ) (p : Peer) (e : outItems (
       let q = sentBy false k s o p in
       let takes = without-takes k (p .lists) s rest e in
       let leaves = leaving p q kept-items (w .single) (λ j. omega (arith, takes j)) in
-      record { leaves = leaves; plain = omega (arith, leaves asks, other-waiting p q kept-items asks s a takes) }
+      record { leaves = leaves; plain = one-gone p q kept-items (w .single) s takes asks ∙ ap (λ (b : Bool). pick b 1 0) a }
 
   as-steps : Steps p (sentAs k s o p)
   as-steps = subst (Steps p) (sym (sent-by k s o p)) (by-steps (isAcknowledged o) refl)
@@ -143,24 +143,67 @@ step-leaves s k time p =
     go w (n ∷ rest) e = as-steps k n time rest p e w
 
 -- ---- an acknowledgement
-removes-leaves : (number channel : ℕ) (p q : Peer) → sound p ≡ true → Removes number channel p q → Leaves p q
-removes-leaves number channel p q good (freeing.none lists slots) =
-    leaving p q (λ k. ap (λ (os : List Outgoing). itemOf (getD os k noOutgoing)) slots) (sound-clauses p good .single)
-    (λ k. omega (arith, ap (λ (l : Lists). times (usedOut l) k) lists))
-removes-leaves number channel p q good (freeing.one r) =
-    leaving p q (λ k. ap (λ (os : List Outgoing). itemOf (getD os k noOutgoing)) (r .slots)) (sound-clauses p good .single)
-    (λ k.
-    omega (
-      arith,
-      ap (λ (xs : List ℕ). times xs k) (r .was) ∙ times-append (r .front) (r .slot ∷ r .rest) k,
-      ap (λ (xs : List ℕ). times xs k) (r .is) ∙ times-append (r .front) (r .rest) k,
-    ))
+-- a command as one that names this number and channel removes it
+abbrev pub heard : ℕ → ℕ → Item → Removed
+heard number channel i = record { item = i; number = number; channel = channel }
 
-pub acknowledge-leaves : (s : Settings) (channel number sent clock : ℕ) (p : Peer) → Leaves p (acknowledges s channel number sent clock p .after)
-acknowledge-leaves s channel number sent clock p =
+abbrev bears : ℕ → ℕ → Item → Bool
+bears number channel i = isNamed (heard number channel i)
+
+pub record Hears (number channel : ℕ) (p q : Peer) : Type 0 where
+  pub leaves : Leaves p q
+  pub named : count (bears number channel) (gone p q) ≡ length (gone p q)
+
+none-hears : (number channel : ℕ) (p : Peer) → Hears number channel p p
+unfolding count
+none-hears number channel p =
+    record { leaves = none-leaves p; named = ap (count (bears number channel)) (none-gone p) ∙ sym (ap length (none-gone p)) }
+
+module _ (number channel : ℕ) (p q : Peer) (good : sound p ≡ true) where
+  abbrev single : once (used p) ≡ true
+  single = sound-clauses p good .single
+
+  same-items : q .outgoing ≡ p .outgoing → (k : ℕ) → itemAt q k ≡ itemAt p k
+  same-items slots k = ap (λ (os : List Outgoing). itemOf (getD os k noOutgoing)) slots
+
+  removes-hears : Removes number channel p q → Hears number channel p q
+  removes-hears (freeing.none lists slots) =
+      let same : (k : ℕ) → times (used q) k ≡ times (used p) k = λ k. ap (λ (l : Lists). times (usedOut l) k) lists in
+      let leaves = leaving p q (same-items slots) single (λ k. omega (arith, same k)) in
+      let all : Item → Bool = λ i. true in
+      record {
+        leaves = leaves;
+        named =
+            omega (
+              arith,
+              leaves (bears number channel),
+              same-waiting p q (same-items slots) same (bears number channel),
+              leaves all,
+              same-waiting p q (same-items slots) same all,
+              count-all (gone p q),
+            );
+      }
+  removes-hears (freeing.one r) =
+      let takes : (k : ℕ) → one (r .slot) k + times (used q) k ≡ times (used p) k =
+      λ k.
+      omega (
+        arith,
+        ap (λ (xs : List ℕ). times xs k) (r .was) ∙ times-append (r .front) (r .slot ∷ r .rest) k,
+        ap (λ (xs : List ℕ). times xs k) (r .is) ∙ times-append (r .front) (r .rest) k,
+      ) in
+      let goes = one-gone p q (same-items (r .slots)) single (r .slot) takes in
+      let that : _≡_ {A = ℕ} (pick (bears number channel (itemAt p (r .slot))) 1 0) 1 = ap (λ (b : Bool). pick b 1 0) (r .bears) in
+      record {
+        leaves = leaving p q (same-items (r .slots)) single (λ k. omega (arith, takes k));
+        named = omega (arith, goes (bears number channel), that, goes (λ (i : Item). true), count-all (gone p q));
+      }
+
+pub acknowledge-hears : (s : Settings) (channel number sent clock : ℕ) (p : Peer)
+    → Hears number channel p (acknowledges s channel number sent clock p .after)
+acknowledge-hears s channel number sent clock p =
     behind-has (gate s p) p (acknowledgesSound channel number sent clock p)
-    (λ (o : Outcome Peer). Removes number channel p (o .after) → Leaves p (o .after)) (λ why r. none-leaves p)
-    (λ e. removes-leaves number channel p (acknowledgesSound channel number sent clock p .after) (sound-open (fits s lent.Nothing) (sound p) e))
+    (λ (o : Outcome Peer). Removes number channel p (o .after) → Hears number channel p (o .after)) (λ why r. none-hears number channel p)
+    (λ e. removes-hears number channel p (acknowledgesSound channel number sent clock p .after) (sound-open (fits s lent.Nothing) (sound p) e))
     (acknowledge-removes s channel number sent clock p)
 
 -- ---- a timeout check

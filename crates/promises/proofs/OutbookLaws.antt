@@ -1,13 +1,13 @@
--- Along every run from a reset every command that was queued is in exactly one place: in one of the three lists, removed by an acknowledgement, or
--- freed by a send step that needed no answer; and on each channel the reliable numbers of what was queued are 1, 2, 3 and so on.
--- The argument: setup, ping and send add to the lists what joins at their ends; a send step and an acknowledgement take from them what is gone; a
--- timeout check moves it; no other call touches it; and a reset that is done begins with nothing.
+-- Along every run from a reset every command that was queued is in exactly one place: in one of the three lists, removed by an acknowledgement that
+-- named its number and channel, or freed by a send step that needed no answer; and on each channel the reliable numbers of what was queued are
+-- 1, 2, 3 and so on. The argument: setup, ping and send add to the lists what joins at their ends; a send step and an acknowledgement take from them
+-- what is gone; a timeout check moves it; no other call touches it; and a reset that is done begins with nothing.
 use Prim.Native.Nat.{ℕ, _+_}
 use mathlib.Core.Path.{_≡_, refl, ap, ap₂, sym, subst, _∙_}
 use mathlib.Core.Bool.{Bool, true, false}
-use mathlib.Core.List.{List, [], _∷_, _++_, map, append-nil}
+use mathlib.Core.List.{List, [], _∷_, _++_, map, map-append, append-nil}
 use native.Mathlib.Omega.{arith}
-use lib.ListN.{length-map}
+use lib.ListN.{length, length-map, length-append}
 use lib.Seq.{drop-length}
 use Rattle.numbers.specs.Pick.{pick}
 use Rattle.numbers.specs.declared.refusals.Refusal.the-variants.{OutOfRange}
@@ -34,19 +34,20 @@ use Rattle.link.specs.declared.calls.Call.the-variants as call
 use Rattle.promises.specs.Counts.{count, those}
 use Rattle.promises.specs.Packets.{isReset}
 use Rattle.promises.specs.Reports.{series}
-use Rattle.promises.specs.Outbook.{Item, itemsAt, waiting, joinedOut, gone, Outbook, freshOutbook, queues, enters, booked, writesOut, outbook, numberedOn, NoneLost}
+use Rattle.promises.specs.Outbook.{Item, itemsAt, waiting, joinedOut, gone, Removed, isNamed, Outbook, itemsOf, freshOutbook, queues, enters, booked, writesOut, outbook, numberedOn, NoneLost}
 use Rattle.promises.proofs.Reporting.{rises-series}
 use Rattle.promises.proofs.Sounding.{fresh-whole, call-sounds}
-use Rattle.promises.proofs.OutCounts.{count-append}
+use Rattle.promises.proofs.OutCounts.{count-append, count-map}
 use Rattle.promises.proofs.OutQueues.{news, joined-news, queues-once}
 use Rattle.promises.proofs.OutSetting.{Queues, none, some, setup-queues, ping-queues, send-queues}
-use Rattle.promises.proofs.OutLeaving.{asks, Leaves, step-leaves, acknowledge-leaves, check-keeps}
+use Rattle.promises.proofs.OutLeaving.{asks, Leaves, heard, Hears, step-leaves, acknowledge-hears, check-keeps}
 use Rattle.promises.proofs.OutAside.{begin-leaves, Uncounted, Aside, aside-waiting, state-aside, throttle-aside, receive-aside, dispatch-aside, unsequenced-aside, reliable-aside}
 use Rattle.promises.proofs.OutNumbers.{Counted, uncounted-counted, pieces-counted, fresh-counted, begin-counted, step-uncounted, acknowledge-uncounted, check-uncounted}
 
 -- what stands along a run
 record Books (b : Outbook) (p : Peer) : Type 0 where
-  once : (f : Item → Bool) → count f (b .queued) ≡ count f (waiting p) + count f (b .removed) + count f (b .freed)
+  once : (f : Item → Bool) → count f (b .queued) ≡ count f (waiting p) + count f (itemsOf (b .removed)) + count f (b .freed)
+  named : count isNamed (b .removed) ≡ length (b .removed)
   plain : count asks (b .freed) ≡ 0
   numbers : (c : ℕ) → Counted c (b .queued) p
 
@@ -55,6 +56,7 @@ kept-books : (b : Outbook) (p q : Peer) → ((f : Item → Bool) → count f (wa
 kept-books b p q same u k =
     record {
       once = λ f. omega (arith, k .once f, same f);
+      named = k .named;
       plain = k .plain;
       numbers = λ c. uncounted-counted c (b .queued) p q u (k .numbers c);
     }
@@ -78,6 +80,7 @@ queued-books b p q (some s) k =
     let done : Books (queues is b) (queuedAll xs p) =
     record {
       once = λ f. omega (arith, k .once f, queues-once xs p (s .ready) (s .to) (s .ends) f, count-append f (b .queued) is);
+      named = k .named;
       plain = k .plain;
       numbers = λ c. pieces-counted c xs (b .queued) p (s .ready) (k .numbers c);
     } in
@@ -90,15 +93,30 @@ freed-books : (b : Outbook) (p q : Peer) → Leaves p q → count asks (gone p q
 freed-books b p q leaves plain u k =
     record {
       once = λ f. omega (arith, k .once f, leaves f, count-append f (b .freed) (gone p q));
+      named = k .named;
       plain = omega (arith, k .plain, plain, count-append asks (b .freed) (gone p q));
       numbers = λ c. uncounted-counted c (b .queued) p q u (k .numbers c);
     }
 
-removed-books : (b : Outbook) (p q : Peer) → Leaves p q → Uncounted p q → Books b p
-    → Books (record { queued = b .queued; removed = b .removed ++ gone p q; freed = b .freed }) q
-removed-books b p q leaves u k =
+-- what was removed, without what was named
+heard-items : (number channel : ℕ) (is : List Item) → itemsOf (map (heard number channel) is) ≡ is
+heard-items number channel [] = refl
+heard-items number channel (i ∷ is) = ap (λ (js : List Item). i ∷ js) (heard-items number channel is)
+
+removed-books : (number channel : ℕ) (b : Outbook) (p q : Peer) → Hears number channel p q → Uncounted p q → Books b p
+    → Books (record { queued = b .queued; removed = b .removed ++ map (heard number channel) (gone p q); freed = b .freed }) q
+removed-books number channel b p q h u k =
+    let rs = map (heard number channel) (gone p q) in
+    let items : itemsOf (b .removed ++ rs) ≡ itemsOf (b .removed) ++ gone p q =
+    map-append (λ (r : Removed). r .item) (b .removed) rs
+    ∙ ap (λ (is : List Item). itemsOf (b .removed) ++ is) (heard-items number channel (gone p q)) in
     record {
-      once = λ f. omega (arith, k .once f, leaves f, count-append f (b .removed) (gone p q));
+      once = λ f. omega (arith, k .once f, h .leaves f, ap (count f) items ∙ count-append f (itemsOf (b .removed)) (gone p q));
+      named =
+          count-append isNamed (b .removed) rs
+          ∙ ap₂ (λ (m n : ℕ). m + n) (k .named)
+          (count-map isNamed (heard number channel) (gone p q) ∙ h .named ∙ sym (length-map (gone p q) (heard number channel)))
+          ∙ sym (length-append (b .removed) rs);
       plain = k .plain;
       numbers = λ c. uncounted-counted c (b .queued) p q u (k .numbers c);
     }
@@ -113,21 +131,22 @@ outward-books (out.SendStep queue time) s p b w k =
     let j = step-leaves s queue time p in
     freed-books b p (goes s (out.SendStep queue time) p .after) (j .leaves) (j .plain) (step-uncounted s queue time p) k
 outward-books (out.Acknowledgement channel number sent clock) s p b w k =
-    removed-books b p (goes s (out.Acknowledgement channel number sent clock) p .after) (acknowledge-leaves s channel (number .0) sent clock p)
-    (acknowledge-uncounted s channel (number .0) sent clock p) k
+    removed-books (number .0) channel b p (goes s (out.Acknowledgement channel number sent clock) p .after)
+    (acknowledge-hears s channel (number .0) sent clock p) (acknowledge-uncounted s channel (number .0) sent clock p) k
 outward-books (out.TimeoutCheck clock) s p b w k =
     kept-books b p (goes s (out.TimeoutCheck clock) p .after) (check-keeps s clock p w) (check-uncounted s clock p) k
 outward-books (out.Throttle sample) s p b w k = aside-books b p (goes s (out.Throttle sample) p .after) (throttle-aside s sample p) k
 
 fresh-books : (mtu : ℕ) (k : Kept) → Books freshOutbook (freshPeer mtu k)
 unfolding freshPeer noLists count
-fresh-books mtu k = record { once = λ f. refl; plain = refl; numbers = λ c. fresh-counted c mtu k }
+fresh-books mtu k = record { once = λ f. refl; named = refl; plain = refl; numbers = λ c. fresh-counted c mtu k }
 
 begin-books : (s : Settings) (mtu many : ℕ) (p : Peer) (b : Outbook) → Books b p → Books b (begins s mtu many p .after)
 begin-books s mtu many p b k =
     let same = begin-leaves s mtu many p in
     record {
       once = λ f. omega (arith, k .once f, ap (count f) same);
+      named = k .named;
       plain = k .plain;
       numbers = λ c. begin-counted s mtu many p c (b .queued) (k .numbers c);
     }
@@ -174,6 +193,7 @@ none-lost mtu kept store calls =
     let b = outbook calls x freshOutbook in
     record {
       once = k .once;
+      named = k .named;
       plain = k .plain;
       numbers =
           λ channel.

@@ -1,5 +1,5 @@
--- The outgoing ledger: along a run every command that was queued is in exactly one place: in one of the three lists, removed by an acknowledgement, or freed
--- by a send step that needed no answer. On each channel the reliable numbers are 1, 2, 3 and so on, past 65,535 to 0, in the order of queueing.
+-- The outgoing ledger: along a run every command that was queued is in exactly one place: in one of the three lists, removed by an acknowledgement that named
+-- its number and channel, or freed by a send step that needed no answer. On each channel the reliable numbers are 1, 2, 3 and so on, past 65,535 to 0, in the order of queueing.
 use Prim.Native.Nat.{ℕ, _+_, _<_}
 use mathlib.Core.Path.{_≡_}
 use mathlib.Core.Bool.{Bool, true, false}
@@ -71,11 +71,23 @@ missing (s ∷ ss) after = pick (has after s) (missing ss after) (s ∷ missing 
 abbrev pub gone : Peer → Peer → List Item
 gone p q = itemsAt p (missing (usedOut (p .lists)) (usedOut (q .lists)))
 
+-- a command that an acknowledgement removed, with the number and the channel that it named
+pub record Removed : Type 0 where
+  pub item : Item
+  pub number : ℕ
+  pub channel : ℕ
+
+abbrev pub isNamed : Removed → Bool
+isNamed r = both (eqb (r .item .reliable) (r .number)) (eqb (r .item .command .channel) (r .channel))
+
 -- since the latest reset, each in its order: queued; removed by acknowledgements; freed by send steps
 pub record Outbook : Type 0 where
   pub queued : List Item
-  pub removed : List Item
+  pub removed : List Removed
   pub freed : List Item
+
+abbrev pub itemsOf : List Removed → List Item
+itemsOf rs = map (λ (r : Removed). r .item) rs
 
 abbrev pub freshOutbook : Outbook
 freshOutbook = record { queued = []; removed = []; freed = [] }
@@ -89,7 +101,9 @@ enters out.Ping p q b = queues (joinedOut p q) b
 enters (out.Send channel length flags) p q b = queues (joinedOut p q) b
 enters (out.Setup piece) p q b = queues (joinedOut p q) b
 enters (out.SendStep queue time) p q b = record { queued = b .queued; removed = b .removed; freed = b .freed ++ gone p q }
-enters (out.Acknowledgement channel number sent clock) p q b = record { queued = b .queued; removed = b .removed ++ gone p q; freed = b .freed }
+enters (out.Acknowledgement channel number sent clock) p q b =
+    let heard : List Removed = map (λ (i : Item). record { item = i; number = number .0; channel = channel }) (gone p q) in
+    record { queued = b .queued; removed = b .removed ++ heard; freed = b .freed }
 enters (out.TimeoutCheck clock) p q b = b
 enters (out.Throttle sample) p q b = b
 
@@ -114,7 +128,9 @@ numberedOn channel i = both (eqb (i .command .channel) channel) (pick (eqb chann
 
 pub record InOnePlace (b : Outbook) (p : Peer) : Type 0 where
   -- whatever is asked of commands: those in the lists, removed and freed are the queued ones, each once
-  pub once : (f : Item → Bool) → count f (b .queued) ≡ count f (waiting p) + count f (b .removed) + count f (b .freed)
+  pub once : (f : Item → Bool) → count f (b .queued) ≡ count f (waiting p) + count f (itemsOf (b .removed)) + count f (b .freed)
+  -- what an acknowledgement removed bears the number and the channel that it named
+  pub named : count isNamed (b .removed) ≡ length (b .removed)
   -- what a send step freed asked for no answer
   pub plain : count (λ (i : Item). acknowledged (i .command .byte)) (b .freed) ≡ 0
   pub numbers : (channel : ℕ) → let is = those (numberedOn channel) (b .queued) in map (λ (i : Item). i .reliable) is ≡ series 0 (length is)
