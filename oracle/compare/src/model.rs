@@ -67,6 +67,11 @@ impl Model {
         Model::on(Bench::new())
     }
 
+    /// The same on one peer of the source that lives through all calls; the record is what it was after the last.
+    pub fn living() -> Self {
+        Model::on(Bench::living(Settings::START.mtu))
+    }
+
     fn on(bench: Bench) -> Self {
         let settings = Settings::START;
         Model { bench, settings, record: Record::fresh(settings.mtu), store: vec![0; STORE] }
