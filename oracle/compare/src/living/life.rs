@@ -5,29 +5,26 @@ use std::io;
 use enet::record::{place, Record};
 
 use crate::{
-    arriving::{looks, taken},
+    arriving::{kept::Kept, looks, taken},
     frame::Frame,
     model::{Model, ACKNOWLEDGING_CONNECT, CONNECTED, DISCONNECTING, DISCONNECT_LATER},
     ops::{
-        self, acknowledgement,
+        acknowledgement,
         reliable::{self, LAST},
         throttle, timeouts,
         unsequenced::{self, WINDOW},
     },
     output::Output,
     random::Random,
-    records::frame,
+    records::{self, frame},
     script::miscount,
     sending, sequence,
     talking::{Mood, Start, Talk},
 };
 
-/// How many arrivals are remembered, to repeat them.
-const REMEMBERED: usize = 8;
-
 pub struct Life {
     talk: Talk,
-    kept: Vec<Frame>,
+    kept: Kept,
 }
 
 impl Life {
@@ -35,7 +32,7 @@ impl Life {
     pub fn open(output: &mut Output, random: &mut Random, seed: u64) -> io::Result<Self> {
         let talk = Talk::open(output, random, Mood::of(seed), Start::Reset)?;
         let talk = if seed / 2 % 2 == 1 { talk.patiently() } else { talk };
-        Ok(Life { talk, kept: Vec::new() })
+        Ok(Life { talk, kept: Kept::default() })
     }
 
     /// A call, and now and then a look at the whole record.
@@ -46,7 +43,7 @@ impl Life {
         }
         // Its slots would be held for good by what came to the peer before a reset.
         if record.numbers[place::CHANNEL_COUNT] == 0 {
-            self.kept.clear();
+            self.kept.forget();
         }
         if random.once_in(5) {
             self.between(output, random)?;
@@ -63,7 +60,7 @@ impl Life {
             miscount(&mut asked, random);
         }
         let line = sequence::ask(output, random, &asked, 48, &sequence::BAD)?;
-        self.remember(&asked, random);
+        self.kept.remember(&asked, random);
         self.talk.answered(random, &asked, &line, &output.model.record);
         looks(&line).iter().try_for_each(|look| output.put(look))
     }
@@ -75,33 +72,20 @@ impl Life {
             return frame(3, vec![CONNECTED]);
         }
         match random.below(64) {
-            0 => drawn_by("2", random),
-            1 => drawn_by("3", random),
+            0 => records::drawn("2", random),
+            1 => records::drawn("3", random),
             2..=4 => frame(3, vec![state(random)]),
             5..=12 => acknowledgement::drawn_at(random, record, clock),
             13..=16 => timeouts::at(clock),
             17..=20 => throttle::drawn(random, record),
             21..=31 => now(sending::drawn(model, random), clock),
             32..=38 => taken::drawn(random, record.numbers[place::CHANNEL_COUNT]),
-            39..=48 if !self.kept.is_empty() => {
-                self.kept[random.below(self.kept.len() as u64) as usize].clone()
-            }
+            39..=48 if !self.kept.is_empty() => self.kept.any(random),
             39..=50 => unsequenced::drawn(random, record),
             51..=52 => reliable::drawn(random, record),
             53..=57 => near_group(random, record),
             _ => near_number(random, record),
         }
-    }
-
-    /// Keeps an arrival, in the place of some other once there are enough.
-    fn remember(&mut self, asked: &Frame, random: &mut Random) {
-        if ![10, 11].contains(&asked.op) {
-            return;
-        }
-        if self.kept.len() == REMEMBERED {
-            self.kept.swap_remove(random.below(REMEMBERED as u64) as usize);
-        }
-        self.kept.push(asked.clone());
     }
 }
 
@@ -120,11 +104,6 @@ fn state(random: &mut Random) -> u32 {
         ACKNOWLEDGING_CONNECT,
         DISCONNECTING,
     ])
-}
-
-/// A frame of this op, whatever the record is.
-fn drawn_by(name: &str, random: &mut Random) -> Frame {
-    (ops::named(name).expect("the group is known").frame)(random, 0)
 }
 
 /// A send step at the time that it is.
