@@ -35,6 +35,7 @@ mod tests {
         met::{assert_met, frames, replies},
         model::CONNECTED,
         ops,
+        records::frame,
     };
     use enet::{
         record::{place, Incoming, Outgoing, Queue, Record},
@@ -87,11 +88,11 @@ mod tests {
         ("a send step", |bench, record| bench.step(record, Queue::Outgoing, 77).1),
     ];
 
-    /// The lines of the frames where this change comes before the frame at that place.
-    fn answered(frames: &[Frame], change: Change, at: usize) -> Vec<String> {
-        let mut model = Model::living();
+    /// The lines of the frames; the change, if there is one, comes before the last.
+    fn answered(frames: &[Frame], change: Option<Change>) -> Vec<String> {
+        let (mut model, last) = (Model::living(), frames.len() - 1);
         let mut answer = |(place, frame): (usize, &Frame)| {
-            if place == at {
+            if let Some(change) = change.filter(|_| place == last) {
                 change(&mut model.bench, &model.record);
             }
             ops::answer(&mut model, frame)
@@ -99,7 +100,7 @@ mod tests {
         frames.iter().enumerate().map(&mut answer).collect()
     }
 
-    /// Where a call, be it refused or not, finds a connected peer with a command that waits and a free slot of each kind.
+    /// Where a call finds a connected peer with a command that waits and a free slot of each kind.
     /// Ops 8 and 10 are left out: they compare with the record of the last call and stop at once.
     fn places(frames: &[Frame]) -> Vec<usize> {
         let mut model = Model::living();
@@ -118,15 +119,20 @@ mod tests {
 
     #[test]
     fn what_is_altered_between_two_calls_shows_in_the_next_line() {
-        let (script, lines) = written(|output| write(output, 1, 300));
-        let (frames, lines) = (frames(&script), lines.lines().collect::<Vec<_>>());
+        let frames = frames(&written(|output| write(output, 1, 300)).0);
         let places = places(&frames);
         assert!(places.len() > 50, "{}", places.len());
         for at in places.into_iter().step_by(9) {
-            for (name, change) in CHANGES {
-                let got = answered(&frames[..=at], change, at);
-                assert_eq!(got[..at], lines[..at]);
-                assert_ne!(got[at], lines[at], "{name} before line {at}");
+            let mut asked = frames[..=at].to_vec();
+            // The script's own call, and one that is refused before the source is asked.
+            for last in [frames[at].clone(), frame(12, vec![255])] {
+                asked[at] = last;
+                let plain = answered(&asked, None);
+                for (name, change) in CHANGES {
+                    let got = answered(&asked, Some(change));
+                    assert_eq!(got[..at], plain[..at]);
+                    assert_ne!(got[at], plain[at], "{name} before line {at}");
+                }
             }
         }
     }
