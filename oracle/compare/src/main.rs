@@ -7,6 +7,7 @@ mod damage;
 mod events;
 mod frame;
 mod lines;
+mod living;
 #[cfg(test)]
 mod met;
 mod mix;
@@ -71,6 +72,7 @@ fn usage() -> String {
   compare arriving SEED COUNT SCRIPT_FILE LINES_FILE
   compare acknowledging SEED COUNT SCRIPT_FILE LINES_FILE
   compare talking SEED COUNT SCRIPT_FILE LINES_FILE
+  compare living SEED COUNT SCRIPT_FILE LINES_FILE
   compare repeats SEED COUNT SCRIPT_FILE PLAIN_FILE INSERTED_FILE LINES_FILE
       PLAIN: the script without the inserted frames; INSERTED: the numbers of their lines
   compare without INSERTED GOT
@@ -118,6 +120,7 @@ fn write_drawn(
         "arriving" => |output, seed, count| arriving::write(output, seed, count, Mix::All),
         "acknowledging" => acknowledging::write,
         "talking" => talking::write,
+        "living" => living::write,
         _ => return Err(usage()),
     };
     let (seed, count) = (number(seed)?, number(count)?);

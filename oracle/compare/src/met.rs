@@ -4,7 +4,7 @@ use std::{collections::BTreeMap, io};
 
 use enet::record::Record;
 
-use crate::{output::Output, random::Random};
+use crate::{frame::Frame, output::Output, random::Random};
 
 /// How often each op answered what: the op, then all before the hash, cut to three words.
 pub fn replies(write: impl FnOnce(&mut Output) -> io::Result<()>) -> BTreeMap<String, usize> {
@@ -16,6 +16,16 @@ pub fn replies(write: impl FnOnce(&mut Output) -> io::Result<()>) -> BTreeMap<St
         *met.entry(reply.join(" ")).or_insert(0) += 1;
     }
     met
+}
+
+/// The frames of a script.
+pub fn frames(mut script: &[u8]) -> Vec<Frame> {
+    let mut frames = Vec::new();
+    while let Some((frame, rest)) = Frame::decode(script) {
+        frames.push(frame);
+        script = rest;
+    }
+    frames
 }
 
 /// That each of these is among them so often.

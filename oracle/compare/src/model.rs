@@ -62,15 +62,38 @@ pub struct Model {
 }
 
 impl Model {
-    /// As SCRIPT.md has it at the start.
+    /// As SCRIPT.md has it at the start; each call of the source is made on a new peer that the record is loaded into.
     pub fn new() -> Self {
+        Model::on(Bench::new())
+    }
+
+    /// The same on one peer of the source that lives through all calls; the record is what it was after the last.
+    pub fn living() -> Self {
+        Model::on(Bench::living(Settings::START.mtu))
+    }
+
+    fn on(bench: Bench) -> Self {
         let settings = Settings::START;
-        Model {
-            bench: Bench::new(),
-            settings,
-            record: Record::fresh(settings.mtu),
-            store: vec![0; STORE],
+        Model { bench, settings, record: Record::fresh(settings.mtu), store: vec![0; STORE] }
+    }
+
+    /// A call that the port adds: by hand on a living peer, else by document 01's rule on the record.
+    pub fn own<T>(
+        &mut self,
+        hand: impl FnOnce(&mut Bench, &Record) -> (T, Record),
+        rule: impl FnOnce(&mut Record) -> T,
+    ) -> T {
+        if !self.bench.lives() {
+            return rule(&mut self.record);
         }
+        let (answer, after) = hand(&mut self.bench, &self.record);
+        self.record = after;
+        answer
+    }
+
+    /// The record's row of numbers; of a living peer, as it is now.
+    pub fn row(&self) -> Vec<u32> {
+        self.bench.seen().as_ref().unwrap_or(&self.record).row()
     }
 
     /// What a call that is lent the store refuses first: a store of another length, then what every call refuses.
@@ -102,6 +125,6 @@ impl Model {
 
     /// The same with the reply's values after its number.
     pub fn replies(&self, frame: &Frame, numbers: &[u32]) -> String {
-        format!("{} # {}", frame.line(numbers), hash(&self.record.row()))
+        format!("{} # {}", frame.line(numbers), hash(&self.row()))
     }
 }

@@ -3,13 +3,13 @@
 use std::fmt;
 
 use enet::{
-    record::{place, Outgoing, Record},
+    record::{place, Outgoing, Queue, Record},
     size, Bench, Packed,
 };
 
 use crate::{
     model::DISCONNECT_LATER,
-    ops::step::{add, step, Queue, ACKNOWLEDGE},
+    ops::step::{add, step, ACKNOWLEDGE},
     random::Random,
     records::sound::{shaped, Shape},
     tally::Tally,

@@ -4,6 +4,7 @@ use std::{mem::size_of, ptr::addr_of_mut, time::Duration};
 
 use crate::{
     consts::PROTOCOL_MAXIMUM_MTU,
+    door::Nodes,
     enet_host_connect, enet_host_create, enet_host_destroy, enet_list_clear, enet_peer_reset,
     opened,
     silent::{Nobody, Silent},
@@ -20,6 +21,8 @@ pub(crate) const ROOM: usize = PROTOCOL_MAXIMUM_MTU - HEADER;
 pub struct Bench {
     pub(crate) host: *mut ENetHost<Silent>,
     pub(crate) peer: *mut ENetPeer<Silent>,
+    /// Where the peer lives, the slots of its nodes.
+    pub(crate) living: Option<Nodes>,
 }
 
 impl Bench {
@@ -31,12 +34,13 @@ impl Bench {
                 Err(never) => match never {},
             };
             *(*host).received_address.assume_init_mut() = Some(Nobody);
-            Bench { host, peer: connect(host) }
+            Bench { host, peer: connect(host), living: None }
         }
     }
 
     /// The peer as it was at the start: connected, with the source's own CONNECT in its outgoing list.
     pub(crate) fn renew(&mut self) {
+        assert!(!self.lives(), "a living peer is never made anew");
         unsafe {
             enet_peer_reset(self.peer);
             // The source's reset clears the flag first and so leaves the peer linked in this queue.

@@ -1,5 +1,6 @@
 //! Scripts about what comes in: random sequences, and every input of a set.
 
+pub mod kept;
 mod order;
 mod payload;
 mod reliable;

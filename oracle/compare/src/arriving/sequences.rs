@@ -4,7 +4,7 @@ use std::io;
 
 use enet::record::place;
 
-use super::{start, stores, taken, whole_store};
+use super::{kept::Kept, start, stores, taken, whole_store};
 use crate::{
     frame::Frame,
     mix::Mix,
@@ -16,9 +16,6 @@ use crate::{
     script::miscount,
     sending, sequence,
 };
-
-/// How many arrivals a sequence remembers.
-const REMEMBERED: usize = 8;
 
 /// A script of so many calls of ops 1 to 7 and 10 to 13, and of 8, 9 and 14 where the mix has them, in sequences
 /// that start from new or random records.
@@ -76,13 +73,13 @@ fn state(random: &mut Random) -> u32 {
 
 /// What a sequence remembers: some arrivals, to repeat them.
 struct Sequence {
-    kept: Vec<Frame>,
+    kept: Kept,
     mix: Mix,
 }
 
 impl Sequence {
     fn new(mix: Mix) -> Self {
-        Sequence { kept: Vec::new(), mix }
+        Sequence { kept: Kept::default(), mix }
     }
 
     /// A call, now and then with numbers missing, or under other settings; then a look at what it left.
@@ -96,7 +93,7 @@ impl Sequence {
         if let Some(others) = &others {
             output.put(&records::set(others))?;
         }
-        self.remember(&asked, random);
+        self.kept.remember(&asked, random);
         let free = output.model.record.free_incoming();
         if stores(output, &asked)? {
             look(output, random, free.expect("it was stored"))?;
@@ -129,23 +126,10 @@ impl Sequence {
             2..=3 => frame(3, vec![state(random)]),
             4..=7 => sending::drawn(model, random),
             8..=20 => taken::drawn(random, count),
-            21..=26 if !self.kept.is_empty() => {
-                self.kept[random.below(self.kept.len() as u64) as usize].clone()
-            }
+            21..=26 if !self.kept.is_empty() => self.kept.any(random),
             21..=42 => unsequenced::drawn(random, &model.record),
             _ => reliable::drawn(random, &model.record),
         }
-    }
-
-    /// Keeps an arrival, in the place of some other once there are enough.
-    fn remember(&mut self, asked: &Frame, random: &mut Random) {
-        if ![10, 11].contains(&asked.op) {
-            return;
-        }
-        if self.kept.len() == REMEMBERED {
-            self.kept.swap_remove(random.below(REMEMBERED as u64) as usize);
-        }
-        self.kept.push(asked.clone());
     }
 }
 
@@ -242,7 +226,7 @@ mod tests {
     fn whatever_these_calls_can_do_is_done() {
         let ask = |sequence: &mut Sequence, output: &mut Output, random: &mut Random| {
             let asked = sequence.drawn(&output.model, random);
-            sequence.remember(&asked, random);
+            sequence.kept.remember(&asked, random);
             output.ask(&asked)
         };
         let open = |output: &mut Output, random: &mut Random| {

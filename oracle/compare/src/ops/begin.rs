@@ -1,6 +1,6 @@
 //! Op 2: begin, which the port adds: document 01's rule.
 
-use enet::record::{place, Channel, CHANNELS};
+use enet::record::{place, Channel, Record, CHANNELS};
 
 use super::Group;
 use crate::{
@@ -32,8 +32,39 @@ fn line(model: &mut Model, frame: &Frame) -> String {
     if !fits || model.record.numbers[place::CHANNEL_COUNT] != 0 {
         return model.reply(frame, 11);
     }
-    model.record.numbers[place::MTU] = mtu;
-    model.record.numbers[place::CHANNEL_COUNT] = channels;
-    model.record.channels = std::array::from_fn(|_| Channel::default());
+    model.own(
+        |bench, record| ((), bench.begin(record, mtu, channels as usize)),
+        |record| begin(record, mtu, channels),
+    );
     model.reply(frame, 0)
+}
+
+/// Document 01's begin of a sound record without channels.
+fn begin(record: &mut Record, mtu: u32, channels: u32) {
+    record.numbers[place::MTU] = mtu;
+    record.numbers[place::CHANNEL_COUNT] = channels;
+    record.channels = std::array::from_fn(|_| Channel::default());
+}
+
+#[cfg(test)]
+mod tests {
+    use super::*;
+    use crate::records::sound;
+    use enet::Bench;
+
+    #[test]
+    fn the_hand_on_the_sources_structs_does_as_document_01_says() {
+        let (mut random, mut bench, mut met) = (Random::new(1), Bench::new(), 0);
+        while met < 500 {
+            let record = sound::any(&mut random);
+            if record.numbers[place::CHANNEL_COUNT] != 0 {
+                continue;
+            }
+            let (mtu, channels) = (576 + random.up_to(3_520), 1 + random.up_to(7));
+            let mut after = record.clone();
+            begin(&mut after, mtu, channels);
+            assert_eq!(bench.begin(&record, mtu, channels as usize).row(), after.row());
+            met += 1;
+        }
+    }
 }

@@ -30,8 +30,11 @@ pub enum Fate {
     PassedOver,
     /// With 8.
     Refused,
-    /// In this slot.
-    Stored(usize),
+    /// In this slot, at this place of its channel's list.
+    Stored {
+        slot: usize,
+        place: usize,
+    },
 }
 
 fn frame(random: &mut Random, _: u64) -> Frame {
@@ -68,12 +71,15 @@ fn line(model: &mut Model, frame: &Frame) -> String {
     if let Some(number) = came.refusal(model, KIND).or_else(judged) {
         return model.reply(frame, number);
     }
-    let fate = store(&mut model.record, model.settings.waiting, &came);
-    match fate {
+    match fate(&model.record, model.settings.waiting, &came) {
         Fate::PassedOver => model.replies(frame, &[0, 0]),
         Fate::Refused => model.reply(frame, 8),
-        Fate::Stored(slot) => {
+        Fate::Stored { slot, place } => {
             model.keep(slot, came.payload());
+            model.own(
+                |bench, record| ((), bench.hold(record, &held(&came), came.payload(), place)),
+                |record| put(record, &came, place, slot),
+            );
             model.record = model.bench.dispatch(&model.record, came.channel.into());
             model.replies(frame, &[0, 1])
         }
@@ -95,15 +101,22 @@ fn came(frame: &Frame) -> Option<Came<'_>> {
 
 /// Document 01's arrival on a sound record that refuses with neither 6 nor 7, up to the dispatch.
 pub fn store(record: &mut Record, waiting: u32, came: &Came) -> Fate {
+    let fate = fate(record, waiting, came);
+    if let Fate::Stored { slot, place } = fate {
+        put(record, came, place, slot);
+    }
+    fate
+}
+
+/// What such an arrival comes to.
+fn fate(record: &Record, waiting: u32, came: &Came) -> Fate {
     let Some(place) = place_for(record, came) else {
         return Fate::PassedOver;
     };
-    let Some(slot) = record.free_incoming().filter(|_| record.numbers[place::WAITING] < waiting)
-    else {
-        return Fate::Refused;
-    };
-    put(record, came, place, slot);
-    Fate::Stored(slot)
+    match record.free_incoming() {
+        Some(slot) if record.numbers[place::WAITING] < waiting => Fate::Stored { slot, place },
+        _ => Fate::Refused,
+    }
 }
 
 /// Document 01's place in the channel's list, if the arrival is not passed over.
@@ -118,11 +131,15 @@ fn place_for(record: &Record, came: &Came) -> Option<usize> {
 
 /// The arrival in this slot, which then stands at this place of its channel's list.
 pub fn put(record: &mut Record, came: &Came, place: usize, slot: usize) {
+    record.incoming_slots[slot] = held(came);
+    record.channels[usize::from(came.channel)].list.insert(place, slot);
+    add(record, place::WAITING, came.length);
+}
+
+/// The arrival as it is held.
+fn held(came: &Came) -> Incoming {
     let &Came { byte, channel, number, length, .. } = came;
-    record.incoming_slots[slot] =
-        Incoming { byte, channel, number, fragments: 0, remaining: 0, length };
-    record.channels[usize::from(channel)].list.insert(place, slot);
-    add(record, place::WAITING, length);
+    Incoming { byte, channel, number, fragments: 0, remaining: 0, length }
 }
 
 /// The distances from the channel's last number, of the arrival and of those held, in their order.
@@ -142,5 +159,36 @@ impl Distances {
     /// Document 01's place.
     fn before_the_first_farther(&self) -> usize {
         self.held.iter().position(|held| *held > self.own).unwrap_or(self.held.len())
+    }
+}
+
+#[cfg(test)]
+mod tests {
+    use super::*;
+    use crate::{model::Settings, records::sound};
+    use enet::Bench;
+
+    #[test]
+    fn the_hand_on_the_sources_list_does_as_document_01_says() {
+        let (mut random, mut bench) = (Random::new(1), Bench::new());
+        let mut places = [0; 4];
+        for _ in 0..20_000 {
+            let mut record = sound::any(&mut random);
+            record.numbers[place::STATE] = 5;
+            let asked = drawn(&mut random, &record);
+            let Some(came) = came(&asked) else {
+                continue;
+            };
+            let mut after = record.clone();
+            if came.judged(&record, &Settings::START).is_some() {
+                continue;
+            }
+            if let Fate::Stored { place, .. } = store(&mut after, u32::MAX, &came) {
+                let got = bench.hold(&record, &held(&came), came.payload(), place);
+                assert_eq!(got.row(), after.row());
+                places[place.min(3)] += 1;
+            }
+        }
+        assert!(places.iter().all(|count| *count >= 20), "{places:?}");
     }
 }

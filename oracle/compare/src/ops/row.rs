@@ -10,5 +10,5 @@ fn frame(_: &mut Random, _: u64) -> Frame {
 }
 
 fn line(model: &mut Model, frame: &Frame) -> String {
-    frame.line(&model.record.row())
+    frame.line(&model.row())
 }

@@ -26,6 +26,27 @@ fn line(model: &mut Model, frame: &Frame) -> String {
     if state > LAST {
         return model.reply(frame, 11);
     }
-    model.record.numbers[place::STATE] = state;
+    model.own(
+        |bench, record| ((), bench.set_state(record, state)),
+        |record| record.numbers[place::STATE] = state,
+    );
     model.reply(frame, 0)
+}
+
+#[cfg(test)]
+mod tests {
+    use super::*;
+    use crate::records::sound;
+    use enet::Bench;
+
+    #[test]
+    fn the_sources_change_of_state_changes_only_the_state() {
+        let (mut random, mut bench) = (Random::new(1), Bench::new());
+        for turn in 0..500 {
+            let mut record = sound::any(&mut random);
+            let (state, before) = (turn % (LAST + 1), record.clone());
+            record.numbers[place::STATE] = state;
+            assert_eq!(bench.set_state(&before, state), record);
+        }
+    }
 }

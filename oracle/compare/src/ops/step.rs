@@ -1,36 +1,12 @@
 //! Op 7: the send step, which the port adds: document 01's rule.
 
-use enet::record::{place, List, Outgoing, Record};
+use enet::record::{place, Outgoing, Queue, Record};
 
 use super::Group;
 use crate::{frame::Frame, model::Model, random::Random};
 
 /// The flag that asks for acknowledgement.
 pub const ACKNOWLEDGE: u8 = 128;
-
-/// The lists that a send step may name, by their numbers.
-#[derive(Clone, Copy, Debug, PartialEq, Eq)]
-pub enum Queue {
-    Outgoing,
-    SendReliable,
-}
-
-impl Queue {
-    pub fn numbered(number: u32) -> Option<Self> {
-        match number {
-            0 => Some(Queue::Outgoing),
-            1 => Some(Queue::SendReliable),
-            _ => None,
-        }
-    }
-
-    pub fn list(self, record: &mut Record) -> &mut List {
-        match self {
-            Queue::Outgoing => &mut record.outgoing,
-            Queue::SendReliable => &mut record.send_reliable,
-        }
-    }
-}
 
 pub const GROUP: Group = Group { name: "7", weight: 3, frame, line };
 
@@ -49,7 +25,10 @@ fn line(model: &mut Model, frame: &Frame) -> String {
     if let Some(number) = model.refusal() {
         return model.reply(frame, number);
     }
-    match step(&mut model.record, queue, frame.number(1)) {
+    let time = frame.number(1);
+    let head = model
+        .own(|bench, record| bench.step(record, queue, time), |record| step(record, queue, time));
+    match head {
         None => model.replies(frame, &[0, 0]),
         Some(head) => model.replies(frame, &[&[0, 1], &head.numbers()[..], &head.fields].concat()),
     }
@@ -87,4 +66,34 @@ fn join(record: &mut Record, slot: usize, head: &Outgoing) {
 
 pub fn add(record: &mut Record, place: usize, more: u32) {
     record.numbers[place] = record.numbers[place].wrapping_add(more);
+}
+
+#[cfg(test)]
+mod tests {
+    use super::*;
+    use crate::records::sound;
+    use enet::Bench;
+
+    #[test]
+    fn the_hand_on_the_sources_nodes_does_as_document_01_says() {
+        let (mut random, mut bench) = (Random::new(1), Bench::new());
+        let mut met = [0; 3];
+        for _ in 0..20_000 {
+            let mut record = match random.below(3) {
+                0 => sound::light(&mut random, &Record::fresh(1_392)),
+                _ => sound::any(&mut random),
+            };
+            if random.once_in(2) {
+                record.numbers[place::STATE] = 6;
+            }
+            let queue = random.pick(&[Queue::Outgoing, Queue::SendReliable]);
+            let time = random.up_to(u32::MAX);
+            let (head, got) = bench.step(&record, queue, time);
+            let mut after = record.clone();
+            assert_eq!((head, got.row()), (step(&mut after, queue, time), after.row()));
+            let sent = usize::from(after.sent.length > record.sent.length);
+            met[if after == record { 2 } else { sent }] += 1;
+        }
+        assert!(met.iter().all(|count| *count >= 1_000), "{met:?}");
+    }
 }

@@ -51,6 +51,7 @@ pub fn check(bench: &mut Bench, record: &Record, clock: u32) -> (bool, Record) {
     if !record.sent.slots().any(many) {
         return bench.check_timeouts(record, clock);
     }
+    assert!(!bench.lives(), "no run from a reset comes to more than {ATTEMPTS} attempts");
     let (given_up, mut after) = bench.check_timeouts(&small(record), clock);
     after.numbers[place::TIMEOUT_LIMIT] = record.numbers[place::TIMEOUT_LIMIT];
     for slot in record.sent.slots() {

@@ -115,7 +115,7 @@ impl Case<'_> {
         match store(&mut after, self.settings.waiting, &self.came) {
             Fate::PassedOver => End::new(Verdict::PassedOver, &after),
             Fate::Refused => End::new(Verdict::Refused, &after),
-            Fate::Stored(_) => {
+            Fate::Stored { .. } => {
                 End::new(Verdict::Delivered, &bench.dispatch(&after, self.came.channel.into()))
             }
         }

@@ -125,7 +125,7 @@ fn refused(output: &mut Output, random: &mut Random, mix: Mix) -> io::Result<()>
 }
 
 /// A frame of the group of this name.
-fn drawn(name: &str, random: &mut Random) -> Frame {
+pub fn drawn(name: &str, random: &mut Random) -> Frame {
     let group = ops::named(name).expect("the group is known");
     (group.frame)(random, 0)
 }

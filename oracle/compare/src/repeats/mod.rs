@@ -69,7 +69,7 @@ fn drawn(random: &mut Random, calls: u64) -> Run {
 mod tests {
     use super::run::Line;
     use super::*;
-    use crate::{frame::Frame, lines, model::Model, ops};
+    use crate::{lines, met::frames, model::Model, ops};
     use std::collections::BTreeMap;
 
     #[test]
@@ -109,14 +109,9 @@ mod tests {
     }
 
     /// The lines that answer a script.
-    fn answered(mut script: &[u8]) -> String {
-        let (mut model, mut lines) = (Model::new(), String::new());
-        while let Some((frame, rest)) = Frame::decode(script) {
-            lines.push_str(&ops::answer(&mut model, &frame));
-            lines.push('\n');
-            script = rest;
-        }
-        lines
+    fn answered(script: &[u8]) -> String {
+        let mut model = Model::new();
+        frames(script).iter().map(|frame| ops::answer(&mut model, frame) + "\n").collect()
     }
 
     #[test]

@@ -42,9 +42,12 @@ pub fn follow(random: &mut Random, line: &str) -> Vec<Frame> {
     }
 }
 
+/// Out of so many of its acts some change the connection.
+pub const PATIENCE: u64 = 2_048;
+
 /// What it does by itself; rarely that takes several calls.
-pub fn acts(model: &Model, random: &mut Random, clock: u32) -> Vec<Frame> {
-    match random.below(2_048) {
+pub fn acts(model: &Model, random: &mut Random, clock: u32, patience: u64) -> Vec<Frame> {
+    match random.below(patience) {
         0..=2 => connect(random),
         3..=5 => disconnect(random),
         6..=13 => vec![frame(3, vec![DISCONNECT_LATER])],

@@ -9,9 +9,9 @@ mod start;
 use std::io;
 
 use crate::{output::Output, random::Random, sequence};
-use network::Mood;
-use sequences::Talk;
-use start::Start;
+pub use network::Mood;
+pub use sequences::Talk;
+pub use start::Start;
 
 /// The shortest of the sequences but the last, and the longest.
 const SHORTEST: u64 = 200;

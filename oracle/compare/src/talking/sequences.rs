@@ -35,6 +35,8 @@ pub struct Talk {
     to_near: Way<Frame>,
     /// What the caller does next.
     next: VecDeque<Frame>,
+    /// How seldom it ends a connection by itself.
+    patience: u64,
 }
 
 impl Talk {
@@ -48,7 +50,7 @@ impl Talk {
         output.put(&set(&start::settings(random)))?;
         let mut talk = Talk::new(random, mood, Far::facing(&output.model.record));
         match from {
-            Start::Reset => talk.next.extend(caller::connect(random)),
+            Start::Reset => talk.reconnect(random),
             Start::Record => {
                 let record = start::record(random, talk.start);
                 records::make(output, &record)?;
@@ -64,7 +66,13 @@ impl Talk {
         let any = random.number();
         let start = random.pick(&[0, turn - turn.min(9_000), any, 0_u32.wrapping_sub(9_000)]);
         let (to_far, to_near, next) = (Way::new(), Way::new(), VecDeque::new());
-        Talk { mood, start, now: 0, dark: 0, far, to_far, to_near, next }
+        let patience = caller::PATIENCE;
+        Talk { mood, start, now: 0, dark: 0, far, to_far, to_near, next, patience }
+    }
+
+    /// The same with a caller that seldom ends a connection by itself.
+    pub fn patiently(self) -> Self {
+        Talk { patience: 16 * caller::PATIENCE, ..self }
     }
 
     /// A talk that is under way: what the record has sent may still come to the far side.
@@ -83,7 +91,7 @@ impl Talk {
         }
     }
 
-    fn clock(&self) -> u32 {
+    pub fn clock(&self) -> u32 {
         self.start.wrapping_add(self.now as u32)
     }
 
@@ -162,12 +170,17 @@ impl Talk {
                 return came;
             }
         }
-        self.next.extend(caller::acts(model, random, self.clock()));
+        self.next.extend(caller::acts(model, random, self.clock(), self.patience));
         self.next.pop_front().expect("a caller does something")
     }
 
+    /// Lets the caller begin anew.
+    pub fn reconnect(&mut self, random: &mut Random) {
+        self.next.extend(caller::connect(random));
+    }
+
     /// What an answer leads to, on the way to the far side and with the caller.
-    fn answered(&mut self, random: &mut Random, asked: &Frame, line: &str, record: &Record) {
+    pub fn answered(&mut self, random: &mut Random, asked: &Frame, line: &str, record: &Record) {
         self.next.extend(caller::follow(random, line));
         match asked.op {
             1 if line.starts_with("1 0 ") => {

@@ -1,13 +1,14 @@
 //! The door to `enet_protocol_handle_acknowledge`, and so to `enet_protocol_remove_sent_reliable_command`.
 
-use std::mem::zeroed;
+use std::{mem::zeroed, ptr::null_mut};
 
-use super::load::{command, Nodes};
+use super::{load::command, nodes::Nodes, notice::Before};
 use crate::{
-    opened,
+    enet_peer_has_outgoing_commands, opened,
     record::{place, Outgoing, Record},
     Bench, ENetProtocol, ENET_EVENT_TYPE_CONNECT, ENET_EVENT_TYPE_DISCONNECT, ENET_EVENT_TYPE_NONE,
-    ENET_PEER_STATE_CONNECTED, ENET_PROTOCOL_COMMAND_ACKNOWLEDGE,
+    ENET_PEER_STATE_CONNECTED, ENET_PEER_STATE_CONNECTION_PENDING,
+    ENET_PEER_STATE_DISCONNECT_LATER, ENET_PEER_STATE_ZOMBIE, ENET_PROTOCOL_COMMAND_ACKNOWLEDGE,
 };
 
 /// The command that acknowledges.
@@ -47,18 +48,42 @@ impl Bench {
         record: &Record,
         came: Acknowledgement,
     ) -> (Acknowledged, Record) {
-        let (answer, after) = self.acknowledge_whole(record, came);
-        match answer {
-            Acknowledged::Connect | Acknowledged::Disconnect | Acknowledged::DisconnectNow => {
-                // The handler asks for the state at its start, where 5 goes on like these, and then at its end
-                // alone, where 5 does nothing. So this is the record on which the notice came.
-                let (_, after) =
-                    self.acknowledge_whole(&in_state(record, ENET_PEER_STATE_CONNECTED), came);
-                (answer, in_state(&after, record.numbers[place::STATE]))
+        unsafe { self.call(record, |bench, _| bench.hand_in_quietly(came)) }
+    }
+
+    /// The peer's acknowledgement; a notice is undone, and a disconnect does not come.
+    unsafe fn hand_in_quietly(&mut self, came: Acknowledgement) -> Acknowledged {
+        let (host, peer, before) = (self.host, self.peer, Before::of(self));
+        // The disconnect of state 6 would free every node. The handler asks for the state at its start, where 5 goes on
+        // like 6, and then at its end alone, where 5 does nothing.
+        let later = before.state == ENET_PEER_STATE_DISCONNECT_LATER;
+        let state = if later { ENET_PEER_STATE_CONNECTED } else { before.state };
+        let earliest = (*peer).earliest_timeout;
+        (*peer).earliest_timeout = MARK;
+        (*peer).state = state;
+        (*host).service_time = came.clock;
+        let returned = opened::handle_acknowledge(host, null_mut(), peer, &acknowledging(came));
+        let passed_over = (*peer).earliest_timeout == MARK;
+        let came_to = (*peer).state;
+        if came_to == state {
+            (*peer).state = before.state;
+        } else {
+            before.put_back(self);
+        }
+        if passed_over {
+            (*peer).earliest_timeout = earliest;
+            return Acknowledged::PassedOver;
+        }
+        match (returned, came_to) {
+            (-1, _) => Acknowledged::Refused,
+            // The same test as the handler's in state 6.
+            (0, _) if later && enet_peer_has_outgoing_commands(peer) == 0 => {
+                Acknowledged::DisconnectNow
             }
-            Acknowledged::PassedOver | Acknowledged::Done | Acknowledged::Refused => {
-                (answer, after)
-            }
+            (0, _) if came_to == state => Acknowledged::Done,
+            (0, ENET_PEER_STATE_CONNECTION_PENDING) => Acknowledged::Connect,
+            (0, ENET_PEER_STATE_ZOMBIE) => Acknowledged::Disconnect,
+            other => unreachable!("the source answered {other:?}"),
         }
     }
 
@@ -102,13 +127,6 @@ impl Bench {
             other => unreachable!("the source answered {other:?}"),
         }
     }
-}
-
-/// The record in this state.
-pub(crate) fn in_state(record: &Record, state: u32) -> Record {
-    let mut record = record.clone();
-    record.numbers[place::STATE] = state;
-    record
 }
 
 /// The command as the handler gets it; the number of its own header is never read.

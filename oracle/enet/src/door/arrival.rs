@@ -5,7 +5,11 @@ use std::{
     ptr::{addr_of_mut, slice_from_raw_parts},
 };
 
-use super::{command::write, dump::walk, load::Nodes, window::Verdict};
+use super::{
+    command::write,
+    nodes::{walk, Nodes},
+    window::Verdict,
+};
 use crate::{
     opened, record::Record, silent::Silent, Bench, ENetHost, ENetIncomingCommand, ENetListIterator,
     ENetPeer, ENetProtocol, ENET_PROTOCOL_COMMAND_MASK, ENET_PROTOCOL_COMMAND_SEND_UNSEQUENCED,
@@ -124,7 +128,7 @@ pub(crate) fn verdict(returned: i32, stored: bool) -> Verdict {
 }
 
 /// The bytes of the node's packet.
-unsafe fn bytes(node: *mut ENetIncomingCommand) -> Vec<u8> {
+pub(crate) unsafe fn bytes(node: *mut ENetIncomingCommand) -> Vec<u8> {
     let packet = (*node).packet;
     match (*packet).data_length {
         0 => Vec::new(),

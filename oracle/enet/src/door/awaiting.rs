@@ -8,8 +8,8 @@ use std::{
 
 use super::{
     acknowledge::{acknowledging, Acknowledgement},
-    dump::walk,
     load::outgoing,
+    nodes::walk,
 };
 use crate::{
     enet_free, enet_list_insert, enet_list_remove, opened, record::Outgoing, Bench,

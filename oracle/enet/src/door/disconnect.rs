@@ -1,6 +1,6 @@
 //! The door to `enet_peer_disconnect`, which the source's packing ends with in state 6.
 
-use super::load::Nodes;
+use super::nodes::Nodes;
 use crate::{enet_peer_disconnect, record::Record, Bench};
 
 impl Bench {

@@ -6,31 +6,23 @@ use std::{
     ptr::{addr_of_mut, null, null_mut},
 };
 
-use super::{fields::fields, numbers::numbers};
+use super::{
+    fields::fields,
+    nodes::{outgoing_lists, Nodes},
+    numbers::numbers,
+};
 use crate::{
     enet_list_clear, enet_list_insert, enet_malloc, enet_packet_create, enet_peer_reset, opened,
-    record::{place, Channel, Incoming, List, Outgoing, Record, INCOMING, OUTGOING},
+    record::{place, Channel, Incoming, List, Outgoing, Record},
     Bench, ENetChannel, ENetIncomingCommand, ENetList, ENetListIterator, ENetOutgoingCommand,
     ENetPacket, ENetProtocol, ENetProtocolCommandHeader, ENET_PEER_FLAG_NEEDS_DISPATCH,
     ENET_PEER_STATE_DISCONNECTED,
 };
 
-/// The source's node for each slot, null for a free one.
-pub(crate) struct Nodes {
-    pub(crate) outgoing: [ENetListIterator; OUTGOING],
-    pub(crate) incoming: [ENetListIterator; INCOMING],
-}
-
-impl Nodes {
-    /// Every slot free.
-    pub(crate) fn none() -> Self {
-        Nodes { outgoing: [null_mut(); OUTGOING], incoming: [null_mut(); INCOMING] }
-    }
-}
-
 impl Bench {
     /// Makes the peer and the host's count those of a sound record.
     pub(crate) unsafe fn load(&mut self, record: &Record) -> Nodes {
+        assert!(!self.lives(), "a living peer is never loaded");
         let (host, peer) = (self.host, self.peer);
         enet_peer_reset(peer);
         enet_list_clear(addr_of_mut!((*host).dispatch_queue));
@@ -48,11 +40,7 @@ impl Bench {
         }
 
         let mut nodes = Nodes::none();
-        for (list, slots) in [
-            (addr_of_mut!((*peer).sent_reliable_commands), &record.sent),
-            (addr_of_mut!((*peer).outgoing_send_reliable_commands), &record.send_reliable),
-            (addr_of_mut!((*peer).outgoing_commands), &record.outgoing),
-        ] {
+        for (list, slots) in outgoing_lists(peer).into_iter().zip(record.outgoing_lists()) {
             fill(list, slots, &record.outgoing_slots, outgoing, &mut nodes.outgoing);
         }
         let dispatched = addr_of_mut!((*peer).dispatched_commands);
@@ -106,7 +94,7 @@ pub(crate) unsafe fn command(slot: &Outgoing) -> ENetProtocol {
     command
 }
 
-unsafe fn incoming(slot: &Incoming) -> *mut u8 {
+pub(crate) unsafe fn incoming(slot: &Incoming) -> *mut u8 {
     let node = enet_malloc(Layout::new::<ENetIncomingCommand>());
     node.cast::<ENetIncomingCommand>().write(ENetIncomingCommand {
         incoming_command_list: zeroed(),
@@ -140,7 +128,7 @@ unsafe fn packet(length: usize) -> *mut ENetPacket {
 }
 
 /// The channels as `enet_host_connect` makes them, with the numbers of these.
-unsafe fn channels(open: &[Channel]) -> *mut ENetChannel {
+pub(crate) unsafe fn channels(open: &[Channel]) -> *mut ENetChannel {
     if open.is_empty() {
         return null_mut();
     }

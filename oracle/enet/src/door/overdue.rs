@@ -6,10 +6,7 @@ use std::{
     ptr::{addr_of_mut, null_mut},
 };
 
-use super::{
-    dump::{self, walk},
-    load::outgoing,
-};
+use super::{dump, load::outgoing, nodes::walk};
 use crate::{
     enet_free, enet_list_insert, enet_list_remove, opened, record::Outgoing, Bench, ENetList,
     ENetListIterator, ENetOutgoingCommand,

@@ -6,9 +6,9 @@ use std::{
 };
 
 use super::{
-    dump::{outgoing, walk},
+    dump::outgoing,
     fields::fields,
-    load::Nodes,
+    nodes::{walk, Nodes},
 };
 use crate::{
     enet_list_clear, opened,

@@ -2,6 +2,7 @@
 
 use std::ptr::addr_of_mut;
 
+use super::nodes::Nodes;
 use crate::{enet_packet_destroy, enet_peer_receive, record::Record, Bench};
 
 /// A packet that came out: its channel, the slot it stood in, and its length.
@@ -15,7 +16,7 @@ pub struct Received {
 impl Bench {
     /// What the source's receive takes out of a sound record, if anything, and the record after it.
     pub fn received(&mut self, record: &Record) -> (Option<Received>, Record) {
-        let take = |bench: &mut Bench, nodes: &mut super::load::Nodes| unsafe {
+        let take = |bench: &mut Bench, nodes: &mut Nodes| unsafe {
             let head = (*bench.peer).dispatched_commands.sentinel.next;
             let mut channel = 0;
             let packet = enet_peer_receive(bench.peer, addr_of_mut!(channel));
@@ -26,7 +27,7 @@ impl Bench {
             if (*packet).reference_count == 0 {
                 enet_packet_destroy(packet);
             }
-            let slot = nodes.incoming.iter().position(|node| *node == head).expect("it was loaded");
+            let slot = nodes.incoming.iter().position(|node| *node == head).expect("it has a slot");
             Some(Received { channel, slot, length })
         };
         unsafe { self.call(record, take) }

@@ -5,15 +5,11 @@ use crate::{enet_peer_reset, record::Record, Bench};
 impl Bench {
     /// A sound record after the source's reset, by a host of this MTU.
     pub fn reset(&mut self, mtu: u32, record: &Record) -> Record {
-        let after = unsafe {
-            let nodes = self.load(record);
-            (*self.host).mtu = mtu;
-            enet_peer_reset(self.peer);
-            self.dump(&nodes)
+        let reset = |bench: &mut Bench| unsafe {
+            (*bench.host).mtu = mtu;
+            enet_peer_reset(bench.peer);
         };
-        // The kept numbers and the host's MTU and queue would show in the doors that follow.
-        *self = Bench::new();
-        after
+        unsafe { self.call_over(record, Record::zero(), |bench, _| reset(bench)).1 }
     }
 }
 
@@ -87,8 +83,8 @@ mod tests {
     fn what_is_loaded_is_dumped() {
         let (mut bench, record) = (Bench::new(), full());
         let dumped = unsafe {
-            let nodes = bench.load(&record);
-            bench.dump(&nodes)
+            let mut nodes = bench.load(&record);
+            bench.dump(&mut nodes)
         };
         assert_eq!(dumped, record);
     }
@@ -99,9 +95,9 @@ mod tests {
         record.outgoing.length -= 2;
         let (freed, mut bench) = (record.outgoing.cells[9], Bench::new());
         let dumped = unsafe {
-            let nodes = bench.load(&record);
+            let mut nodes = bench.load(&record);
             crate::enet_peer_ping(bench.peer);
-            bench.dump(&nodes)
+            bench.dump(&mut nodes)
         };
         assert_eq!((freed, dumped.outgoing.items().last()), (2, Some(&2)));
         assert_eq!(dumped.outgoing_slots[2].byte, 128 | 5);
@@ -116,13 +112,13 @@ mod tests {
         record.numbers[place::HOST_COUNT] = u32::MAX - 1;
         let mut bench = Bench::new();
         let dumped = unsafe {
-            let nodes = bench.load(&record);
+            let mut nodes = bench.load(&record);
             crate::enet_peer_ping(bench.peer);
             let packet = crate::enet_packet_create(std::ptr::null(), 0, 0);
             let ping = Outgoing { byte: 133, channel: 255, kind: 5, ..Outgoing::default() };
             let command = crate::door::load::command(&ping);
             crate::enet_peer_queue_outgoing_command(bench.peer, &command, packet, 0, 0);
-            bench.dump(&nodes)
+            bench.dump(&mut nodes)
         };
         // The list of the second is walked first.
         assert_eq!((dumped.outgoing.items(), dumped.send_reliable.items()), (&[0][..], &[1][..]));

@@ -54,9 +54,8 @@ pub(crate) fn number(returned: Result<(), PeerSendError>) -> u32 {
 unsafe fn limit(host: *mut ENetHost<Silent>, limits: Limits) {
     (*host).maximum_packet_size = limits.packet as usize;
     // A send only asks whether there is one.
-    if limits.checksum {
-        *(*host).checksum.assume_init_mut() = Some(Box::new(|_| 0));
-    }
+    *(*host).checksum.assume_init_mut() =
+        if limits.checksum { Some(Box::new(|_| 0)) } else { None };
 }
 
 /// A packet of this length without bytes, so that one of a gigabyte takes no room; no send reads them.

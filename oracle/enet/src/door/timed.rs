@@ -53,7 +53,7 @@ impl Default for Sender {
 #[cfg(test)]
 mod tests {
     use super::*;
-    use crate::{door::dump::walk, Bench};
+    use crate::{door::nodes::walk, Bench};
     use std::ptr::addr_of_mut;
 
     /// How many commands wait, in send-reliable and in outgoing.

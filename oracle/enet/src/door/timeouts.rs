@@ -2,13 +2,8 @@
 
 use std::{mem::zeroed, ptr::null_mut};
 
-use super::acknowledge::in_state;
-use crate::{
-    opened,
-    record::{place, Record},
-    silent::Silent,
-    Bench, ENetEvent, ENET_PEER_STATE_CONNECTED,
-};
+use super::notice::Before;
+use crate::{opened, record::Record, silent::Silent, Bench, ENetEvent, ENET_PEER_STATE_CONNECTED};
 
 /// What the source does when it gives a peer up: what the check returned, and the event's type.
 #[derive(Clone, Copy, Debug, PartialEq, Eq)]
@@ -21,18 +16,21 @@ impl Bench {
     /// Whether the source's check gave a sound record's peer up when the clock stood here, and the record after it;
     /// where it gave up, the record just before its notice.
     pub fn check_timeouts(&mut self, record: &Record, clock: u32) -> (bool, Record) {
-        // The check asks for no state and writes neither it nor the flags nor the event data; only its notice does.
-        // In state 5, with no event to fill in, that resets nothing: it writes these three.
-        let quiet = in_state(record, ENET_PEER_STATE_CONNECTED);
-        let check = |bench: &mut Bench| unsafe { bench.check(clock, null_mut()) != 0 };
-        let (given_up, mut after) = unsafe { self.call(&quiet, |bench, _| check(bench)) };
-        after.numbers[place::STATE] = record.numbers[place::STATE];
+        unsafe { self.call(record, |bench, _| bench.check_quietly(clock)) }
+    }
+
+    /// The peer's check; the notice, should it come, is undone.
+    unsafe fn check_quietly(&mut self, clock: u32) -> bool {
+        let before = Before::of(self);
+        // The check asks for no state; only its notice does, which in state 5, with no event to fill in, resets nothing.
+        (*self.peer).state = ENET_PEER_STATE_CONNECTED;
+        let given_up = self.check(clock, null_mut()) != 0;
         if given_up {
-            for place in [place::FLAGS, place::EVENT_DATA] {
-                after.numbers[place] = record.numbers[place];
-            }
+            before.put_back(self);
+        } else {
+            (*self.peer).state = before.state;
         }
-        (given_up, after)
+        given_up
     }
 
     /// The same in the record's own state, with an event to fill in and all that the source's notice does.

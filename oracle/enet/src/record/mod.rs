@@ -2,10 +2,12 @@
 
 mod list;
 pub mod place;
+mod queue;
 mod row;
 mod slot;
 
 pub use list::List;
+pub use queue::Queue;
 pub use row::hash;
 pub use slot::{Incoming, Outgoing};
 
