@@ -22,3 +22,4 @@ pub mod Transits
 pub mod Shown
 pub mod HeldLaws
 pub mod Held
+pub mod AlikeOut

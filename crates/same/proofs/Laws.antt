@@ -30,7 +30,7 @@ use Rattle.same.proofs.Views.{Agrees, same-agrees, heldItems, heldSlots
 abbrev pub Agree : {A : Type 0} → A → List ℕ → List A → List A → Type 0
 Agree d xs a b = (s : ℕ) → 0 < times xs s → getD a s d ≡ getD b s d
 
-named-first : (x : ℕ) (xs : List ℕ) → 0 < times (x ∷ xs) x
+pub named-first : (x : ℕ) (xs : List ℕ) → 0 < times (x ∷ xs) x
 named-first x xs = rw (eq-eqb x x refl) (omega arith)
 
 pub map-agree : {A : Type 0} (f g : ℕ → A) (xs : List ℕ) → ((s : ℕ) → 0 < times xs s → f s ≡ g s) → map f xs ≡ map g xs
@@ -47,9 +47,9 @@ agree-map {A} f g (x ∷ xs) e s h = go (agree-map f g xs (ap (drop 1) e) s) (eq
     go rest false t k = rest (omega (arith, k))
 
 module _ {A : Type 0} (d : A) (xs : List ℕ) (a b : List A) (h : Agree d xs a b) where
-  -- on less
-  pub agree-less : (ys : List ℕ) → ((s : ℕ) → times ys s ≤ times xs s) → Agree d ys a b
-  agree-less ys less s k = h s (omega (arith, less s, k))
+  -- on a list that names nothing else
+  pub agree-less : (ys : List ℕ) → ((s : ℕ) → 0 < times ys s → 0 < times xs s) → Agree d ys a b
+  agree-less ys less s k = h s (less s k)
 
   -- a slot written alike in both
   pub agree-new : (n : ℕ) (v w : A) → n < length a → n < length b → v ≡ w → Agree d (n ∷ xs) (set a n v) (set b n w)
@@ -72,6 +72,14 @@ module _ {A : Type 0} (d : A) (xs : List ℕ) (a b : List A) (h : Agree d xs a b
           let past = ltb-false n (length a) t in
           ap (λ (l : List A). getD l s d) (set-out a n v past) ∙ h s k
           ∙ sym (ap (λ (l : List A). getD l s d) (set-out b n w (subst (λ (m : ℕ). m ≤ n) long past)))
+
+-- a slot more, which was named before
+pub named-with : (xs ys : List ℕ) (n : ℕ) → 0 < times xs n → (s : ℕ) → times ys s ≤ one n s + times xs s → 0 < times ys s → 0 < times xs s
+named-with xs ys n h s more k = go (eqb n s) refl more
+  where
+    go : (b : Bool) → eqb n s ≡ b → times ys s ≤ pick b 1 0 + times xs s → 0 < times xs s
+    go true t m = subst (λ (y : ℕ). 0 < times xs y) (eqb-true n s t) h
+    go false t m = omega (arith, k, m)
 
 -- ---- shapes: views on an empty pool, and what fills them
 abbrev pub outFilled : List Outgoing → ListView Outgoing → ListView Outgoing
@@ -284,27 +292,27 @@ channelWith c v =
       held = v;
     }
 
-out-put : (a b : List Outgoing) (used : List ℕ) (l m : OutList) → Agree noOutgoing used a b → ((s : ℕ) → times (outItems l) s ≤ times used s)
+out-put : (a b : List Outgoing) (used : List ℕ) (l m : OutList) → Agree noOutgoing used a b → ((s : ℕ) → 0 < times (outItems l) s → 0 < times used s)
     → outShape l ≡ outShape m → outView a l ≡ outView b m
 out-put a b used l m h less e =
     ap (outWith l)
     (map-agree (λ (s : ℕ). getD a s noOutgoing) (λ (s : ℕ). getD b s noOutgoing) (outItems l) (agree-less noOutgoing used a b h (outItems l) less))
     ∙ ap (outFilled b) e
 
-in-put : (a b : List Incoming) (used : List ℕ) (l : InList) → Agree noIncoming used a b → ((s : ℕ) → times (inItems l) s ≤ times used s)
+in-put : (a b : List Incoming) (used : List ℕ) (l : InList) → Agree noIncoming used a b → ((s : ℕ) → 0 < times (inItems l) s → 0 < times used s)
     → inView a l ≡ inView b l
 in-put a b used l h less =
     ap (inWith l)
     (map-agree (λ (s : ℕ). getD a s noIncoming) (λ (s : ℕ). getD b s noIncoming) (inItems l) (agree-less noIncoming used a b h (inItems l) less))
 
-channels-put : (a b : List Incoming) (used : List ℕ) (cs : List Channel) → Agree noIncoming used a b → ((s : ℕ) → times (held cs) s ≤ times used s)
+channels-put : (a b : List Incoming) (used : List ℕ) (cs : List Channel) → Agree noIncoming used a b → ((s : ℕ) → 0 < times (held cs) s → 0 < times used s)
     → map (channelView a) cs ≡ map (channelView b) cs
 unfolding held
 channels-put a b used [] h less = refl
 channels-put a b used (c ∷ cs) h less =
     ap₂ (λ (v : ListView Incoming) (vs : List ChannelView). channelWith c v ∷ vs)
-    (in-put a b used (c .held) h (λ s. omega (arith, less s, times-append (inItems (c .held)) (held cs) s)))
-    (channels-put a b used cs h (λ s. omega (arith, less s, times-append (inItems (c .held)) (held cs) s)))
+    (in-put a b used (c .held) h (λ s n. less s (omega (arith, n, times-append (inItems (c .held)) (held cs) s))))
+    (channels-put a b used cs h (λ s n. less s (omega (arith, n, times-append (inItems (c .held)) (held cs) s))))
 
 module _ (p q : Peer) (k : Like p q) (w : Within p q) where
   abbrev sent : List ℕ
@@ -341,18 +349,18 @@ module _ (p q : Peer) (k : Like p q) (w : Within p q) where
         groups = k .groups;
         waiting = k .waiting;
         sent =
-            out-put (p .outgoing) (q .outgoing) (usedOut (p .lists)) (p .lists .sent) (q .lists .sent) (k .outs) (λ s. omega (arith, adds s)) (k .lists .sent);
+            out-put (p .outgoing) (q .outgoing) (usedOut (p .lists)) (p .lists .sent) (q .lists .sent) (k .outs) (λ s n. omega (arith, n, adds s)) (k .lists .sent);
         reliable =
-            out-put (p .outgoing) (q .outgoing) (usedOut (p .lists)) (p .lists .reliable) (q .lists .reliable) (k .outs) (λ s. omega (arith, adds s))
+            out-put (p .outgoing) (q .outgoing) (usedOut (p .lists)) (p .lists .reliable) (q .lists .reliable) (k .outs) (λ s n. omega (arith, n, adds s))
             (k .lists .reliable);
         outgoing =
-            out-put (p .outgoing) (q .outgoing) (usedOut (p .lists)) (p .lists .outgoing) (q .lists .outgoing) (k .outs) (λ s. omega (arith, adds s))
+            out-put (p .outgoing) (q .outgoing) (usedOut (p .lists)) (p .lists .outgoing) (q .lists .outgoing) (k .outs) (λ s n. omega (arith, n, adds s))
             (k .lists .outgoing);
         dispatched =
-            in-put (p .incoming) (q .incoming) (named p) (p .lists .dispatched) w (λ s. omega (arith, adds-in s))
+            in-put (p .incoming) (q .incoming) (named p) (p .lists .dispatched) w (λ s n. omega (arith, n, adds-in s))
             ∙ ap (inFilled (q .incoming)) (k .lists .dispatched);
         channels =
-            channels-put (p .incoming) (q .incoming) (named p) counted w (λ s. omega (arith, adds-in s))
+            channels-put (p .incoming) (q .incoming) (named p) counted w (λ s n. omega (arith, n, adds-in s))
             ∙ channels-filled [] (q .incoming) counted
             ∙ ap (map (channelFilled (q .incoming))) (k .channels)
             ∙ sym (channels-filled [] (q .incoming) (below (q .channels) (q .standing .count)));
