@@ -7,25 +7,36 @@ use mathlib.Core.Bool.{Bool, true, false}
 use mathlib.Core.List.{List, [], _∷_, _++_}
 use native.Mathlib.Omega.{arith}
 use lib.Dec.{eqb, ltb, leb}
-use lib.ListN.{length, getD, set}
+use lib.ListN.{length, getD, set, List·getD-eq-default}
+use borrow.Author.Tests.{eqb-true, ltb-true}
 use Rattle.numbers.specs.Pick.{pick}
 use Rattle.numbers.specs.declared.refusals.Refusal.{Refusal}
-use Rattle.numbers.specs.declared.refusals.Refusal.the-variants.{OutOfRange}
+use Rattle.numbers.specs.declared.refusals.Refusal.the-variants.{OutOfRange, BadCommand, FailedToQueue, InvalidChannel}
+use Rattle.numbers.specs.Modulo.{sum}
+use Rattle.command.specs.Rows.{namesFields}
 use Rattle.throttle.specs.Throttling.{byTests}
 use Rattle.slots.specs.Lists.{outgoing, outItems}
 use Rattle.slots.specs.declared.outgoing.OutList.{OutList}
 use Rattle.slots.proofs.Views.{out-items-keep}
 use Rattle.slots.proofs.Keeps.{one, times, times-append, pushed-adds, without-takes}
 use Rattle.runs.specs.Runs.{first, pushed, without}
+use Rattle.runs.specs.Free.{lowest, howMany}
+use Rattle.runs.specs.declared.Free.{Free}
+use Rattle.runs.specs.declared.Free.the-variants.{Lowest, Full}
+use Rattle.runs.proofs.Lowest.{lowest-exists}
 use Rattle.runs.specs.declared.First.{First}
 use Rattle.runs.specs.declared.First.the-variants.{Slot, Empty}
-use Rattle.parts.specs.Fresh.{noOutgoing}
+use Rattle.parts.specs.Sizes.{itself}
+use Rattle.parts.specs.Fresh.{noOutgoing, noChannel}
 use Rattle.parts.specs.Damage.{below, usedOut}
-use Rattle.parts.specs.Updates.{withState, withCount, withMtu, withSentList, longer, shorter}
+use Rattle.parts.specs.Updates.{withState, withCount, withMtu, withReliable, withOutgoingTotal, withOutgoingGroup, withQueued, withSentList, withReliableList, withOutgoingList, longer, shorter}
 use Rattle.parts.specs.declared.groups.Standing.{Standing}
 use Rattle.parts.specs.declared.groups.Flow.{Flow}
 use Rattle.parts.specs.declared.groups.Lists.{Lists}
 use Rattle.parts.specs.declared.groups.Times.{Times}
+use Rattle.parts.specs.declared.groups.Totals.{Totals}
+use Rattle.parts.specs.declared.groups.Groups.{Groups}
+use Rattle.parts.specs.declared.groups.Waiting.{Waiting}
 use Rattle.parts.specs.declared.groups.Throttling.{Throttling}
 use Rattle.parts.specs.declared.groups.Trips.{Trips}
 use Rattle.parts.specs.declared.groups.Outgoing.{Outgoing}
@@ -38,14 +49,29 @@ use Rattle.peer.specs.declared.settings.Settings.{Settings}
 use Rattle.peer.specs.declared.record.Peer.{Peer}
 use Rattle.peer.specs.declared.gate.Lent.the-variants as lent
 use Rattle.peer.specs.declared.gate.Gate.{Gate}
-use Rattle.peer.specs.declared.gate.Gate.the-variants.{Open}
-use Rattle.peer.proofs.Gates.{sound-open}
-use Rattle.same.proofs.Laws.{Agree, agree-less, agree-set, agree-new, named-with, Lined, lined-used, outShape, out-items, out-kept, named-first, Like}
+use Rattle.peer.specs.declared.gate.Gate.the-variants.{Open, Shut}
+use Rattle.peer.proofs.Gates.{openness, sound-open}
+use Rattle.same.proofs.Laws.{Agree, agree-less, agree-set, agree-new, named-with, Lined, lined-used, outShape, channelShape, out-items, out-kept, ranked-set, ranked-at, named-first, Like}
+use Rattle.same.specs.Same.{ChannelView}
 use Rattle.same.proofs.Pairs.{behind-pair, ranked-by, rebuilt-like}
 use Rattle.opening.specs.Calls.{beginFits, begun, beginsSound, begins, stated, setsStateSound, setsState}
 use Rattle.averages.specs.Interval.{throttleOf, throttled}
 use Rattle.throttling.specs.Calls as throttling
 use Rattle.throttling.specs.declared.Reply.the-variants as vr
+use Rattle.stamps.specs.Counting.{isItself, channelAt, stamped}
+use Rattle.stamps.specs.Pieces.{slotOf, grown, toReliable, listsWith}
+use Rattle.stamps.specs.declared.counting.Counters.{Counters}
+use Rattle.stamps.specs.declared.counting.Stamped.{Stamped}
+use Rattle.stamps.specs.declared.pieces.Piece.{Piece}
+use Rattle.setup.specs.Queueing.{room, stampOf, made, queuedAt, queuedIn, queued, queuedAll}
+use Rattle.setup.specs.Taking.{allFit}
+use Rattle.setup.specs.Calls.{onChannel, setupGate, setsUpSound, setsUp}
+use Rattle.setup.proofs.Sound.{queued-whole, fit-on, fit-rest}
+use Rattle.packets.specs.Packets.{fragmentLength, whole, cutBy, startOf, pieces}
+use Rattle.plans.specs.Refusals.{sendGate, queueGate}
+use Rattle.sending.specs.Calls.{fragment, commands, queuesAll, sendsSound, sends}
+use Rattle.sending.proofs.Sound.{gate-channel, commands-fit}
+use Rattle.ping.specs.Calls.{pingPiece, pingGate, pingsSound, pings}
 use Rattle.sendstep.specs.Steps.{listOf, attempted, head, isAcknowledged, withoutHead, listsSent, packetSent, flowSent, timesSent, sentAs}
 use Rattle.sendstep.specs.Calls as stepping
 use Rattle.sendstep.specs.declared.heads.Queue.{Queue}
@@ -155,6 +181,116 @@ head-named queue.Outgoing l n rest e =
 head-named queue.Reliable l n rest e =
     let here = ap (λ (xs : List ℕ). times xs n) e in omega (arith, here, used-adds l n, named-first n rest)
 
+-- ---- a piece set up on both
+-- a channel that counts, or 255, has the same shape in both
+channel-like : (p q : Peer) → Like p q → Whole p → Whole q → (channel : ℕ) → onChannel channel (p .standing .count) ≡ true
+    → channelShape (channelAt (p .channels) channel) ≡ channelShape (channelAt (q .channels) channel)
+channel-like p q k wp wq channel on = go (ltb channel (p .standing .count)) refl on
+  where
+    none : (r : Peer) → Whole r → channel ≡ itself → channelAt (r .channels) channel ≡ noChannel
+    none r w e = List·getD-eq-default (r .channels) noChannel (let n = w .channels in omega (arith, n, e))
+
+    go : (b : Bool) → ltb channel (p .standing .count) ≡ b → pick b true (isItself channel) ≡ true
+        → channelShape (channelAt (p .channels) channel) ≡ channelShape (channelAt (q .channels) channel)
+    go true t o = ranked-at (p .channels) (q .channels) (p .standing .count) channel (ranked-by p q k) (ltb-true channel (p .standing .count) t)
+    go false t o = let e = eqb-true channel itself o in ap channelShape (none p wp e ∙ sym (none q wq e))
+
+-- the counters and a channel with other numbers, by the shape of the channel
+abbrev countersBy : Flow → ChannelView → Groups → Counters
+countersBy f v g = record { own = f .reliable; reliable = v .outgoingReliable; unreliable = v .outgoingUnreliable; group = g .outgoing }
+
+abbrev renumbered : ChannelView → Counters → ChannelView
+renumbered v c =
+    record {
+      outgoingReliable = c .reliable;
+      outgoingUnreliable = c .unreliable;
+      incomingReliable = v .incomingReliable;
+      incomingUnreliable = v .incomingUnreliable;
+      held = v .held;
+    }
+
+with-lined : (l m : Lists) → Lined l m → (x : Piece) (n : ℕ) → Lined (listsWith l x n) (listsWith m x n)
+with-lined l m e x n = go (toReliable x)
+  where
+    go : (b : Bool) → Lined (pick b (withReliableList l (longer (l .reliable) n)) (withOutgoingList l (longer (l .outgoing) n)))
+        (pick b (withReliableList m (longer (m .reliable) n)) (withOutgoingList m (longer (m .outgoing) n)))
+    go true =
+        record { sent = e .sent; reliable = longer-like (l .reliable) (m .reliable) n (e .reliable); outgoing = e .outgoing; dispatched = e .dispatched }
+    go false =
+        record { sent = e .sent; reliable = e .reliable; outgoing = longer-like (l .outgoing) (m .outgoing) n (e .outgoing); dispatched = e .dispatched }
+
+with-names : (l : Lists) (x : Piece) (n s : ℕ) → times (usedOut (listsWith l x n)) s ≤ one n s + times (usedOut l) s
+with-names l x n s = go (toReliable x)
+  where
+    go : (b : Bool) → times (usedOut (pick b (withReliableList l (longer (l .reliable) n)) (withOutgoingList l (longer (l .outgoing) n)))) s
+        ≤ one n s + times (usedOut l) s
+    go true = omega (arith, used-adds (withReliableList l (longer (l .reliable) n)) s, used-adds l s, longer-adds (l .reliable) n s)
+    go false = omega (arith, used-adds (withOutgoingList l (longer (l .outgoing) n)) s, used-adds l s, longer-adds (l .outgoing) n s)
+
+module _ (x : Piece) (p q : Peer) (k : Like p q) (wp : Whole p) (wq : Whole q) (on : onChannel (x .command .channel) (p .standing .count) ≡ true) where
+  shape-same : channelShape (channelAt (p .channels) (x .command .channel)) ≡ channelShape (channelAt (q .channels) (x .command .channel))
+  shape-same = channel-like p q k wp wq (x .command .channel) on
+
+  stamp-same : stampOf x p ≡ stampOf x q
+  stamp-same =
+      ap (stamped (x .command .byte) (x .command .channel) (x .offset)) (ap₃ countersBy (k .flow) shape-same (k .groups))
+
+  counters-same : stampOf x p .counters ≡ stampOf x q .counters
+  counters-same = ap (λ (t : Stamped). t .counters) stamp-same
+
+  made-same : made x p ≡ made x q
+  made-same = ap₂ (λ (t : Stamped) (w : Waiting). slotOf x t (sum 32 (w .queued) 1)) stamp-same (k .waiting)
+
+  queued-at-like : (n : ℕ) → n < outgoing → Like (queuedAt n x p) (queuedAt n x q)
+  unfolding queuedAt
+  queued-at-like n low =
+      rebuilt-like p q k (k .standing) (ap (λ (t : Totals). withOutgoingTotal t (grown (t .outgoing) x)) (k .totals)) (k .times) (k .loss) (k .throttling)
+      (k .trips) (ap₂ (λ (f : Flow) (c : Counters). withReliable f (c .own)) (k .flow) counters-same) (with-lined (p .lists) (q .lists) (k .lists) x n)
+      (ap₂ (λ (g : Groups) (c : Counters). withOutgoingGroup g (c .group)) (k .groups) counters-same)
+      (ap (λ (w : Waiting). withQueued w (sum 32 (w .queued) 1)) (k .waiting))
+      (ranked-set (p .channels) (q .channels) (p .standing .count) (x .command .channel) _ _ (ranked-by p q k) (ap₂ renumbered shape-same counters-same))
+      (agree-less noOutgoing (n ∷ usedOut (p .lists)) (set (p .outgoing) n (made x p)) (set (q .outgoing) n (made x q))
+      (agree-new noOutgoing (usedOut (p .lists)) (p .outgoing) (q .outgoing) (k .outs) n (made x p) (made x q)
+      (let e = wp .outgoing in omega (arith, e, low)) (let e = wq .outgoing in omega (arith, e, low)) made-same)
+      (usedOut (listsWith (p .lists) x n)) (λ s h. omega (arith, h, with-names (p .lists) x n s)))
+
+  queued-like : Like (queued x p) (queued x q)
+  unfolding queued
+  queued-like =
+      subst (λ (xs : List ℕ). Like (queued x p) (queuedIn (lowest outgoing xs) x q)) (lined-used (p .lists) (q .lists) (k .lists))
+      (go (lowest outgoing (usedOut (p .lists))) refl)
+    where
+      go : (f : Free) → lowest outgoing (usedOut (p .lists)) ≡ f → Like (queuedIn f x p) (queuedIn f x q)
+      go (Lowest n) e = queued-at-like n (lowest-exists outgoing (usedOut (p .lists)) n e)
+      go Full e = k
+
+all-like : (xs : List Piece) (p q : Peer) → Like p q → Whole p → Whole q → allFit (p .standing .count) xs ≡ true → Like (queuedAll xs p) (queuedAll xs q)
+unfolding queuedAll
+all-like [] p q k wp wq fit = k
+all-like (x ∷ xs) p q k wp wq fit =
+    all-like xs (queued x p) (queued x q) (queued-like x p q k wp wq (fit-on x xs p fit)) (queued-whole x p wp) (queued-whole x q wq) (fit-rest x xs p fit)
+
+-- a packet's commands, by the shape of its channel
+abbrev commandsBy : ℕ → ℕ → ℕ → ℕ → ChannelView → List Piece
+commandsBy size channel long flags v =
+    pick (leb long size) (whole flags (v .outgoingUnreliable) channel long ∷ [])
+    (pieces (cutBy (startOf flags (v .outgoingReliable) (v .outgoingUnreliable)) channel long size))
+
+-- what an open gate says of the channel
+setup-on : (x : Piece) (count free : ℕ) → setupGate x count free ≡ Open → onChannel (x .command .channel) count ≡ true
+setup-on x count free = go (onChannel (x .command .channel) count)
+  where
+    go : (b : Bool) → pick b (pick (leb 1 free) (pick (namesFields (x .command)) Open (Shut BadCommand)) (Shut FailedToQueue)) (Shut InvalidChannel) ≡ Open → b ≡ true
+    go true e = refl
+    go false e = absurd (omega (arith, ap openness e))
+
+itself-on : (count : ℕ) → onChannel itself count ≡ true
+itself-on count = go (ltb itself count)
+  where
+    go : (b : Bool) → pick b true (isItself itself) ≡ true
+    go true = refl
+    go false = refl
+
 module _ (p q : Peer) (k : Like p q) where
   -- behind any gate that is the same on both
   behind-twin : (g h : Gate) (o r : Outcome Peer) → g ≡ h → (g ≡ Open → Twin o r) → Twin (behind g p o) (behind h q r)
@@ -242,3 +378,49 @@ module _ (p q : Peer) (k : Like p q) where
                 like =
                     subst (λ (o : Outgoing). Like (sentAs r n (head p n time) p) (sentAs r n o q)) same (sent-like r n (head p n time) here);
               }
+
+    -- ---- setup, ping, send
+    room-same : room p ≡ room q
+    room-same = ap (howMany outgoing) (lined-used (p .lists) (q .lists) (k .lists))
+
+    module _ (wp : Whole p) (wq : Whole q) where
+      pub setup-twin : (s : Settings) (x : Piece) → Twin (setsUp s x p) (setsUp s x q)
+      setup-twin s x =
+          on-twin s (setsUpSound x p) (setsUpSound x q)
+          (λ good.
+          behind-twin (setupGate x (p .standing .count) (room p)) (setupGate x (q .standing .count) (room q)) (finished (queued x p)) (finished (queued x q))
+          (ap₂ (λ (n : Standing) (r : ℕ). setupGate x (n .count) r) (k .standing) room-same)
+          (λ e. record { answer = refl; like = queued-like x p q k wp wq (setup-on x (p .standing .count) (room p) e) }))
+
+      pub ping-twin : (s : Settings) → Twin (pings s p) (pings s q)
+      ping-twin s =
+          on-twin s (pingsSound p) (pingsSound q)
+          (λ good.
+          behind-twin (pingGate (p .standing) (room p)) (pingGate (q .standing) (room q)) (finished (queued pingPiece p)) (finished (queued pingPiece q))
+          (ap₂ pingGate (k .standing) room-same)
+          (λ e. record { answer = refl; like = queued-like pingPiece p q k wp wq (itself-on (p .standing .count)) }))
+
+      commands-same : (s : Settings) (channel long flags : ℕ) → ltb channel (p .standing .count) ≡ true
+          → commands (fragment s p) channel long flags p ≡ commands (fragment s q) channel long flags q
+      commands-same s channel long flags on =
+          ap₂ (λ (f : Flow) (v : ChannelView). commandsBy (fragmentLength (f .mtu) (s .checksum)) channel long flags v) (k .flow)
+          (channel-like p q k wp wq channel (rw on refl))
+
+      pub send-twin : (s : Settings) (channel long flags : ℕ) → Twin (sends s channel long flags p) (sends s channel long flags q)
+      send-twin s channel long flags =
+          on-twin s (sendsSound s channel long flags p) (sendsSound s channel long flags q)
+          (λ good.
+          behind-twin (sendGate s channel long (p .standing)) (sendGate s channel long (q .standing)) (queuesAll (xs p) p) (queuesAll (xs q) q)
+          (ap (sendGate s channel long) (k .standing))
+          (λ e.
+          let on = gate-channel s channel long (p .standing) e in
+          subst (λ (ys : List Piece). Twin (queuesAll (xs p) p) (queuesAll ys q)) (commands-same s channel long flags on) (all-twin on)))
+        where
+          xs : Peer → List Piece
+          xs r = commands (fragment s r) channel long flags r
+
+          all-twin : ltb channel (p .standing .count) ≡ true → Twin (queuesAll (xs p) p) (queuesAll (xs p) q)
+          all-twin on =
+              behind-twin (queueGate (length (xs p)) (room p)) (queueGate (length (xs p)) (room q)) (finished (queuedAll (xs p) p))
+              (finished (queuedAll (xs p) q)) (ap (queueGate (length (xs p))) room-same)
+              (λ e. record { answer = refl; like = all-like (xs p) p q k wp wq (commands-fit (fragment s p) channel long flags p on) })
