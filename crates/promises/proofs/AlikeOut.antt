@@ -82,7 +82,7 @@ pub record Twin (o r : Outcome Peer) : Type 0 where
   pub answer : o .answer ≡ r .answer
   pub like : Like (o .after) (r .after)
 
-ap₃ : {A B C D : Type 0} (f : A → B → C → D) {a a′ : A} {b b′ : B} {c c′ : C} → a ≡ a′ → b ≡ b′ → c ≡ c′ → f a b c ≡ f a′ b′ c′
+pub ap₃ : {A B C D : Type 0} (f : A → B → C → D) {a a′ : A} {b b′ : B} {c c′ : C} → a ≡ a′ → b ≡ b′ → c ≡ c′ → f a b c ≡ f a′ b′ c′
 ap₃ {A} {B} {C} f {a = a} {b′ = b′} {c′ = c′} d e g = ap₂ (λ (x : B) (y : C). f a x y) e g ∙ ap (λ (x : A). f x b′ c′) d
 
 -- ---- what lists name, slot by slot
@@ -96,7 +96,7 @@ shorter-takes l s =
     let e = ap (λ (xs : List ℕ). times xs s) (out-items-keep l (without (outItems l) 0)) in
     omega (arith, e, without-takes (outItems l) 0 s)
 
-used-adds : (l : Lists) (s : ℕ) → times (usedOut l) s ≡ times (outItems (l .sent)) s + (times (outItems (l .reliable)) s + times (outItems (l .outgoing)) s)
+pub used-adds : (l : Lists) (s : ℕ) → times (usedOut l) s ≡ times (outItems (l .sent)) s + (times (outItems (l .reliable)) s + times (outItems (l .outgoing)) s)
 used-adds l s =
     omega (
       arith,
@@ -298,7 +298,7 @@ module _ (p q : Peer) (k : Like p q) where
 
   -- and the gate of every call
   module _ (alike : sound p ≡ sound q) where
-    on-twin : (s : Settings) (o r : Outcome Peer) → (sound p ≡ true → Twin o r) → Twin (onRecord s p o) (onRecord s q r)
+    pub on-twin : (s : Settings) (o r : Outcome Peer) → (sound p ≡ true → Twin o r) → Twin (onRecord s p o) (onRecord s q r)
     on-twin s o r rest =
         behind-twin (gateOf (fits s lent.Nothing) (sound p)) (gateOf (fits s lent.Nothing) (sound q)) o r (ap (gateOf (fits s lent.Nothing)) alike)
         (λ e. rest (sound-open (fits s lent.Nothing) (sound p) e))

@@ -23,3 +23,4 @@ pub mod Shown
 pub mod HeldLaws
 pub mod Held
 pub mod AlikeOut
+pub mod AlikeSent
