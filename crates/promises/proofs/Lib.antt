@@ -24,3 +24,4 @@ pub mod HeldLaws
 pub mod Held
 pub mod AlikeOut
 pub mod AlikeSent
+pub mod AlikeIn
