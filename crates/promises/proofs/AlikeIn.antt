@@ -33,6 +33,7 @@ use Rattle.peer.specs.Damage.{sound}
 use Rattle.peer.specs.Sounds.{Whole}
 use Rattle.peer.specs.Outcome.{State, Outcome, finished}
 use Rattle.peer.specs.Gate.{fits, gateOf, behind, onRecord}
+use Rattle.peer.specs.Updates.{withGroups}
 use Rattle.peer.specs.declared.settings.Settings.{Settings}
 use Rattle.peer.specs.declared.record.Peer.{Peer}
 use Rattle.peer.specs.declared.gate.Lent.the-variants as lent
@@ -340,3 +341,206 @@ module _ (p q : Peer) (k : Like p q) (w : Within p q) where
           (λ e.
           let on = below-count i (p .standing) e in
           record { answer = refl; like = dispatched-like good i on; within = dispatched-within good i on }))
+
+    -- ---- arrivals
+    module _ (whole : Whole p) (whole′ : Whole q) (store : List ℕ) where
+      abbrev x : State
+      x = record { peer = p; store = store }
+
+      abbrev y : State
+      y = record { peer = q; store = store }
+
+      behind-landed : (g h : Gate) (o r : Outcome State) → g ≡ h → (g ≡ Open → Landed o r) → Landed (behind g x o) (behind h y r)
+      behind-landed g h o r e rest =
+          behind-pair Landed g h x y o r e (λ why. record { answer = refl; store = refl; like = k; within = w }) rest
+
+      names-same : named p ≡ named q
+      names-same = lined-named (p .lists) (q .lists) _ _ (k .lists) (k .channels)
+
+      room-same : (s : Settings) → roomOf s p ≡ roomOf s q
+      room-same s =
+          ap₃ (λ (n : Standing) (t : Waiting) (xs : List ℕ). roomFor s (n .state) (t .total) (lowest incoming xs)) (k .standing) (k .waiting) names-same
+
+      -- a free slot, written alike
+      module _ (a : Arrival) (n : ℕ) (free : freeSlot (p .lists) (p .channels) (p .standing .count) ≡ Lowest n) where
+        pools : Agree noIncoming (n ∷ named p) (set (p .incoming) n (arrivedSlot a)) (set (q .incoming) n (arrivedSlot a))
+        pools =
+            let low = lowest-exists incoming (named p) n free in
+            let long = whole .incoming in
+            let long′ = whole′ .incoming in
+            agree-new noIncoming (named p) (p .incoming) (q .incoming) w n (arrivedSlot a) (arrivedSlot a) (omega (arith, low, long)) (omega (arith, low, long′)) refl
+
+        pooled : (xs : List ℕ) → ((s : ℕ) → times xs s ≤ one n s + times (named p) s)
+            → Agree noIncoming xs (set (p .incoming) n (arrivedSlot a)) (set (q .incoming) n (arrivedSlot a))
+        pooled xs less =
+            agree-less noIncoming (n ∷ named p) (set (p .incoming) n (arrivedSlot a)) (set (q .incoming) n (arrivedSlot a)) pools xs
+            (λ s h. omega (arith, h, less s))
+
+        -- at the end of dispatched
+        delivered-lined : Lined (delivered (p .lists) n) (delivered (q .lists) n)
+        delivered-lined =
+            record {
+              sent = k .lists .sent;
+              reliable = k .lists .reliable;
+              outgoing = k .lists .outgoing;
+              dispatched =
+                  in-kept (p .lists .dispatched) (q .lists .dispatched) (pushed incoming (inItems (p .lists .dispatched)) n)
+                  (pushed incoming (inItems (q .lists .dispatched)) n)
+                  (ap (λ (xs : List ℕ). pushed incoming xs n) (in-items (p .lists .dispatched) (q .lists .dispatched) (k .lists .dispatched)));
+            }
+
+        delivered-landed : (answer : Answer) (g h : Groups) (datagram : List ℕ) → g ≡ h
+            → Landed (record { answer = answer; after = storedAt n a datagram x (delivered (p .lists) n) g (p .channels) })
+            (record { answer = answer; after = storedAt n a datagram y (delivered (q .lists) n) h (q .channels) })
+        delivered-landed answer g h datagram e =
+            record {
+              answer = refl;
+              store = refl;
+              like =
+                  rebuilt-like p q k (k .standing) (k .totals) (k .times) (k .loss) (k .throttling) (k .trips) (k .flow) delivered-lined e
+                  (ap (λ (t : Waiting). awaiting t (a .length)) (k .waiting)) (ranked-by p q k) (k .outs);
+              within =
+                  pooled (usedIn (delivered (p .lists) n) (below (p .channels) (p .standing .count)))
+                  (λ s.
+                  let cs = below (p .channels) (p .standing .count) in
+                  let now = ap (λ (xs : List ℕ). times xs s) (in-items-keep (p .lists .dispatched) (pushed incoming (inItems (p .lists .dispatched)) n)) in
+                  omega (
+                    arith,
+                    now,
+                    pushed-adds incoming (inItems (p .lists .dispatched)) n s,
+                    used-adds (delivered (p .lists) n) cs s,
+                    used-adds (p .lists) cs s,
+                  ));
+            }
+
+      regrouped-like : (g h : Groups) → g ≡ h → Like (withGroups p g) (withGroups q h)
+      regrouped-like g h e =
+          rebuilt-like p q k (k .standing) (k .totals) (k .times) (k .loss) (k .throttling) (k .trips) (k .flow) (k .lists) e (k .waiting) (ranked-by p q k) (k .outs)
+
+      module _ (s : Settings) (a : Arrival) (group : Group) (datagram : List ℕ) where
+        judged-same : judgedOn s group p ≡ judgedOn s group q
+        judged-same = ap₂ (λ (g : Groups) (f : Fate). judged g group f) (k .groups) (room-same s)
+
+        fate-landed : (f : Fate) → judgedOn s group p .fate ≡ f
+            → Landed (record { answer = answerOf (replyOf f); after = unsequencedAfter f (judgedOn s group p .groups) a datagram x })
+            (record { answer = answerOf (replyOf f); after = unsequencedAfter f (judgedOn s group q .groups) a datagram y })
+        fate-landed fate.Passed e =
+            record { answer = refl; store = refl; like = regrouped-like _ _ (ap (λ (j : Judged). j .groups) judged-same); within = w }
+        fate-landed fate.NoRoom e =
+            record { answer = refl; store = refl; like = regrouped-like _ _ (ap (λ (j : Judged). j .groups) judged-same); within = w }
+        fate-landed (fate.Stored n) e =
+            delivered-landed a n (stored-free s a group datagram x n e) (answerOf (replyOf (fate.Stored n))) _ _ datagram (ap (λ (j : Judged). j .groups) judged-same)
+
+        pub unsequenced-landed : Landed (arrivesUnsequenced s a group datagram x) (arrivesUnsequenced s a group datagram y)
+        unsequenced-landed =
+            behind-landed (gateOf (fits s (lent.Store (length store))) (sound p)) (gateOf (fits s (lent.Store (length store))) (sound q))
+            (unsequencedSound s a group datagram x) (unsequencedSound s a group datagram y) (ap (gateOf (fits s (lent.Store (length store)))) alike)
+            (λ e.
+            behind-landed (arrivalGate sendUnsequenced a s (p .standing) (length datagram)) (arrivalGate sendUnsequenced a s (q .standing) (length datagram))
+            (record { answer = answerOf (replyOf (judgedOn s group p .fate)); after = unsequencedAfter (judgedOn s group p .fate) (judgedOn s group p .groups) a datagram x })
+            (record { answer = answerOf (replyOf (judgedOn s group q .fate)); after = unsequencedAfter (judgedOn s group q .fate) (judgedOn s group q .groups) a datagram y })
+            (ap (λ (n : Standing). arrivalGate sendUnsequenced a s n (length datagram)) (k .standing))
+            (λ own.
+            subst (λ (f : Fate). Landed
+            (record { answer = answerOf (replyOf (judgedOn s group p .fate)); after = unsequencedAfter (judgedOn s group p .fate) (judgedOn s group p .groups) a datagram x })
+            (record { answer = answerOf (replyOf f); after = unsequencedAfter f (judgedOn s group q .groups) a datagram y }))
+            (ap (λ (j : Judged). j .fate) judged-same) (fate-landed (judgedOn s group p .fate) refl)))
+
+      -- a reliable one: by what its channel holds
+      module _ (s : Settings) (a : Arrival) (datagram : List ℕ) (good : sound p ≡ true) (on : a .channel < p .standing .count) where
+        abbrev c : Channel
+        c = channelOf a p
+
+        abbrev d : Channel
+        d = channelOf a q
+
+        alike-channels : channelShape c ≡ channelShape d
+        alike-channels = shape whole good (a .channel) on
+
+        agree-held : Agree noIncoming (inItems (c .held)) (p .incoming) (q .incoming)
+        agree-held = in-list whole good (a .channel) on
+
+        passed-same : isPassed (p .incoming) c (a .number .0) ≡ isPassed (q .incoming) d (a .number .0)
+        passed-same =
+            ap₂ (λ (n : ℕ) (b : Bool). pick (eqb (ahead n (a .number .0)) 0) true (pick (ltb farthest (ahead n (a .number .0))) true b))
+            (last-same c d alike-channels)
+            (holds-agree (p .incoming) (q .incoming) (inItems (c .held)) (a .number .0) agree-held
+            ∙ ap (λ (xs : List ℕ). holds (q .incoming) xs (a .number .0)) (items-same c d alike-channels))
+
+        fate-same : fateOn s a p ≡ fateOn s a q
+        fate-same = ap₂ fateOf passed-same (room-same s)
+
+        abbrev place : List Incoming → Channel → ℕ
+        place i e =
+            nearer i (inItems (e .held)) (e .«incoming_reliable» .0) (ahead (e .«incoming_reliable» .0) (a .number .0))
+
+        place-same : place (p .incoming) c ≡ place (q .incoming) d
+        place-same =
+            nearer-agree (p .incoming) (q .incoming) (inItems (c .held)) (c .«incoming_reliable» .0) (ahead (c .«incoming_reliable» .0) (a .number .0)) agree-held
+            ∙ ap₂ (λ (xs : List ℕ) (n : ℕ). nearer (q .incoming) xs n (ahead n (a .number .0))) (items-same c d alike-channels) (last-same c d alike-channels)
+
+        module _ (n : ℕ) (free : freeSlot (p .lists) (p .channels) (p .standing .count) ≡ Lowest n) where
+          abbrev now : Channel
+          now = heldWith (p .incoming) c (a .number .0) n
+
+          abbrev now′ : Channel
+          now′ = heldWith (q .incoming) d (a .number .0) n
+
+          now-shape : channelShape now ≡ channelShape now′
+          now-shape =
+              ap₂ withHeldShape alike-channels
+              (in-kept (c .held) (d .held) (inserted incoming (inItems (c .held)) (place (p .incoming) c) n)
+              (inserted incoming (inItems (d .held)) (place (q .incoming) d) n)
+              (ap₂ (λ (xs : List ℕ) (i : ℕ). inserted incoming xs i n) (items-same c d alike-channels) place-same))
+
+          now-names : (t : ℕ) → times (inItems (now .held)) t ≤ one n t + times (inItems (c .held)) t
+          now-names t =
+              let is = ap (λ (xs : List ℕ). times xs t) (in-items-keep (c .held) (inserted incoming (inItems (c .held)) (place (p .incoming) c) n)) in
+              omega (arith, is, inserted-adds incoming (inItems (c .held)) (place (p .incoming) c) n t)
+
+          then-gone : Gone (dispatchedWith n a p) (dispatchedWith n a q)
+          then-gone =
+              dispatched-gone now now′ now-shape (p .lists) (q .lists) (k .lists) (p .groups) (q .groups) (k .groups) (set (p .incoming) n (arrivedSlot a))
+              (set (q .incoming) n (arrivedSlot a))
+              (pooled a n free (inItems (now .held)) (λ t. omega (arith, now-names t, held-named p whole good (a .channel) on t)))
+
+          stored-landed : (answer : Answer) → Landed (record { answer = answer; after = reliableAfter (fate.Stored n) a datagram x })
+              (record { answer = answer; after = reliableAfter (fate.Stored n) a datagram y })
+          stored-landed answer =
+              record {
+                answer = refl;
+                store = refl;
+                like =
+                    rebuilt-like p q k (k .standing) (k .totals) (k .times) (k .loss) (k .throttling) (k .trips) (k .flow) (then-gone .lists) (then-gone .groups)
+                    (ap (λ (t : Waiting). awaiting t (a .length)) (k .waiting))
+                    (ranked-set (p .channels) (q .channels) (p .standing .count) (a .channel) _ _ (ranked-by p q k) (then-gone .channel))
+                    (subst (λ (xs : List ℕ). Agree noOutgoing xs (p .outgoing) (q .outgoing))
+                    (sym (gone-used (set (p .incoming) n (arrivedSlot a)) now (p .lists) (p .groups))) (k .outs));
+                within =
+                    pooled a n free (named (reliableAfter (fate.Stored n) a datagram x .peer))
+                    (λ t.
+                    landed-names p whole good (a .channel) on (dispatchedWith n a p .lists) (dispatchedWith n a p .channel) t (one n t)
+                    (omega (arith, gone-names (set (p .incoming) n (arrivedSlot a)) now (p .lists) (p .groups) t, now-names t)));
+              }
+
+        held-landed : (f : Fate) → fateOn s a p ≡ f → Landed (record { answer = answerOf (replyOf f); after = reliableAfter f a datagram x })
+            (record { answer = answerOf (replyOf f); after = reliableAfter f a datagram y })
+        held-landed fate.Passed e = record { answer = refl; store = refl; like = k; within = w }
+        held-landed fate.NoRoom e = record { answer = refl; store = refl; like = k; within = w }
+        held-landed (fate.Stored n) e = stored-landed n (held-free s a datagram x n e) (answerOf (replyOf (fate.Stored n)))
+
+      pub reliable-landed : (s : Settings) (a : Arrival) (datagram : List ℕ) → Landed (arrivesReliable s a datagram x) (arrivesReliable s a datagram y)
+      reliable-landed s a datagram =
+          behind-landed (gateOf (fits s (lent.Store (length store))) (sound p)) (gateOf (fits s (lent.Store (length store))) (sound q))
+          (reliableSound s a datagram x) (reliableSound s a datagram y) (ap (gateOf (fits s (lent.Store (length store)))) alike)
+          (λ e.
+          behind-landed (arrivalGate sendReliable a s (p .standing) (length datagram)) (arrivalGate sendReliable a s (q .standing) (length datagram))
+          (record { answer = answerOf (replyOf (fateOn s a p)); after = reliableAfter (fateOn s a p) a datagram x })
+          (record { answer = answerOf (replyOf (fateOn s a q)); after = reliableAfter (fateOn s a q) a datagram y })
+          (ap (λ (n : Standing). arrivalGate sendReliable a s n (length datagram)) (k .standing))
+          (λ own.
+          let good = sound-open (fits s (lent.Store (length store))) (sound p) e in
+          let on = admitted sendReliable a s (p .standing) (length datagram) own .on in
+          subst (λ (f : Fate). Landed (record { answer = answerOf (replyOf (fateOn s a p)); after = reliableAfter (fateOn s a p) a datagram x })
+          (record { answer = answerOf (replyOf f); after = reliableAfter f a datagram y })) (fate-same s a datagram good on)
+          (held-landed s a datagram good on (fateOn s a p) refl)))
