@@ -25,3 +25,4 @@ pub mod Held
 pub mod AlikeOut
 pub mod AlikeSent
 pub mod AlikeIn
+pub mod Alike
