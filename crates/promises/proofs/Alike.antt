@@ -32,7 +32,6 @@ use Rattle.outward.specs.declared.calls.Call.the-variants as out
 use Rattle.inward.specs.Steps.{beside, comes}
 use Rattle.inward.specs.declared.calls.Call.{Call as Inward}
 use Rattle.inward.specs.declared.calls.Call.the-variants as inw
-use Rattle.link.specs.Steps.{step}
 use Rattle.link.specs.declared.calls.Call.the-variants as call
 use Rattle.promises.specs.Alike.{Alike, RespectsSame}
 use Rattle.promises.proofs.Presence.{Still}

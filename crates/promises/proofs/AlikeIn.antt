@@ -4,7 +4,7 @@
 use Prim.Native.Nat.{ℕ, suc, _+_, _≤_, _<_}
 use mathlib.Core.Path.{_≡_, refl, ap, ap₂, sym, subst, _∙_}
 use mathlib.Core.Bool.{Bool, true, false}
-use mathlib.Core.List.{List, [], _∷_, _++_}
+use mathlib.Core.List.{List, [], _∷_}
 use native.Mathlib.Omega.{arith}
 use lib.Dec.{eqb, ltb}
 use lib.ListN.{length, getD, set, length-take}
@@ -12,9 +12,7 @@ use lib.Seq.{take-set-lt, getD-take}
 use Rattle.numbers.specs.Pick.{pick}
 use Rattle.numbers.specs.Answers.{Answer}
 use Rattle.numbers.specs.declared.counters.Group.{Group}
-use Rattle.numbers.specs.declared.counters.Reliable.{Reliable}
-use Rattle.slots.specs.Lists.{incoming, inItems, inKeep}
-use Rattle.slots.specs.declared.incoming.InList.{InList}
+use Rattle.slots.specs.Lists.{incoming, inItems}
 use Rattle.slots.proofs.Views.{in-items-keep}
 use Rattle.slots.proofs.Keeps.{one, times, times-append, pushed-adds, inserted-adds, without-takes, times-moved}
 use Rattle.runs.specs.Runs.{first, pushed, inserted, without, movedFrom, movedTo}
@@ -42,12 +40,13 @@ use Rattle.peer.specs.declared.gate.Gate.the-variants.{Open}
 use Rattle.peer.proofs.Gates.{sound-open}
 use Rattle.peer.proofs.Ranges.{count-high}
 use Rattle.same.specs.Same.{ListView, ChannelView}
-use Rattle.same.proofs.Laws.{Agree, agree-less, agree-new, Lined, lined-named, inShape, channelShape, in-items, in-kept, ranked-set, ranked-at, named-first, Like, named, Within}
+use Rattle.same.proofs.Laws.{Agree, agree-less, agree-new, named-first, Lined, lined-named, ranked-set, ranked-at, Like, named, Within}
+use Rattle.same.proofs.Laws.{inShape, channelShape, in-items, in-kept}
 use Rattle.same.proofs.Pairs.{behind-pair, ranked-by, rebuilt-like}
 use Rattle.storing.specs.Storing.{freeSlot, delivered, awaiting}
 use Rattle.dispatching.specs.Dispatching.{follows, numberAfter, readyCount, readyLast, flagged, movedOn, dispatchedBy}
 use Rattle.dispatching.specs.declared.Dispatched.{Dispatched}
-use Rattle.holding.specs.Holding.{ahead, numberAt, holds, farthest, isPassed, nearer, heldWith}
+use Rattle.holding.specs.Holding.{ahead, holds, farthest, isPassed, nearer, heldWith}
 use Rattle.dispatch.specs.Calls.{dispatchGate, dispatchedOn, dispatchesSound, dispatches}
 use Rattle.dispatch.proofs.Sums.{held-set, held-within}
 use Rattle.dispatch.proofs.Sound.{below-count}
@@ -58,7 +57,7 @@ use Rattle.arriving.specs.declared.Arrival.{Arrival}
 use Rattle.arriving.specs.declared.Fate.{Fate}
 use Rattle.arriving.specs.declared.Fate.the-variants as fate
 use Rattle.arriving.specs.declared.Judged.{Judged}
-use Rattle.arriving.proofs.Admitted.{Admitted, admitted}
+use Rattle.arriving.proofs.Admitted.{admitted}
 use Rattle.unsequenced.specs.Calls.{sendUnsequenced, unsequencedAfter, judgedOn, unsequencedSound, arrivesUnsequenced}
 use Rattle.reliable.specs.Calls.{sendReliable, channelOf, dispatchedWith, reliableAfter, fateOf, fateOn, reliableSound, arrivesReliable}
 use Rattle.arrived.proofs.Unsequenced.{stored-free}
@@ -368,7 +367,8 @@ module _ (p q : Peer) (k : Like p q) (w : Within p q) where
             let low = lowest-exists incoming (named p) n free in
             let long = whole .incoming in
             let long′ = whole′ .incoming in
-            agree-new noIncoming (named p) (p .incoming) (q .incoming) w n (arrivedSlot a) (arrivedSlot a) (omega (arith, low, long)) (omega (arith, low, long′)) refl
+            agree-new noIncoming (named p) (p .incoming) (q .incoming) w n (arrivedSlot a) (arrivedSlot a) (omega (arith, low, long))
+            (omega (arith, low, long′)) refl
 
         pooled : (xs : List ℕ) → ((s : ℕ) → times xs s ≤ one n s + times (named p) s)
             → Agree noIncoming xs (set (p .incoming) n (arrivedSlot a)) (set (q .incoming) n (arrivedSlot a))
@@ -418,18 +418,22 @@ module _ (p q : Peer) (k : Like p q) (w : Within p q) where
           rebuilt-like p q k (k .standing) (k .totals) (k .times) (k .loss) (k .throttling) (k .trips) (k .flow) (k .lists) e (k .waiting) (ranked-by p q k) (k .outs)
 
       module _ (s : Settings) (a : Arrival) (group : Group) (datagram : List ℕ) where
+        -- what a fate comes to, by the window's groups
+        abbrev fated : Fate → Groups → State → Outcome State
+        fated f g z = record { answer = answerOf (replyOf f); after = unsequencedAfter f g a datagram z }
+
         judged-same : judgedOn s group p ≡ judgedOn s group q
         judged-same = ap₂ (λ (g : Groups) (f : Fate). judged g group f) (k .groups) (room-same s)
 
         fate-landed : (f : Fate) → judgedOn s group p .fate ≡ f
-            → Landed (record { answer = answerOf (replyOf f); after = unsequencedAfter f (judgedOn s group p .groups) a datagram x })
-            (record { answer = answerOf (replyOf f); after = unsequencedAfter f (judgedOn s group q .groups) a datagram y })
+            → Landed (fated f (judgedOn s group p .groups) x) (fated f (judgedOn s group q .groups) y)
         fate-landed fate.Passed e =
             record { answer = refl; store = refl; like = regrouped-like _ _ (ap (λ (j : Judged). j .groups) judged-same); within = w }
         fate-landed fate.NoRoom e =
             record { answer = refl; store = refl; like = regrouped-like _ _ (ap (λ (j : Judged). j .groups) judged-same); within = w }
         fate-landed (fate.Stored n) e =
-            delivered-landed a n (stored-free s a group datagram x n e) (answerOf (replyOf (fate.Stored n))) _ _ datagram (ap (λ (j : Judged). j .groups) judged-same)
+            delivered-landed a n (stored-free s a group datagram x n e) (answerOf (replyOf (fate.Stored n))) _ _ datagram
+            (ap (λ (j : Judged). j .groups) judged-same)
 
         pub unsequenced-landed : Landed (arrivesUnsequenced s a group datagram x) (arrivesUnsequenced s a group datagram y)
         unsequenced-landed =
@@ -437,16 +441,17 @@ module _ (p q : Peer) (k : Like p q) (w : Within p q) where
             (unsequencedSound s a group datagram x) (unsequencedSound s a group datagram y) (ap (gateOf (fits s (lent.Store (length store)))) alike)
             (λ e.
             behind-landed (arrivalGate sendUnsequenced a s (p .standing) (length datagram)) (arrivalGate sendUnsequenced a s (q .standing) (length datagram))
-            (record { answer = answerOf (replyOf (judgedOn s group p .fate)); after = unsequencedAfter (judgedOn s group p .fate) (judgedOn s group p .groups) a datagram x })
-            (record { answer = answerOf (replyOf (judgedOn s group q .fate)); after = unsequencedAfter (judgedOn s group q .fate) (judgedOn s group q .groups) a datagram y })
+            (fated (judgedOn s group p .fate) (judgedOn s group p .groups) x)
+            (fated (judgedOn s group q .fate) (judgedOn s group q .groups) y)
             (ap (λ (n : Standing). arrivalGate sendUnsequenced a s n (length datagram)) (k .standing))
             (λ own.
-            subst (λ (f : Fate). Landed
-            (record { answer = answerOf (replyOf (judgedOn s group p .fate)); after = unsequencedAfter (judgedOn s group p .fate) (judgedOn s group p .groups) a datagram x })
-            (record { answer = answerOf (replyOf f); after = unsequencedAfter f (judgedOn s group q .groups) a datagram y }))
+            subst (λ (f : Fate). Landed (fated (judgedOn s group p .fate) (judgedOn s group p .groups) x) (fated f (judgedOn s group q .groups) y))
             (ap (λ (j : Judged). j .fate) judged-same) (fate-landed (judgedOn s group p .fate) refl)))
 
       -- a reliable one: by what its channel holds
+      abbrev heldBy : Arrival → List ℕ → Fate → State → Outcome State
+      heldBy a datagram f z = record { answer = answerOf (replyOf f); after = reliableAfter f a datagram z }
+
       module _ (s : Settings) (a : Arrival) (datagram : List ℕ) (good : sound p ≡ true) (on : a .channel < p .standing .count) where
         abbrev c : Channel
         c = channelOf a p
@@ -523,8 +528,7 @@ module _ (p q : Peer) (k : Like p q) (w : Within p q) where
                     (omega (arith, gone-names (set (p .incoming) n (arrivedSlot a)) now (p .lists) (p .groups) t, now-names t)));
               }
 
-        held-landed : (f : Fate) → fateOn s a p ≡ f → Landed (record { answer = answerOf (replyOf f); after = reliableAfter f a datagram x })
-            (record { answer = answerOf (replyOf f); after = reliableAfter f a datagram y })
+        held-landed : (f : Fate) → fateOn s a p ≡ f → Landed (heldBy a datagram f x) (heldBy a datagram f y)
         held-landed fate.Passed e = record { answer = refl; store = refl; like = k; within = w }
         held-landed fate.NoRoom e = record { answer = refl; store = refl; like = k; within = w }
         held-landed (fate.Stored n) e = stored-landed n (held-free s a datagram x n e) (answerOf (replyOf (fate.Stored n)))
@@ -535,12 +539,10 @@ module _ (p q : Peer) (k : Like p q) (w : Within p q) where
           (reliableSound s a datagram x) (reliableSound s a datagram y) (ap (gateOf (fits s (lent.Store (length store)))) alike)
           (λ e.
           behind-landed (arrivalGate sendReliable a s (p .standing) (length datagram)) (arrivalGate sendReliable a s (q .standing) (length datagram))
-          (record { answer = answerOf (replyOf (fateOn s a p)); after = reliableAfter (fateOn s a p) a datagram x })
-          (record { answer = answerOf (replyOf (fateOn s a q)); after = reliableAfter (fateOn s a q) a datagram y })
+          (heldBy a datagram (fateOn s a p) x) (heldBy a datagram (fateOn s a q) y)
           (ap (λ (n : Standing). arrivalGate sendReliable a s n (length datagram)) (k .standing))
           (λ own.
           let good = sound-open (fits s (lent.Store (length store))) (sound p) e in
           let on = admitted sendReliable a s (p .standing) (length datagram) own .on in
-          subst (λ (f : Fate). Landed (record { answer = answerOf (replyOf (fateOn s a p)); after = reliableAfter (fateOn s a p) a datagram x })
-          (record { answer = answerOf (replyOf f); after = reliableAfter f a datagram y })) (fate-same s a datagram good on)
+          subst (λ (f : Fate). Landed (heldBy a datagram (fateOn s a p) x) (heldBy a datagram f y)) (fate-same s a datagram good on)
           (held-landed s a datagram good on (fateOn s a p) refl)))

@@ -6,14 +6,12 @@ use mathlib.Core.Path.{_≡_, refl, ap, ap₂, sym, subst, _∙_}
 use mathlib.Core.Bool.{Bool, true, false}
 use mathlib.Core.List.{List, [], _∷_, _++_}
 use native.Mathlib.Omega.{arith}
-use lib.Dec.{eqb, ltb, leb}
-use lib.ListN.{length, getD, set, List·getD-eq-default}
+use lib.Dec.{ltb, leb}
+use lib.ListN.{length, set, List·getD-eq-default}
 use borrow.Author.Tests.{eqb-true, ltb-true}
 use Rattle.numbers.specs.Pick.{pick}
-use Rattle.numbers.specs.declared.refusals.Refusal.{Refusal}
-use Rattle.numbers.specs.declared.refusals.Refusal.the-variants.{OutOfRange, BadCommand, FailedToQueue, InvalidChannel}
+use Rattle.numbers.specs.declared.refusals.Refusal.the-variants.{OutOfRange}
 use Rattle.numbers.specs.Modulo.{sum}
-use Rattle.command.specs.Rows.{namesFields}
 use Rattle.throttle.specs.Throttling.{byTests}
 use Rattle.slots.specs.Lists.{outgoing, outItems}
 use Rattle.slots.specs.declared.outgoing.OutList.{OutList}
@@ -24,12 +22,11 @@ use Rattle.runs.specs.Free.{lowest, howMany}
 use Rattle.runs.specs.declared.Free.{Free}
 use Rattle.runs.specs.declared.Free.the-variants.{Lowest, Full}
 use Rattle.runs.proofs.Lowest.{lowest-exists}
-use Rattle.runs.specs.declared.First.{First}
-use Rattle.runs.specs.declared.First.the-variants.{Slot, Empty}
 use Rattle.parts.specs.Sizes.{itself}
 use Rattle.parts.specs.Fresh.{noOutgoing, noChannel}
-use Rattle.parts.specs.Damage.{below, usedOut}
-use Rattle.parts.specs.Updates.{withState, withCount, withMtu, withReliable, withOutgoingTotal, withOutgoingGroup, withQueued, withSentList, withReliableList, withOutgoingList, longer, shorter}
+use Rattle.parts.specs.Damage.{usedOut}
+use Rattle.parts.specs.Updates.{withState, withCount, withMtu, withReliable, withOutgoingTotal, withOutgoingGroup, withQueued}
+use Rattle.parts.specs.Updates.{withSentList, withReliableList, withOutgoingList, longer, shorter}
 use Rattle.parts.specs.declared.groups.Standing.{Standing}
 use Rattle.parts.specs.declared.groups.Flow.{Flow}
 use Rattle.parts.specs.declared.groups.Lists.{Lists}
@@ -49,9 +46,10 @@ use Rattle.peer.specs.declared.settings.Settings.{Settings}
 use Rattle.peer.specs.declared.record.Peer.{Peer}
 use Rattle.peer.specs.declared.gate.Lent.the-variants as lent
 use Rattle.peer.specs.declared.gate.Gate.{Gate}
-use Rattle.peer.specs.declared.gate.Gate.the-variants.{Open, Shut}
-use Rattle.peer.proofs.Gates.{openness, sound-open}
-use Rattle.same.proofs.Laws.{Agree, agree-less, agree-set, agree-new, named-with, Lined, lined-used, outShape, channelShape, out-items, out-kept, ranked-set, ranked-at, named-first, Like}
+use Rattle.peer.specs.declared.gate.Gate.the-variants.{Open}
+use Rattle.peer.proofs.Gates.{sound-open}
+use Rattle.same.proofs.Laws.{agree-less, agree-set, agree-new, named-first, named-with, Lined, lined-used, ranked-set, ranked-at, Like}
+use Rattle.same.proofs.Laws.{outShape, channelShape, out-items, out-kept}
 use Rattle.same.specs.Same.{ChannelView}
 use Rattle.same.proofs.Pairs.{behind-pair, ranked-by, rebuilt-like}
 use Rattle.opening.specs.Calls.{beginFits, begun, beginsSound, begins, stated, setsStateSound, setsState}
@@ -66,7 +64,7 @@ use Rattle.stamps.specs.declared.pieces.Piece.{Piece}
 use Rattle.setup.specs.Queueing.{room, stampOf, made, queuedAt, queuedIn, queued, queuedAll}
 use Rattle.setup.specs.Taking.{allFit}
 use Rattle.setup.specs.Calls.{onChannel, setupGate, setsUpSound, setsUp}
-use Rattle.setup.proofs.Sound.{queued-whole, fit-on, fit-rest}
+use Rattle.setup.proofs.Sound.{queued-whole, fit-on, fit-rest, setup-open}
 use Rattle.packets.specs.Packets.{fragmentLength, whole, cutBy, startOf, pieces}
 use Rattle.plans.specs.Refusals.{sendGate, queueGate}
 use Rattle.sending.specs.Calls.{fragment, commands, queuesAll, sendsSound, sends}
@@ -276,14 +274,7 @@ commandsBy size channel long flags v =
     pick (leb long size) (whole flags (v .outgoingUnreliable) channel long ∷ [])
     (pieces (cutBy (startOf flags (v .outgoingReliable) (v .outgoingUnreliable)) channel long size))
 
--- what an open gate says of the channel
-setup-on : (x : Piece) (count free : ℕ) → setupGate x count free ≡ Open → onChannel (x .command .channel) count ≡ true
-setup-on x count free = go (onChannel (x .command .channel) count)
-  where
-    go : (b : Bool) → pick b (pick (leb 1 free) (pick (namesFields (x .command)) Open (Shut BadCommand)) (Shut FailedToQueue)) (Shut InvalidChannel) ≡ Open → b ≡ true
-    go true e = refl
-    go false e = absurd (omega (arith, ap openness e))
-
+-- 255 is always one
 itself-on : (count : ℕ) → onChannel itself count ≡ true
 itself-on count = go (ltb itself count)
   where
@@ -390,7 +381,7 @@ module _ (p q : Peer) (k : Like p q) where
           (λ good.
           behind-twin (setupGate x (p .standing .count) (room p)) (setupGate x (q .standing .count) (room q)) (finished (queued x p)) (finished (queued x q))
           (ap₂ (λ (n : Standing) (r : ℕ). setupGate x (n .count) r) (k .standing) room-same)
-          (λ e. record { answer = refl; like = queued-like x p q k wp wq (setup-on x (p .standing .count) (room p) e) }))
+          (λ e. record { answer = refl; like = queued-like x p q k wp wq (setup-open x p e .0) }))
 
       pub ping-twin : (s : Settings) → Twin (pings s p) (pings s q)
       ping-twin s =

@@ -3,10 +3,9 @@
 -- a slot that is not in a list afterwards is not asked for.
 use Prim.Native.Nat.{ℕ, _+_, _≤_, _<_}
 use mathlib.Core.Path.{_≡_, refl, ap, ap₂, sym, subst, _∙_}
-use mathlib.Core.Bool.{Bool, true, false}
-use mathlib.Core.List.{List, [], _∷_, _++_}
+use mathlib.Core.List.{List, [], _∷_}
 use native.Mathlib.Omega.{arith}
-use lib.Dec.{eqb, ltb}
+use lib.Dec.{eqb}
 use lib.ListN.{length, getD, set, length-set}
 use Rattle.numbers.specs.Pick.{pick}
 use Rattle.numbers.specs.declared.clock.Trip.{Trip}
@@ -33,7 +32,7 @@ use Rattle.parts.specs.declared.groups.Throttling.{Throttling}
 use Rattle.parts.specs.declared.groups.Trips.{Trips}
 use Rattle.parts.specs.declared.groups.Outgoing.{Outgoing}
 use Rattle.peer.specs.Damage.{sound}
-use Rattle.peer.specs.States.{disconnected, acknowledgingConnect, disconnectLater, disconnecting, zombie}
+use Rattle.peer.specs.States.{acknowledgingConnect, disconnectLater, disconnecting}
 use Rattle.peer.specs.declared.settings.Settings.{Settings}
 use Rattle.peer.specs.declared.record.Peer.{Peer}
 use Rattle.same.proofs.Laws.{Agree, agree-less, agree-set, Lined, lined-used, outShape, out-items, out-kept, named-first, Like}
@@ -238,7 +237,8 @@ walked-agree l clock used (s ∷ ss) w a b names long h =
     let t = turnBy l clock w (getD a s noOutgoing) in
     let rest = walked-agree l clock used ss (t .walk) (set a s (t .slot)) (set b s (t .slot)) (λ x n. names x (omega (arith, n)))
     (length-set a s (t .slot) ∙ long ∙ sym (length-set b s (t .slot))) (agree-set noOutgoing used a b h s (t .slot) (t .slot) long refl) in
-    subst (λ (u : Turned). Walks used (markedBy (t .mark) (walked l clock ss (t .walk) (set a s (t .slot)))) (markedBy (u .mark) (walked l clock ss (u .walk) (set b s (u .slot)))))
+    subst (λ (u : Turned). Walks used (markedBy (t .mark) (walked l clock ss (t .walk) (set a s (t .slot))))
+    (markedBy (u .mark) (walked l clock ss (u .walk) (set b s (u .slot)))))
     (ap (turnBy l clock w) (h s (names s (named-first s ss))))
     (record { walk = rest .walk; marks = ap (λ (ms : List ℕ). t .mark ∷ ms) (rest .marks); slots = rest .slots })
 

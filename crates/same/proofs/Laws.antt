@@ -23,7 +23,7 @@ use Rattle.parts.specs.declared.groups.Channel.{Channel}
 use Rattle.parts.specs.declared.groups.Outgoing.{Outgoing}
 use Rattle.parts.specs.declared.groups.Incoming.{Incoming}
 use Rattle.peer.specs.declared.record.Peer.{Peer}
-use Rattle.same.specs.Same.{ListView, ChannelView, View, Same, view, outView, inView, channelView}
+use Rattle.same.specs.Same.{ListView, ChannelView, Same, view, outView, inView, channelView}
 use Rattle.same.proofs.Views.{Agrees, same-agrees, heldItems, heldSlots, held-items, arrivals-are}
 
 -- ---- pools that agree on the slots named

@@ -1,9 +1,7 @@
 -- A call on two records that are the same, side by side: both are refused alike or both go on, and the groups that a call changes stay alike part by part.
 -- The argument: the gate is the same on both, and by cases on it.
-use mathlib.Core.Path.{_≡_, refl, ap, ap₂, sym, subst, _∙_}
+use mathlib.Core.Path.{_≡_, refl, sym, subst}
 use mathlib.Core.List.{List}
-use Prim.Native.Nat.{ℕ}
-use Rattle.numbers.specs.Answers.{Answer}
 use Rattle.numbers.specs.declared.refusals.Refusal.{Refusal}
 use Rattle.parts.specs.Fresh.{noOutgoing}
 use Rattle.parts.specs.Damage.{below, usedOut}
