@@ -32,4 +32,8 @@ pub mod OutAside
 pub mod OutSetting
 pub mod OutNumbers
 pub mod OutbookLaws
+pub mod AlikeOut
+pub mod AlikeSent
+pub mod AlikeIn
+pub mod Alike
 pub mod Promised

@@ -4,6 +4,7 @@ use Rattle.promises.proofs.Refusals.{answers-may, refused-unchanged, so
 use Rattle.promises.proofs.Shown.{answers-each}
 use Rattle.promises.proofs.Eight.{eight-leaves, eight-moves, ten-keeps}
 use Rattle.promises.proofs.Sounding.{stays-sound, never-damaged}
+use Rattle.promises.proofs.Alike.{respects-same}
 use Rattle.promises.proofs.Traces.{no-trace, no-trace-original, far-apart}
 use Rattle.promises.proofs.ReportTraces.{no-trace-reports}
 use Rattle.promises.proofs.Held.{nothing-stuck}
@@ -27,6 +28,7 @@ promised =
       sound-undamaged = sound-undamaged;
       stays-sound = stays-sound;
       never-damaged = never-damaged;
+      respects-same = respects-same;
       no-trace = no-trace;
       no-trace-original = no-trace-original;
       far-apart = far-apart;

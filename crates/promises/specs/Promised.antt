@@ -1,6 +1,7 @@
 -- Every promise of docs/PROMISES.md, a field each: one term of this record, in proofs, is the proof of all.
 use Rattle.promises.specs.Refusals.{AnswersMay, RefusedUnchanged, SoundUndamaged, EightLeaves, EightMoves, TenKeeps, AnswersEach}
 use Rattle.promises.specs.Standing.{StaysSound, NeverDamaged, Waits, InTransit}
+use Rattle.promises.specs.Alike.{RespectsSame}
 use Rattle.promises.specs.Repeats.{NoTrace, NoTraceOriginal, FarApart}
 use Rattle.promises.specs.ReportRepeats.{NoTraceReports}
 use Rattle.promises.specs.Packets.{ComesOut}
@@ -21,6 +22,7 @@ pub record Promised : Type 0 where
   pub sound-undamaged : SoundUndamaged
   pub stays-sound : StaysSound
   pub never-damaged : NeverDamaged
+  pub respects-same : RespectsSame
   -- 3. repeats leave no trace
   pub no-trace : NoTrace
   pub no-trace-original : NoTraceOriginal
