@@ -39,7 +39,7 @@ use Rattle.answered.specs.Moving.{Moves}
 use Rattle.answered.proofs.Acknowledged.{acknowledge-removes}
 use Rattle.answered.proofs.Checked.{check-moves, check-sounds}
 use Rattle.promises.specs.Counts.{count}
-use Rattle.promises.specs.Outbook.{Item, itemOf, itemsAt, waiting, missing, gone, Removed, isNamed}
+use Rattle.promises.specs.Outbook.{Item, itemOf, itemsAt, waiting, missing, gone, Removed, heard, isNamed}
 use Rattle.promises.proofs.Reporting.{part-set}
 use Rattle.promises.proofs.OutCounts.{count-map, count-all, map-same, count-same, once-times, missing-none, missing-count}
 
@@ -143,10 +143,7 @@ step-leaves s k time p =
     go w (n ∷ rest) e = as-steps k n time rest p e w
 
 -- ---- an acknowledgement
--- a command as one that names this number and channel removes it
-abbrev pub heard : ℕ → ℕ → Item → Removed
-heard number channel i = record { item = i; number = number; channel = channel }
-
+-- a command bears the number and the channel that an acknowledgement named
 abbrev bears : ℕ → ℕ → Item → Bool
 bears number channel i = isNamed (heard number channel i)
 

@@ -34,13 +34,13 @@ use Rattle.link.specs.declared.calls.Call.the-variants as call
 use Rattle.promises.specs.Counts.{count, those}
 use Rattle.promises.specs.Packets.{isReset}
 use Rattle.promises.specs.Reports.{series}
-use Rattle.promises.specs.Outbook.{Item, itemsAt, waiting, joinedOut, gone, Removed, isNamed, Outbook, itemsOf, freshOutbook, queues, enters, booked, writesOut, outbook, numberedOn, NoneLost}
+use Rattle.promises.specs.Outbook.{Item, itemsAt, waiting, joinedOut, gone, Removed, heard, isNamed, Outbook, itemsOf, freshOutbook, queues, enters, booked, writesOut, outbook, numberedOn, NoneLost}
 use Rattle.promises.proofs.Reporting.{rises-series}
 use Rattle.promises.proofs.Sounding.{fresh-whole, call-sounds}
 use Rattle.promises.proofs.OutCounts.{count-append, count-map}
 use Rattle.promises.proofs.OutQueues.{news, joined-news, queues-once}
 use Rattle.promises.proofs.OutSetting.{Queues, none, some, setup-queues, ping-queues, send-queues}
-use Rattle.promises.proofs.OutLeaving.{asks, Leaves, heard, Hears, step-leaves, acknowledge-hears, check-keeps}
+use Rattle.promises.proofs.OutLeaving.{asks, Leaves, Hears, step-leaves, acknowledge-hears, check-keeps}
 use Rattle.promises.proofs.OutAside.{begin-leaves, Uncounted, Aside, aside-waiting, state-aside, throttle-aside, receive-aside, dispatch-aside, unsequenced-aside, reliable-aside}
 use Rattle.promises.proofs.OutNumbers.{Counted, uncounted-counted, pieces-counted, fresh-counted, begin-counted, step-uncounted, acknowledge-uncounted, check-uncounted}
 

@@ -77,6 +77,9 @@ pub record Removed : Type 0 where
   pub number : ℕ
   pub channel : ℕ
 
+abbrev pub heard : ℕ → ℕ → Item → Removed
+heard number channel i = record { item = i; number = number; channel = channel }
+
 abbrev pub isNamed : Removed → Bool
 isNamed r = both (eqb (r .item .reliable) (r .number)) (eqb (r .item .command .channel) (r .channel))
 
@@ -102,8 +105,7 @@ enters (out.Send channel length flags) p q b = queues (joinedOut p q) b
 enters (out.Setup piece) p q b = queues (joinedOut p q) b
 enters (out.SendStep queue time) p q b = record { queued = b .queued; removed = b .removed; freed = b .freed ++ gone p q }
 enters (out.Acknowledgement channel number sent clock) p q b =
-    let heard : List Removed = map (λ (i : Item). record { item = i; number = number .0; channel = channel }) (gone p q) in
-    record { queued = b .queued; removed = b .removed ++ heard; freed = b .freed }
+    record { queued = b .queued; removed = b .removed ++ map (heard (number .0) channel) (gone p q); freed = b .freed }
 enters (out.TimeoutCheck clock) p q b = b
 enters (out.Throttle sample) p q b = b
 
