@@ -168,8 +168,8 @@ module _ (s : Settings) (a : Arrival) (g : Group) (datagram : List ℕ) (x : Sta
   eight-taken base words home not fate.NoRoom e = record { home = home; unmarked = not }
   eight-taken base words home not (fate.Stored n) e = absurd (omega (arith, e))
 
-  eight-leaves : Eight (arrivesUnsequenced s a g datagram x)
-  eight-leaves =
+  eight-unmarked : Eight (arrivesUnsequenced s a g datagram x)
+  eight-unmarked =
       let p = x .peer in
       eight-behind (fits s (Store (length (x .store)))) (sound p) (names (a .byte) sendUnsequenced) (isReceiving (a .channel) (p .standing))
       (isWhole a s (length datagram)) (comes a datagram x (judgedOn s g p))
@@ -183,7 +183,7 @@ pub stored-after-eight : StoredAfterEight
 stored-after-eight s t a g datagram x calls eight aside good f =
     let o = comesTo (unsequencedly s a g datagram) x in
     let y = run calls (o .after) .end in
-    let left = subst (λ (w : Window). Unmarked w (g .0)) (sym (run-aside calls (o .after) aside)) (eight-leaves s a g datagram x eight) in
+    let left = subst (λ (w : Window). Unmarked w (g .0)) (sym (run-aside calls (o .after) aside)) (eight-unmarked s a g datagram x eight) in
     near-stored t a g datagram y good f (home-near (baseOf y) (g .0) (left .home)) (inr (left .unmarked))
 
 -- ---- marked exactly if taken
