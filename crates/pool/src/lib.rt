@@ -1,0 +1,370 @@
+// The pools as numbers that the caller lends. An outgoing slot has 26: nine of its own, its command's row of 16, its fields' kind. An incoming slot has six.
+ghost use mathlib.Core.Path.{_≡_};
+ghost use mathlib.Core.List.{map};
+ghost use Prim.Native.Nat.{_+_, _*_, _%_, _≤_, _<_};
+ghost use lib.ListN.{length, take, drop, getD, set};
+ghost use lib.Seq.{paste};
+ghost use Rattle.slots.specs.Lists.{outgoing};
+ghost use Rattle.parts.specs.Fresh.{noOutgoing, noIncoming};
+ghost use Rattle.parts.specs.Updates.{withAttempt};
+ghost use Rattle.damage.specs.Walks.{worthOf};
+ghost use Rattle.pool.specs.Slots.{width, poolLength, inPoolLength, flag, slotFrom, slotsOf, briefOf, inSlotsOf, wordsOf, kindFrom, fitOf, gradeOf};
+use command::fields::Command;
+use command::fields::Fields;
+use command::rows;
+use numbers::counters::Reliable;
+use numbers::counters::Unreliable;
+use parts::groups::ITSELF;
+use parts::groups::Incoming;
+use parts::groups::Outgoing;
+use slots::INCOMING;
+use slots::OUTGOING;
+
+// The numbers of a slot, and of the pool.
+pub const WIDTH: usize = 26;
+
+pub const POOL: usize = 832;
+
+// And of the incoming pool.
+pub const IN_WIDTH: usize = 6;
+
+pub const IN_POOL: usize = 72;
+
+// So many numbers, from a place on, to another.
+pub fn copy(to: &mut [u32], at: usize, from: &[u32], place: usize, count: usize)
+    requires { ⌜ at + count ≤ length (now to) ⌝ }
+    requires { ⌜ place + count ≤ length (now from) ⌝ }
+    ensures { λ r. ⌜ now (to .exit) ≡ paste (now (to .entry)) at (drop place (now (from .entry))) count ⌝ }
+{
+    let mut i: usize = 0;
+    while i < count {
+        to[at + i] = from[place + i];
+        i = i + 1;
+    }
+}
+
+fn low16(x: u32) -> u16
+    ensures { λ r. ⌜ r ≡ x % 65536 ⌝ }
+{
+    (x % 65536) as u16
+}
+
+fn low8(x: u32) -> u8
+    ensures { λ r. ⌜ r ≡ x % 256 ⌝ }
+{
+    (x % 256) as u8
+}
+
+fn wide16(x: u16) -> u32
+    ensures { λ r. ⌜ r ≡ x ⌝ }
+{
+    x as u32
+}
+
+fn wide8(x: u8) -> u32
+    ensures { λ r. ⌜ r ≡ x ⌝ }
+{
+    x as u32
+}
+
+fn flag_of(b: bool) -> u32
+    ensures { λ r. ⌜ r ≡ flag b ⌝ }
+{
+    if b {
+        return 1;
+    }
+    0
+}
+
+// The slot that a slot's numbers are, each read modulo its width.
+pub fn slot_from(part: [u32; WIDTH]) -> Outgoing
+    ensures { λ r. ⌜ r ≡ slotFrom part ⌝ }
+{
+    let mut row = [0u32; 16];
+    copy(&mut row, 0, &part, 9, 16);
+    let command = build::decode(part[25], row);
+    let reliable = Reliable(low16(part[0]));
+    let unreliable = Unreliable(low16(part[1]));
+    let length = low16(part[6]);
+    let attempts = low16(part[7]);
+    let packet = 1 <= part[8];
+    Outgoing {
+        reliable,
+        unreliable,
+        sent: part[2],
+        timeout: part[3],
+        queued: part[4],
+        offset: part[5],
+        length,
+        attempts,
+        packet,
+        command,
+    }
+}
+
+// The slot's numbers.
+fn words(slot: Outgoing) -> [u32; WIDTH]
+    ensures { λ r. ⌜ (r ≡ wordsOf slot) × (slotFrom r ≡ slot) ⌝ }
+{
+    let length = slot.length as u32;
+    let c = slot.command;
+    let row = rows::of(c);
+    let f = c.fields;
+    let kind = wide8(rows::kind(f));
+    let r = slot.reliable;
+    let u = slot.unreliable;
+    let reliable = wide16(r.0);
+    let unreliable = wide16(u.0);
+    let attempts = wide16(slot.attempts);
+    let packet = flag_of(slot.packet);
+    let mut part = [
+        reliable,
+        unreliable,
+        slot.sent,
+        slot.timeout,
+        slot.queued,
+        slot.offset,
+        length,
+        attempts,
+        packet,
+        0,
+        0,
+        0,
+        0,
+        0,
+        0,
+        0,
+        0,
+        0,
+        0,
+        0,
+        0,
+        0,
+        0,
+        0,
+        0,
+        kind,
+    ];
+    copy(&mut part, 9, &row, 0, 16);
+    part
+}
+
+fn none() -> Outgoing
+    ensures { λ r. ⌜ r ≡ noOutgoing ⌝ }
+{
+    let zero = Reliable(0);
+    let fields = Fields::Acknowledge {
+        number: zero,
+        time: 0,
+    };
+    let command = Command {
+        byte: 0,
+        channel: 0,
+        number: zero,
+        fields,
+    };
+    let unreliable = Unreliable(0);
+    Outgoing {
+        reliable: zero,
+        unreliable,
+        sent: 0,
+        timeout: 0,
+        queued: 0,
+        offset: 0,
+        length: 0,
+        attempts: 0,
+        packet: false,
+        command,
+    }
+}
+
+fn no_brief() -> Brief
+    ensures { λ r. ⌜ r ≡ briefOf noOutgoing ⌝ }
+{
+    let reliable = Reliable(0);
+    Brief {
+        reliable,
+        byte: 0,
+        channel: 0,
+        sent: 0,
+        timeout: 0,
+        length: 0,
+        attempts: 0,
+        packet: false,
+    }
+}
+
+fn no_incoming() -> Incoming
+    ensures { λ r. ⌜ r ≡ noIncoming ⌝ }
+{
+    let number = Reliable(0);
+    Incoming {
+        byte: 0,
+        channel: 0,
+        number,
+        fragments: 0,
+        remaining: 0,
+        length: 0,
+    }
+}
+
+// Slot i; past the pool's end an empty one.
+pub fn slot_at(pool: &[u32], i: usize) -> Outgoing
+    requires { ⌜ length (now pool) ≡ poolLength ⌝ }
+    ensures { λ r. ⌜ r ≡ getD (slotsOf (now (pool .entry))) i noOutgoing ⌝ }
+{
+    if OUTGOING <= i {
+        return none();
+    }
+    let mut part = [0u32; WIDTH];
+    copy(&mut part, 0, pool, i * WIDTH, WIDTH);
+    slot_from(part)
+}
+
+// Slot i becomes this one; past the pool's end nothing changes.
+pub fn put(pool: &mut [u32], i: usize, slot: Outgoing)
+    requires { ⌜ length (now pool) ≡ poolLength ⌝ }
+    ensures { λ r. ⌜ slotsOf (now (pool .exit)) ≡ set (slotsOf (now (pool .entry))) i slot ⌝ }
+{
+    if OUTGOING <= i {
+        return;
+    }
+    let part = words(slot);
+    copy(pool, i * WIDTH, &part, 0, WIDTH);
+}
+
+// What searches and walks ask of a slot, without its command's fields.
+pub struct Brief {
+    pub reliable: Reliable,
+    pub byte: u8,
+    pub channel: u8,
+    pub sent: u32,
+    pub timeout: u32,
+    pub length: u16,
+    pub attempts: u16,
+    pub packet: bool,
+}
+
+// Slot i in brief; past the pool's end an empty one.
+pub fn brief_at(pool: &[u32], i: usize) -> Brief
+    requires { ⌜ length (now pool) ≡ poolLength ⌝ }
+    ensures { λ r. ⌜ r ≡ briefOf (getD (slotsOf (now (pool .entry))) i noOutgoing) ⌝ }
+{
+    if OUTGOING <= i {
+        return no_brief();
+    }
+    let at = i * WIDTH;
+    let reliable = Reliable(low16(pool[at]));
+    Brief {
+        reliable,
+        byte: low8(pool[at + 9]),
+        channel: low8(pool[at + 10]),
+        sent: pool[at + 2],
+        timeout: pool[at + 3],
+        length: low16(pool[at + 6]),
+        attempts: low16(pool[at + 7]),
+        packet: 1 <= pool[at + 8],
+    }
+}
+
+// Slot i gets this sent time, timeout and count of attempts; past the pool's end nothing changes.
+pub fn put_attempt(pool: &mut [u32], i: usize, sent: u32, timeout: u32, attempts: u16)
+    requires { ⌜ length (now pool) ≡ poolLength ⌝ }
+    ensures { λ r. ⌜ slotsOf (now (pool .exit)) ≡ set (slotsOf (now (pool .entry))) i (withAttempt (getD (slotsOf (now (pool .entry))) i noOutgoing) sent timeout attempts) ⌝ }
+{
+    if OUTGOING <= i {
+        return;
+    }
+    let at = i * WIDTH;
+    pool[at + 2] = sent;
+    pool[at + 3] = timeout;
+    pool[at + 7] = attempts as u32;
+}
+
+// Incoming slot i; past the pool's end an empty one.
+pub fn in_slot_at(pool: &[u32], i: usize) -> Incoming
+    requires { ⌜ length (now pool) ≡ inPoolLength ⌝ }
+    ensures { λ r. ⌜ r ≡ getD (inSlotsOf (now (pool .entry))) i noIncoming ⌝ }
+{
+    if INCOMING <= i {
+        return no_incoming();
+    }
+    let at = i * IN_WIDTH;
+    let number = Reliable(low16(pool[at + 2]));
+    Incoming {
+        byte: low8(pool[at]),
+        channel: low8(pool[at + 1]),
+        number,
+        fragments: pool[at + 3],
+        remaining: pool[at + 4],
+        length: pool[at + 5],
+    }
+}
+
+// Incoming slot i becomes this one; past the pool's end nothing changes.
+pub fn put_in(pool: &mut [u32], i: usize, slot: Incoming)
+    requires { ⌜ length (now pool) ≡ inPoolLength ⌝ }
+    ensures { λ r. ⌜ inSlotsOf (now (pool .exit)) ≡ set (inSlotsOf (now (pool .entry))) i slot ⌝ }
+{
+    if INCOMING <= i {
+        return;
+    }
+    let at = i * IN_WIDTH;
+    let n = slot.number;
+    pool[at] = slot.byte as u32;
+    pool[at + 1] = slot.channel as u32;
+    pool[at + 2] = wide16(n.0);
+    pool[at + 3] = slot.fragments;
+    pool[at + 4] = slot.remaining;
+    pool[at + 5] = slot.length;
+}
+
+// The kind that a slot's fields have: an empty slot's where the number names none.
+fn kind_from(kind: u32) -> u32
+    ensures { λ r. ⌜ r ≡ kindFrom kind ⌝ }
+{
+    if kind < 1 {
+        return 1;
+    }
+    if 12 < kind {
+        return 1;
+    }
+    kind
+}
+
+// Whether a slot with this byte, channel and kind may stand in a list.
+fn is_fit(byte: u32, channel: u32, kind: u32, count: u32) -> bool
+    ensures { λ r. ⌜ r ≡ fitOf byte channel kind count ⌝ }
+{
+    if byte % 256 % 16 != kind_from(kind) {
+        return false;
+    }
+    let c = channel % 256;
+    if c < count {
+        return true;
+    }
+    c == ITSELF as u32
+}
+
+// What a slot with these numbers is good for: 0 nothing, 1 a list, 2 the sent list too.
+fn grade(byte: u32, channel: u32, kind: u32, attempts: u32, count: u32) -> u8
+    ensures { λ r. ⌜ r ≡ gradeOf byte channel kind attempts count ⌝ }
+{
+    if !is_fit(byte, channel, kind, count) {
+        return 0;
+    }
+    if attempts % 65536 < 1 {
+        return 1;
+    }
+    2
+}
+
+// What slot s is good for.
+pub fn grade_at(pool: &[u32], s: usize, count: u32) -> u8
+    requires { ⌜ length (now pool) ≡ poolLength ⌝ }
+    requires { ⌜ s < outgoing ⌝ }
+    ensures { λ r. ⌜ r ≡ getD (map (worthOf count) (slotsOf (now (pool .entry)))) s 0 ⌝ }
+{
+    let at = s * WIDTH;
+    grade(pool[at + 9], pool[at + 10], pool[at + 25], pool[at + 7], count)
+}
