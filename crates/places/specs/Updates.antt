@@ -1,0 +1,30 @@
+-- The record with another group, where the peer's own updates have none; a channel of it.
+use Prim.Native.Nat.{ℕ}
+use mathlib.Core.List.{List}
+use lib.ListN.{getD}
+use Rattle.parts.specs.Fresh.{noChannel}
+use Rattle.parts.specs.declared.groups.Trips.{Trips}
+use Rattle.parts.specs.declared.groups.Channel.{Channel}
+use Rattle.parts.specs.declared.groups.Incoming.{Incoming}
+use Rattle.peer.specs.Updates.{withHeard, withArrival}
+use Rattle.peer.specs.declared.record.Peer.{Peer}
+use Rattle.places.specs.declared.channels.Numbers.{Numbers}
+
+abbrev pub withTrips : Peer → Trips → Peer
+withTrips p x = withHeard p (p .times) (p .throttling) x (p .flow) (p .lists)
+
+abbrev pub withIncoming : Peer → List Incoming → Peer
+withIncoming p x = withArrival p (p .lists) (p .groups) (p .waiting) (p .channels) x
+
+abbrev pub channelAt : Peer → ℕ → Channel
+channelAt p i = getD (p .channels) i noChannel
+
+-- a channel without its list
+abbrev pub numbersOf : Channel → Numbers
+numbersOf c =
+    record {
+      «outgoing_reliable» = c .«outgoing_reliable»;
+      «outgoing_unreliable» = c .«outgoing_unreliable»;
+      «incoming_reliable» = c .«incoming_reliable»;
+      «incoming_unreliable» = c .«incoming_unreliable»;
+    }

@@ -1,0 +1,68 @@
+// The four numbers of a channel, in their places.
+ghost use mathlib.Core.Path.{_≡_};
+ghost use Prim.Native.Nat.{_<_};
+ghost use lib.ListN.{length, getD, set};
+ghost use Rattle.parts.specs.Fresh.{noChannel};
+ghost use Rattle.parts.specs.Sizes.{channels};
+ghost use Rattle.parts.specs.Updates.{withNumbers, withLast};
+ghost use Rattle.peer.specs.Updates.{withChannels};
+ghost use Rattle.places.specs.Whole.{whole, recordLength};
+ghost use Rattle.places.specs.Updates.{channelAt, numbersOf};
+use crate::CHANNELS;
+use crate::CHANNEL_WIDTH;
+use crate::groups::low16;
+use crate::groups::wide16;
+use numbers::counters::Reliable;
+use numbers::counters::Unreliable;
+
+// A channel without its list.
+pub struct Numbers {
+    pub outgoing_reliable: Reliable,
+    pub outgoing_unreliable: Unreliable,
+    pub incoming_reliable: Reliable,
+    pub incoming_unreliable: Unreliable,
+}
+
+pub fn numbers(words: &[u32], i: usize) -> Numbers
+    requires { ⌜ length (now words) ≡ recordLength ⌝ }
+    requires { ⌜ i < channels ⌝ }
+    ensures { λ r. ⌜ r ≡ numbersOf (channelAt (whole (now (words .entry))) i) ⌝ }
+{
+    let at = CHANNELS + i * CHANNEL_WIDTH;
+    let outgoing_reliable = Reliable(low16(words[at]));
+    let outgoing_unreliable = Unreliable(low16(words[at + 1]));
+    let incoming_reliable = Reliable(low16(words[at + 2]));
+    let incoming_unreliable = Unreliable(low16(words[at + 3]));
+    Numbers {
+        outgoing_reliable,
+        outgoing_unreliable,
+        incoming_reliable,
+        incoming_unreliable,
+    }
+}
+
+// Its two outgoing numbers.
+pub fn put_outgoing(words: &mut [u32], i: usize, r: Reliable, u: Unreliable)
+    requires { ⌜ length (now words) ≡ recordLength ⌝ }
+    requires { ⌜ i < channels ⌝ }
+    ensures { λ _. ⌜ whole (now (words .exit)) ≡ withChannels (whole (now (words .entry))) (set (whole (now (words .entry)) .channels) i (withNumbers (channelAt (whole (now (words .entry))) i) r u)) ⌝ }
+{
+    let at = CHANNELS + i * CHANNEL_WIDTH;
+    let reliable = wide16(r.0);
+    let unreliable = wide16(u.0);
+    words[at] = reliable;
+    words[at + 1] = unreliable;
+}
+
+// Its two incoming numbers.
+pub fn put_incoming(words: &mut [u32], i: usize, r: Reliable, u: Unreliable)
+    requires { ⌜ length (now words) ≡ recordLength ⌝ }
+    requires { ⌜ i < channels ⌝ }
+    ensures { λ _. ⌜ whole (now (words .exit)) ≡ withChannels (whole (now (words .entry))) (set (whole (now (words .entry)) .channels) i (withLast (channelAt (whole (now (words .entry))) i) r u)) ⌝ }
+{
+    let at = CHANNELS + i * CHANNEL_WIDTH + 2;
+    let reliable = wide16(r.0);
+    let unreliable = wide16(u.0);
+    words[at] = reliable;
+    words[at + 1] = unreliable;
+}

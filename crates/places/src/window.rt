@@ -1,0 +1,47 @@
+// The unsequenced window's words, with the flags and groups beside them.
+ghost use mathlib.Core.Path.{_≡_};
+ghost use lib.ListN.{length};
+ghost use Rattle.peer.specs.Updates.{withGroups};
+ghost use Rattle.places.specs.Whole.{whole, recordLength};
+use crate::WORDS;
+use crate::groups::low16;
+use crate::groups::wide16;
+use numbers::consts::UNSEQUENCED_WORDS;
+use numbers::counters::Group;
+use parts::groups::Groups;
+
+// "The 32 words go in and come back as one array": the window's words with the flags and groups beside them.
+pub fn groups(words: &[u32]) -> Groups
+    requires { ⌜ length (now words) ≡ recordLength ⌝ }
+    ensures { λ r. ⌜ r ≡ whole (now (words .entry)) .groups ⌝ }
+{
+    let mut window = [0u32; UNSEQUENCED_WORDS];
+    pool::copy(&mut window, 0, words, WORDS, UNSEQUENCED_WORDS);
+    let incoming = Group(low16(words[157]));
+    let outgoing = Group(low16(words[158]));
+    Groups {
+        flags: low16(words[155]),
+        reserved: low16(words[156]),
+        incoming,
+        outgoing,
+        words: window,
+    }
+}
+
+pub fn put_groups(words: &mut [u32], x: Groups)
+    requires { ⌜ length (now words) ≡ recordLength ⌝ }
+    ensures { λ _. ⌜ whole (now (words .exit)) ≡ withGroups (whole (now (words .entry))) x ⌝ }
+{
+    let a = x.incoming;
+    let b = x.outgoing;
+    let window = x.words;
+    pool::copy(words, WORDS, &window, 0, UNSEQUENCED_WORDS);
+    let flags = wide16(x.flags);
+    let reserved = wide16(x.reserved);
+    let incoming = wide16(a.0);
+    let outgoing = wide16(b.0);
+    words[155] = flags;
+    words[156] = reserved;
+    words[157] = incoming;
+    words[158] = outgoing;
+}
