@@ -1,6 +1,6 @@
 -- What an operation on the cells of a list, and its new length written before them, keeps: `Keeps`, one law for all operations.
 -- The argument: a write goes past the numbers before it, one at a time; the row is the new length and the new cells, and reading goes past the operation.
-use Prim.Native.Nat.{ℕ, zero, suc, _+_, _-_, _≤_, _<_}
+use Prim.Native.Nat.{ℕ, zero, suc, _+_, _≤_, _<_}
 use mathlib.Core.Path.{_≡_, ap, sym, subst, _∙_}
 use mathlib.Core.List.{List, [], _∷_, _++_, map}
 use native.Mathlib.Nat.{zero-add}

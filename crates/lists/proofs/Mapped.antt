@@ -1,7 +1,7 @@
 -- A reading of every cell goes past what the operations make of a list: reading first or altering first comes to the same.
 -- The argument: by induction on the list for take and drop; the others are made of these, and a choice by length is the same choice.
 use Prim.Native.Nat.{ℕ, zero, suc, _+_}
-use mathlib.Core.Path.{_≡_, refl, ap, sym, _∙_}
+use mathlib.Core.Path.{_≡_, refl, ap, _∙_}
 use mathlib.Core.Bool.{Bool, true, false}
 use mathlib.Core.List.{List, [], _∷_, _++_, map, map-append}
 use lib.Dec.{ltb, leb}

@@ -1,17 +1,17 @@
 -- A list at a place of the lent numbers: its length and cells there, a slot of it, its head, what is left of it.
 -- The argument: what is dropped before a list is its length and the rest; reading a cell goes past taking the first of them.
-use Prim.Native.Nat.{ℕ, zero, suc, _+_, _-_, _≤_, _<_, min}
+use Prim.Native.Nat.{ℕ, suc, _+_, _≤_, _<_, min}
 use mathlib.Core.Path.{_≡_, refl, ap, sym, _∙_}
-use mathlib.Core.Bool.{Bool, true, false}
+use mathlib.Core.Bool.{true, false}
 use mathlib.Core.List.{List, [], _∷_, map}
 use native.Mathlib.Numerals.{add-one}
 use native.Mathlib.Omega.{arith}
-use lib.ListN.{length, getD, set, take, drop, length-take, length-drop, length-map, List·getD-map, List·getD-eq-default}
+use lib.ListN.{length, getD, set, take, drop, length-take, length-drop, length-map, List·getD-map}
 use lib.Seq.{getD-take, getD-drop}
 use borrow.Author.Tests.{eq-eqb, ne-eqb}
 use Rattle.runs.specs.Runs.{first, has}
 use Rattle.runs.specs.Free.{markedAll}
-use Rattle.runs.specs.declared.First.the-variants.{Slot, Empty}
+use Rattle.runs.specs.declared.First.the-variants.{Slot}
 use Rattle.runs.proofs.Views.{rest-step, rest-end}
 use Rattle.lists.specs.Rows.{low, section, rowAt, itemsOf}
 use Rattle.lists.proofs.Mapped.{map-take}

@@ -1,6 +1,5 @@
 -- `head` meets its contract: an empty list has none, else it is place 0.
-use mathlib.Core.Path.{_≡_, sym, ap, _∙_}
-use lib.ListN.{length}
+use mathlib.Core.Path.{sym, ap, _∙_}
 use Rattle.runs.specs.declared.First.the-variants.{Slot}
 use Rattle.runs.proofs.ListLaws.{first-none}
 use Rattle.lists.specs.Rows.{rowAt, itemsOf}

@@ -3,7 +3,7 @@ use Prim.Native.Nat.{_-_, _≤_}
 use mathlib.Core.Path.{_≡_, refl, sym, _∙_}
 use mathlib.Core.Logic.{⊎-elim}
 use native.Mathlib.Omega.{arith}
-use lib.ListN.{length, getD, drop, length-set}
+use lib.ListN.{length, drop, length-set}
 use lib.Seq.{set-out}
 use borrow.Author.Needs.{needs}
 use Rattle.runs.specs.Free.{markedAll}
