@@ -121,4 +121,3 @@ pub fn cut(cells: &mut [u32], n: usize, k: usize) -> usize
     lower(cells, h, m, h);
     m - h
 }
-

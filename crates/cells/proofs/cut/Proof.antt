@@ -1,0 +1,36 @@
+-- `cut` meets its contract: the cells from k on go down by k.
+use native.Mathlib.Omega.{arith}
+use borrow.Author.Needs.{needs}
+use Rattle.runs.proofs.CellLaws.{clip-drop}
+use Rattle.runs.proofs.MakeLaws.{cut-makes}
+use Rattle.cells.proofs.cut.Statement.{statement}
+use Rattle.cells.proofs.cut.Tie as tie
+
+least-requires : tie.Need-least-requires
+least-requires c κs = search needs
+
+least-requires-2 : tie.Need-least-requires-2
+least-requires-2 c κs = search needs
+
+lower-requires : tie.Need-lower-requires
+lower-requires c κs = search needs
+
+sub-result : tie.Need-sub-result
+sub-result c = search needs
+
+same-length : tie.Need-same-length
+same-length c = search needs
+
+returns : tie.Need-returns
+returns c =
+    let a = c .before .before .before .before .before .before .before .args in
+    let m = c .before .before .before .before .before .least in
+    let h = c .before .before .before .before .least2 in
+    let down = c .before .before .lower in
+    rw (clip-drop (a .cells .now) (a .n) (m .result) (m .ensures) (a .k) (h .result) (h .ensures))
+    (cut-makes (a .cells .now) (m .result) (omega arith) (down .last .0) (h .result) (omega arith) (down .ensures))
+
+pub cut-spec : {M : Type 1} → statement M
+cut-spec =
+    tie.close
+    (tie.spec least-requires least-requires-2 lower-requires sub-result same-length returns)
