@@ -366,5 +366,11 @@ pub fn grade_at(pool: &[u32], s: usize, count: u32) -> u8
     ensures { λ r. ⌜ r ≡ getD (map (worthOf count) (slotsOf (now (pool .entry)))) s 0 ⌝ }
 {
     let at = s * WIDTH;
-    grade(pool[at + 9], pool[at + 10], pool[at + 25], pool[at + 7], count)
+    grade(
+        pool[at + 9],
+        pool[at + 10],
+        pool[at + 25],
+        pool[at + 7],
+        count,
+    )
 }
