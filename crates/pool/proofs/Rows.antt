@@ -2,11 +2,11 @@
 -- The argument: induction on the rows; the first row is taken off in front. Products are opaque numbers to `omega`: `step` and `sizes` say what they are.
 use Prim.Native.Nat.{ℕ, zero, suc, _+_, _*_, _≤_, _<_}
 use mathlib.Core.Path.{_≡_, refl, ap, sym, _∙_}
-use mathlib.Core.List.{List, [], _∷_, _++_}
+use mathlib.Core.List.{List, _∷_, _++_}
 use native.Mathlib.Nat.{le-of-suc-le-suc, not-suc-le-zero, zero-mul, suc-mul, zero-add, add-zero}
 use native.Mathlib.Omega.{arith}
-use lib.ListN.{length, getD, set, take, drop, length-drop, take-append-drop}
-use lib.Seq.{paste, drop-drop, take-all, take-at, drop-at, length-take-le, length-paste, take-set-le, take-set-lt, drop-set-lt, drop-set-add}
+use lib.ListN.{length, getD, set, take, drop, length-drop, take-append-drop, List·getD-eq-default}
+use lib.Seq.{paste, drop-drop, take-all, take-at, drop-at, length-take-le, length-paste, take-set-le, take-set-lt, drop-set-lt, drop-set-add, getD-take, getD-drop, set-out}
 use Rattle.pool.specs.Rows.{rowAt, rowsFrom}
 use Rattle.pool.proofs.Copies.{paste-add, paste-front, paste-over}
 
@@ -40,6 +40,13 @@ row-length w (suc n) ws zero h l = ap length (row-first w ws) ∙ length-take-le
 row-length w (suc n) ws (suc i) h l =
     ap length (sym (row-next w ws i)) ∙ row-length w n (drop w ws) i (le-of-suc-le-suc h) (rest-length w n ws l)
 
+-- number j of row i
+pub row-at : (w : ℕ) (ws : List ℕ) (i j : ℕ) → j < w → getD (rowAt w ws i) j 0 ≡ getD ws (i * w + j) 0
+row-at w ws i j h = getD-take w (drop (i * w) ws) j 0 h ∙ getD-drop (i * w) ws j 0
+
+pub row-set : (w : ℕ) (ws : List ℕ) (i k x : ℕ) → k < w → rowAt w (set ws (i * w + k) x) i ≡ set (rowAt w ws i) k x
+row-set w ws i k x h = ap (take w) (drop-set-add (i * w) ws k x) ∙ take-set-lt w (drop (i * w) ws) k x h
+
 module _ {A : Type 0} (f : List ℕ → A) (w : ℕ) where
   pub rows-length : (n : ℕ) (ws : List ℕ) → length (rowsFrom f w n ws) ≡ n
   unfolding rowsFrom
@@ -51,6 +58,13 @@ module _ {A : Type 0} (f : List ℕ → A) (w : ℕ) where
   rows-at zero ws i d h = absurd (not-suc-le-zero h)
   rows-at (suc n) ws zero d h = ap f (sym (row-first w ws))
   rows-at (suc n) ws (suc i) d h = rows-at n (drop w ws) i d (le-of-suc-le-suc h) ∙ ap f (row-next w ws i)
+
+  -- past the end nothing is read and nothing set
+  pub rows-past : (n : ℕ) (ws : List ℕ) (i : ℕ) (d : A) → n ≤ i → getD (rowsFrom f w n ws) i d ≡ d
+  rows-past n ws i d h = List·getD-eq-default (rowsFrom f w n ws) d (rw (rows-length n ws) h)
+
+  pub rows-out : (n : ℕ) (ws : List ℕ) (i : ℕ) (x : A) → n ≤ i → set (rowsFrom f w n ws) i x ≡ rowsFrom f w n ws
+  rows-out n ws i x h = set-out (rowsFrom f w n ws) i x (rw (rows-length n ws) h)
 
   rows-cons : (n : ℕ) (p q : List ℕ) → length p ≡ w → rowsFrom f w (suc n) (p ++ q) ≡ f p ∷ rowsFrom f w n q
   unfolding rowsFrom
