@@ -309,14 +309,19 @@ pub fn put_in(pool: &mut [u32], i: usize, slot: Incoming)
     if INCOMING <= i {
         return;
     }
-    let at = i * IN_WIDTH;
+    let byte = slot.byte as u32;
+    let channel = wide8(slot.channel);
     let n = slot.number;
-    pool[at] = slot.byte as u32;
-    pool[at + 1] = slot.channel as u32;
-    pool[at + 2] = wide16(n.0);
-    pool[at + 3] = slot.fragments;
-    pool[at + 4] = slot.remaining;
-    pool[at + 5] = slot.length;
+    let number = wide16(n.0);
+    let row = [
+        byte,
+        channel,
+        number,
+        slot.fragments,
+        slot.remaining,
+        slot.length,
+    ];
+    copy(pool, i * IN_WIDTH, &row, 0, IN_WIDTH);
 }
 
 // The kind that a slot's fields have: an empty slot's where the number names none.
@@ -366,5 +371,11 @@ pub fn grade_at(pool: &[u32], s: usize, count: u32) -> u8
     ensures { λ r. ⌜ r ≡ getD (map (worthOf count) (slotsOf (now (pool .entry)))) s 0 ⌝ }
 {
     let at = s * WIDTH;
-    grade(pool[at + 9], pool[at + 10], pool[at + 25], pool[at + 7], count)
+    grade(
+        pool[at + 9],
+        pool[at + 10],
+        pool[at + 25],
+        pool[at + 7],
+        count,
+    )
 }
