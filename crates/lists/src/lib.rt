@@ -3,7 +3,7 @@ ghost use mathlib.Core.Path.{_≡_};
 ghost use Prim.Native.Nat.{_+_, _≤_, _<_};
 ghost use mathlib.Core.List.{map};
 ghost use lib.ListN.{length, getD, take, drop};
-ghost use Rattle.runs.specs.Runs.{pushed, inserted, without, prepended, movedFrom, movedTo, first, has};
+ghost use Rattle.runs.specs.Runs.{pushed, inserted, without, prepended, movedTo, first, has};
 ghost use Rattle.runs.specs.Free.{markedAll};
 ghost use Rattle.lists.specs.Rows.{low, rowAt, itemsOf, Keeps};
 use cells::least;

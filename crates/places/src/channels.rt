@@ -23,7 +23,7 @@ pub struct Numbers {
     pub incoming_unreliable: Unreliable,
 }
 
-pub fn numbers(words: &[u32], i: usize) -> Numbers
+pub fn numbers_of(words: &[u32], i: usize) -> Numbers
     requires { ⌜ length (now words) ≡ recordLength ⌝ }
     requires { ⌜ i < channels ⌝ }
     ensures { λ r. ⌜ r ≡ numbersOf (channelAt (whole (now (words .entry))) i) ⌝ }

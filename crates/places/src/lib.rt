@@ -1,7 +1,7 @@
 // The record in the numbers that the caller lends: where each part of it stands, and what reads and writes it there.
 pub mod channels;
 pub mod groups;
-pub mod slots;
+pub mod pools;
 pub mod window;
 
 // How many numbers a record has.
