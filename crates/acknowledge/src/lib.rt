@@ -10,7 +10,7 @@ use numbers::counters::Reliable;
 use numbers::refusals::Refusal;
 use parts::groups::Lists;
 use parts::groups::Times;
-use peer::gate;
+use peer::gate::pass;
 use peer::gate::Gate;
 use peer::gate::Lent;
 use peer::record::Peer;
@@ -121,7 +121,7 @@ pub fn acknowledge(
     let incoming = p.incoming;
     let outgoing = p.outgoing;
     let worths = damage::worths(outgoing, p.standing.count);
-    let gate = gate::pass(
+    let gate = pass(
         settings,
         Lent::Nothing,
         p.flow.mtu,

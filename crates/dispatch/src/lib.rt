@@ -6,7 +6,7 @@ ghost use Rattle.dispatch.specs.Calls.{dispatches};
 use numbers::refusals::Refusal;
 use peer::calls::Called;
 use peer::calls::Reply;
-use peer::gate;
+use peer::gate::pass;
 use peer::gate::Gate;
 use peer::gate::Lent;
 use peer::record::Peer;
@@ -22,7 +22,7 @@ pub fn dispatch(peer: Peer, settings: Settings, channel: u8) -> Called
     let incoming = p.incoming;
     let outgoing = p.outgoing;
     let worths = damage::worths(outgoing, p.standing.count);
-    let gate = gate::pass(
+    let gate = pass(
         settings,
         Lent::Nothing,
         p.flow.mtu,

@@ -14,7 +14,7 @@ use peer::calls::Called;
 use peer::calls::Reply;
 use peer::defaults::Kept;
 use peer::defaults::NO_CHANNEL;
-use peer::gate;
+use peer::gate::pass;
 use peer::gate::Gate;
 use peer::gate::Lent;
 use peer::record::Peer;
@@ -55,7 +55,7 @@ pub fn begin(peer: Peer, settings: Settings, mtu: u32, count: u32) -> Called
     let incoming = p.incoming;
     let outgoing = p.outgoing;
     let worths = damage::worths(outgoing, p.standing.count);
-    let gate = gate::pass(
+    let gate = pass(
         settings,
         Lent::Nothing,
         p.flow.mtu,
@@ -98,7 +98,7 @@ pub fn set_state(peer: Peer, settings: Settings, state: u32) -> Called
     let incoming = p.incoming;
     let outgoing = p.outgoing;
     let worths = damage::worths(outgoing, p.standing.count);
-    let gate = gate::pass(
+    let gate = pass(
         settings,
         Lent::Nothing,
         p.flow.mtu,

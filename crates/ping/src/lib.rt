@@ -11,7 +11,7 @@ use parts::groups::ITSELF;
 use parts::groups::Standing;
 use peer::calls::Called;
 use peer::calls::Reply;
-use peer::gate;
+use peer::gate::pass;
 use peer::gate::Gate;
 use peer::gate::Lent;
 use peer::record::Peer;
@@ -55,7 +55,7 @@ pub fn ping(peer: Peer, settings: Settings) -> Called
     let incoming = p.incoming;
     let outgoing = p.outgoing;
     let worths = damage::worths(outgoing, p.standing.count);
-    let gate = gate::pass(
+    let gate = pass(
         settings,
         Lent::Nothing,
         p.flow.mtu,

@@ -5,7 +5,7 @@ ghost use Rattle.receive.specs.Calls.{answerOf, withoutFirst, lowered, r
 use numbers::refusals::Refusal;
 use parts::groups::Lists;
 use parts::groups::Waiting;
-use peer::gate;
+use peer::gate::pass;
 use peer::gate::Gate;
 use peer::gate::Lent;
 use peer::record::Peer;
@@ -52,7 +52,7 @@ pub fn receive(peer: Peer, settings: Settings) -> Received
     let incoming = p.incoming;
     let outgoing = p.outgoing;
     let worths = damage::worths(outgoing, p.standing.count);
-    let gate = gate::pass(
+    let gate = pass(
         settings,
         Lent::Nothing,
         p.flow.mtu,

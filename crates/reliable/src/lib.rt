@@ -7,7 +7,7 @@ use arriving::Arrival;
 use arriving::Arrived;
 use arriving::Fate;
 use arriving::Reply;
-use peer::gate;
+use peer::gate::pass;
 use peer::gate::Gate;
 use peer::gate::Lent;
 use peer::record::Peer;
@@ -42,7 +42,7 @@ pub fn arrive(
     let incoming = p.incoming;
     let outgoing = p.outgoing;
     let worths = damage::worths(outgoing, p.standing.count);
-    let gate = gate::pass(
+    let gate = pass(
         settings,
         Lent::Store(store.len()),
         p.flow.mtu,

@@ -5,7 +5,7 @@ ghost use Rattle.peer.specs.Calls.{answerOf};
 ghost use Rattle.sending.specs.Calls.{sends};
 use peer::calls::Called;
 use peer::calls::Reply;
-use peer::gate;
+use peer::gate::pass;
 use peer::gate::Gate;
 use peer::gate::Lent;
 use peer::record::Peer;
@@ -23,7 +23,7 @@ pub fn send(peer: Peer, settings: Settings, channel: u8, length: u32, flags: u32
     let incoming = p.incoming;
     let outgoing = p.outgoing;
     let worths = damage::worths(outgoing, p.standing.count);
-    let gate = gate::pass(
+    let gate = pass(
         settings,
         Lent::Nothing,
         p.flow.mtu,

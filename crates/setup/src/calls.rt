@@ -8,7 +8,7 @@ use numbers::refusals::Refusal;
 use parts::groups::ITSELF;
 use peer::calls::Called;
 use peer::calls::Reply;
-use peer::gate;
+use peer::gate::pass;
 use peer::gate::Gate;
 use peer::gate::Lent;
 use peer::record::Peer;
@@ -53,7 +53,7 @@ pub fn setup(peer: Peer, settings: Settings, x: Piece) -> Called
     let incoming = p.incoming;
     let outgoing = p.outgoing;
     let worths = damage::worths(outgoing, p.standing.count);
-    let gate = gate::pass(
+    let gate = pass(
         settings,
         Lent::Nothing,
         p.flow.mtu,

@@ -5,7 +5,7 @@ ghost use Rattle.timeouts.specs.Calls.{answerOf, replyBy, checks};
 use numbers::refusals::Refusal;
 use overdue::lists;
 use overdue::turn;
-use peer::gate;
+use peer::gate::pass;
 use peer::gate::Gate;
 use peer::gate::Lent;
 use peer::record::Peer;
@@ -42,7 +42,7 @@ pub fn check(peer: Peer, settings: Settings, clock: u32) -> Checked
     let incoming = p.incoming;
     let outgoing = p.outgoing;
     let worths = damage::worths(outgoing, p.standing.count);
-    let gate = gate::pass(
+    let gate = pass(
         settings,
         Lent::Nothing,
         p.flow.mtu,

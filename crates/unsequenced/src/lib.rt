@@ -8,7 +8,7 @@ use arriving::Arrived;
 use arriving::Fate;
 use arriving::Reply;
 use numbers::counters::Group;
-use peer::gate;
+use peer::gate::pass;
 use peer::gate::Gate;
 use peer::gate::Lent;
 use peer::record::Peer;
@@ -34,7 +34,7 @@ pub fn arrive(
     let incoming = p.incoming;
     let outgoing = p.outgoing;
     let worths = damage::worths(outgoing, p.standing.count);
-    let gate = gate::pass(
+    let gate = pass(
         settings,
         Lent::Store(store.len()),
         p.flow.mtu,
