@@ -1,5 +1,6 @@
 // The calls of the receiving side: one function that makes each of them.
 pub mod calls;
+pub mod lent;
 
 ghost use mathlib.Core.Path.{_≡_};
 ghost use Rattle.peer.specs.Outcome.{Came};

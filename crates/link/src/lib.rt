@@ -1,5 +1,6 @@
 // The link: one function that makes every call of document 01.
 pub mod calls;
+pub mod lent;
 
 ghost use mathlib.Core.Path.{_≡_};
 ghost use Rattle.peer.specs.Outcome.{Came};
