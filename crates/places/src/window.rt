@@ -35,7 +35,6 @@ pub fn put_groups(words: &mut [u32], x: Groups)
     let a = x.incoming;
     let b = x.outgoing;
     let window = x.words;
-    pool::copy(words, WORDS, &window, 0, UNSEQUENCED_WORDS);
     let flags = wide16(x.flags);
     let reserved = wide16(x.reserved);
     let incoming = wide16(a.0);
@@ -44,4 +43,5 @@ pub fn put_groups(words: &mut [u32], x: Groups)
     words[156] = reserved;
     words[157] = incoming;
     words[158] = outgoing;
+    pool::copy(words, WORDS, &window, 0, UNSEQUENCED_WORDS);
 }
