@@ -1,1 +1,5 @@
 pub mod Asked
+pub mod Groups
+pub mod Stops
+pub mod Three
+pub mod Turns
