@@ -1,0 +1,38 @@
+// Receive on the lent record.
+ghost use mathlib.Core.Path.{_≡_};
+ghost use Rattle.peer.specs.Outcome.{Came};
+ghost use Rattle.places.specs.Whole.{whole};
+ghost use Rattle.receive.specs.Calls.{answerOf, receives};
+use crate::Reply;
+use crate::lower;
+use peer::gate::Gate;
+use peer::gate::Lent;
+use peer::settings::Settings;
+use places::RECORD;
+use places::groups;
+use places::pools;
+use queues::dispatched;
+use runs::First;
+
+// Refused by 11 and 13; nothing there, or the head's channel, cell and length.
+pub fn receive(words: &mut [u32; RECORD], settings: Settings) -> Reply
+    ensures { λ r. ⌜ Came answerOf (receives settings (whole (now (words .entry)))) r (whole (now (words .exit))) ⌝ }
+{
+    let asked = gate::ask(words, settings, Lent::Nothing);
+    if let Gate::Shut(why) = asked {
+        return Reply::Refused(why);
+    }
+    let first = dispatched::head(words);
+    let First::Slot(s) = first else {
+        return Reply::Nothing;
+    };
+    let slot = pools::incoming_at(words, s as usize);
+    dispatched::leave(words);
+    let waiting = lower(groups::waiting(words), slot.length);
+    groups::put_waiting(words, waiting);
+    Reply::Packet {
+        channel: slot.channel,
+        cell: s,
+        length: slot.length,
+    }
+}
