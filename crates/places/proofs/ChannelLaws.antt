@@ -5,7 +5,7 @@ use mathlib.Core.Path.{_≡_, refl, ap, sym, _∙_}
 use mathlib.Core.List.{List, [], _∷_}
 use native.Mathlib.Omega.{arith}
 use lib.ListN.{length, getD, set, drop, length-drop}
-use lib.Seq.{paste, sets, sets-eq, take-all, length-paste, getD-drop}
+use lib.Seq.{paste, sets-eq, take-all, length-paste}
 use Rattle.numbers.specs.declared.counters.Reliable.{Reliable}
 use Rattle.numbers.specs.declared.counters.Unreliable.{Unreliable}
 use Rattle.lists.specs.Rows.{section}
@@ -18,6 +18,7 @@ use Rattle.pool.proofs.Rows.{rows-at, rows-paste}
 use Rattle.places.specs.Whole.{sizes, numbers, parts, made, whole, inListFrom, channelFrom, channelsFrom}
 use Rattle.places.specs.Updates.{channelAt, numbersOf}
 use Rattle.places.proofs.Sections.{section-length, section-number, section-section, paste-in}
+use Rattle.places.proofs.GroupLaws.{low}
 use Rattle.places.proofs.Written.{place, row-put}
 
 -- ---- a channel's row
@@ -35,9 +36,6 @@ row-held r row l m =
     let rest : length (drop 4 r) ≡ 13 = length-drop 4 r ∙ omega arith in
     ap (λ (s : List ℕ). channelFrom (paste s 4 row 13)) (four r (omega arith))
     ∙ ap (λ (s : List ℕ). withHeld (channelFrom r) (inListFrom s)) (paste-over (drop 4 r) row 13 rest ∙ take-all 13 row (omega arith))
-
-low : (x y : ℕ) → x ≡ y → y < 65536 → x % 65536 ≡ y
-low x y e h = omega arith
 
 module _ (s : List ℕ) (x y : ℕ) (r : Reliable) (u : Unreliable) (m : length s ≡ 17) (ex : x ≡ r .0) (hx : r .0 < 65536) (ey : y ≡ u .0) (hy : u .0 < 65536) where
   row-outgoing : channelFrom (paste s 0 (x ∷ y ∷ []) 2) ≡ withNumbers (channelFrom s) r u
@@ -79,9 +77,9 @@ module _ (ws : List ℕ) (l : length ws ≡ 1234) where
     channel-number k b = section-number (194 + i * 17) 17 k ws b
 
     -- m of its numbers written, from number k on
-    pub put-part : (k m : ℕ) (row : List ℕ) → k + m ≤ 17 → length row ≡ m
+    pub put-channel-part : (k m : ℕ) (row : List ℕ) → k + m ≤ 17 → length row ≡ m
         → whole (paste ws (194 + i * 17 + k) row m) ≡ withChannels (whole ws) (set (whole ws .channels) i (channelFrom (paste own k row m)))
-    put-part k m row b r =
+    put-channel-part k m row b r =
         let s = section 194 136 ws in
         let e : 194 + i * 17 + k ≡ 194 + (i * 17 + k) = omega arith in
         let ls : length s ≡ 136 = section-length 194 136 ws (omega arith) in
@@ -103,7 +101,7 @@ held-is ws i h l =
 pub put-held : (ws : List ℕ) (i : ℕ) (row : List ℕ) → i < 8 → length row ≡ 13 → length ws ≡ 1234
     → whole (paste ws (194 + i * 17 + 4) row 13) ≡ withChannels (whole ws) (set (whole ws .channels) i (withHeld (channelAt (whole ws) i) (inListFrom row)))
 put-held ws i row h m l =
-    put-part ws l i h 4 13 row (omega arith) m
+    put-channel-part ws l i h 4 13 row (omega arith) m
     ∙ ap (λ (c : Channel). withChannels (whole ws) (set (whole ws .channels) i c)) (row-held (own ws l i h) row (own-length ws l i h) m ∙ ap (λ (c : Channel). withHeld c (inListFrom row)) (sym (channel-is ws l i h)))
 
 -- ---- its numbers
@@ -127,7 +125,7 @@ module _ (ws : List ℕ) (i x y : ℕ) (r : Reliable) (u : Unreliable) (h : i < 
       ap (λ (n : ℕ). whole (set (set ws at x) n y)) s
       ∙ ap whole (sets-eq (x ∷ y ∷ []) ws at (omega arith))
       ∙ ap (λ (n : ℕ). whole (paste ws n (x ∷ y ∷ []) 2)) e
-      ∙ put-part ws l i h k 2 (x ∷ y ∷ []) b refl
+      ∙ put-channel-part ws l i h k 2 (x ∷ y ∷ []) b refl
       ∙ ap (λ (c : Channel). withChannels (whole ws) (set (whole ws .channels) i c)) (is ∙ ap to (sym (channel-is ws l i h)))
 
   pub put-outgoing-numbers : whole (set (set ws (194 + i * 17) x) (194 + i * 17 + 1) y) ≡ withChannels (whole ws) (set (whole ws .channels) i (withNumbers (channelAt (whole ws) i) r u))

@@ -1,8 +1,7 @@
 -- The four numbers from their places, each cut to its width, and the words as they stand.
-use mathlib.Core.Path.{sym, _∙_, refl}
-use lib.ListN.{drop, replicate}
-use Rattle.pool.proofs.Copies.{paste-over}
+use mathlib.Core.Path.{sym}
 use Rattle.places.proofs.GroupLaws.{groups-is}
+use Rattle.places.proofs.WindowLaws.{words-are}
 use borrow.Author.Needs.{needs}
 use Rattle.places.proofs.window.groups.Statement.{statement}
 use Rattle.places.proofs.window.groups.Tie as tie
@@ -59,7 +58,7 @@ returns c =
     (c .low164 .ensures)
     (i .low16 .ensures)
     (j .low162 .ensures)
-    (w .copy .ensures ∙ paste-over (replicate 32 0) (drop 159 ws) 32 refl))
+    (words-are ws (w .copy .last .0) (w .copy .ensures)))
 
 pub groups-spec : {M : Type 1} → statement M
 groups-spec =
