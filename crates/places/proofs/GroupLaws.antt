@@ -117,4 +117,3 @@ module _ (ws : List ℕ) where
     pub put-outgoing-group : (x : Group) (r : ℕ) → r ≡ x .0 → x .0 < 65536 → whole (sets ws 158 (r ∷ [])) ≡ withGroups (whole ws) (withOutgoingGroup (whole ws .groups) x)
     unfolding made parts numbers sizes place
     put-outgoing-group x r e h = numbers-put ws 5 4 3 158 (r ∷ []) l (omega arith) refl refl (omega arith) (omega arith) ∙ rw (e, low (x .0) h)
-

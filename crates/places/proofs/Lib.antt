@@ -1,3 +1,4 @@
 pub mod Sections
 pub mod Written
 pub mod GroupLaws
+pub mod ChannelLaws
