@@ -1,30 +1,30 @@
+-- `cells` meets its contract: the cells copied are those of the channel's list.
+use mathlib.Core.Path.{refl}
+use lib.ListN.{replicate}
+use Rattle.queues.proofs.HeldLaws.{held-cells}
 use borrow.Author.Needs.{needs}
 use Rattle.queues.proofs.held.cells.Statement.{statement}
 use Rattle.queues.proofs.held.cells.Tie as tie
-use Rattle.queues.proofs.held.cells.Reads as reads
-use Rattle.queues.proofs.held.cells.Lts as lts
-use Rattle.pool.proofs.copy.Reads as copy-reads
-use Rattle.queues.proofs.held.place_of.Reads as place-of-reads
 
--- src/held.rt:68:16
 slice-aggregate-copy : tie.Need-slice-aggregate-copy
 slice-aggregate-copy c = search needs
 
--- src/held.rt:68:36
 place-of-requires : tie.Need-place-of-requires
 place-of-requires c κs = search needs
 
--- src/held.rt:68:36
 add-copy : tie.Need-add-copy
 add-copy c = search needs
 
--- src/held.rt:68:5
 copy-requires : tie.Need-copy-requires
 copy-requires c κs = search needs
 
--- src/held.rt:62:1
 returns : tie.Need-returns
-returns c = ?
+returns c =
+    let b = c .before .before .before .before .before in
+    let a = b .args in
+    let at = c .before .before .place-of in
+    let o = c .before .copy in
+    held-cells (a .words .now) (b .pre .0) (a .i) (b .pre .1) (at .result) (at .ensures) (replicate 12 0) (o .last .0) refl (o .ensures)
 
 pub cells-spec : {M : Type 1} → statement M
 cells-spec =

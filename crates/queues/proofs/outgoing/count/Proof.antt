@@ -16,7 +16,7 @@ count-requires c κs =
 returns : tie.Need-returns
 returns c =
     let a = c .before .before .before .args in
-    c .count .ensures ∙ ap length (out-items (a .words .now) (a .list) (c .before .place-of .result) (c .before .place-of .ensures))
+    c .count .ensures ∙ ap length (out-items (a .list) (c .before .place-of .result) (c .before .place-of .ensures) (a .words .now))
 
 pub count-spec : {M : Type 1} → statement M
 count-spec = tie.close (tie.spec place-of-requires count-requires returns)

@@ -16,7 +16,7 @@ head-requires c κs =
 returns : tie.Need-returns
 returns c =
     let a = c .before .before .before .args in
-    c .head .ensures ∙ ap first (out-items (a .words .now) (a .list) (c .before .place-of .result) (c .before .place-of .ensures))
+    c .head .ensures ∙ ap first (out-items (a .list) (c .before .place-of .result) (c .before .place-of .ensures) (a .words .now))
 
 pub head-spec : {M : Type 1} → statement M
 head-spec = tie.close (tie.spec place-of-requires head-requires returns)

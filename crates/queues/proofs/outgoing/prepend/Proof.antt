@@ -27,7 +27,7 @@ returns c =
     let a = b .args in
     let o = c .before .before .prepend in
     let at = c .before .before .before .place-of in
-    out-kept (a .words .now) (b .pre) (a .list) (at .result) (at .ensures) (prepended outgoing (map low (take (a .k) (a .run .now)))) (o .last .0) (o .ensures)
+    out-kept (a .list) (at .result) (at .ensures) (a .words .now) (b .pre) (prepended outgoing (map low (take (a .k) (a .run .now)))) (o .last .0) (o .ensures)
 
 pub prepend-spec : {M : Type 1} → statement M
 prepend-spec = tie.close (tie.spec place-of-requires prepend-requires same-length returns)

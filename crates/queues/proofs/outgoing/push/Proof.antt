@@ -24,7 +24,7 @@ returns c =
     let a = b .args in
     let o = c .before .before .push in
     let at = c .before .before .before .place-of in
-    out-kept (a .words .now) (b .pre) (a .list) (at .result) (at .ensures) (λ xs. pushed outgoing xs (a .s)) (o .last .0) (o .ensures)
+    out-kept (a .list) (at .result) (at .ensures) (a .words .now) (b .pre) (λ xs. pushed outgoing xs (a .s)) (o .last .0) (o .ensures)
 
 pub push-spec : {M : Type 1} → statement M
 push-spec = tie.close (tie.spec place-of-requires push-requires same-length returns)

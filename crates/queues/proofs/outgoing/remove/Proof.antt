@@ -23,7 +23,7 @@ returns c =
     let a = b .args in
     let o = c .before .before .remove in
     let at = c .before .before .before .place-of in
-    out-kept (a .words .now) (b .pre) (a .list) (at .result) (at .ensures) (λ xs. without xs (a .k)) (o .last .0) (o .ensures)
+    out-kept (a .list) (at .result) (at .ensures) (a .words .now) (b .pre) (λ xs. without xs (a .k)) (o .last .0) (o .ensures)
 
 pub remove-spec : {M : Type 1} → statement M
 remove-spec = tie.close (tie.spec place-of-requires remove-requires same-length returns)

@@ -1,6 +1,5 @@
 -- `replace` meets its contract: the list without all its slots, then with those of the run, by `replaced`.
 use native.Mathlib.Omega.{arith}
-use lib.ListN.{length}
 use Rattle.queues.proofs.QueueLaws.{place-fits, replaced}
 use borrow.Author.Needs.{needs}
 use Rattle.queues.proofs.outgoing.replace.Statement.{statement}
@@ -31,7 +30,7 @@ returns c =
     let at = c .before .before .before .before .before .before .before .before .place-of in
     let mid = c .before .before .before .before .before .before .cut in
     let end = c .before .before .append in
-    replaced (a .words .now) (b .pre .0) (a .list) (at .result) (at .ensures) (mid .last .0) (end .last .0) (a .k) (a .run .now) (b .pre .1 .0) (omega arith)
+    replaced (a .list) (at .result) (at .ensures) (a .words .now) (mid .last .0) (end .last .0) (b .pre .0) (omega arith) (a .k) (a .run .now) (b .pre .1 .0)
     (mid .ensures) (end .ensures)
 
 pub replace-spec : {M : Type 1} → statement M

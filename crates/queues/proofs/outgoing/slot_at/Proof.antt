@@ -18,7 +18,7 @@ slot-at-requires c κs =
 returns : tie.Need-returns
 returns c =
     let a = c .before .before .before .args in
-    c .slot-at .ensures ∙ ap (λ (xs : List ℕ). getD xs (a .k) 0) (out-items (a .words .now) (a .list) (c .before .place-of .result) (c .before .place-of .ensures))
+    c .slot-at .ensures ∙ ap (λ (xs : List ℕ). getD xs (a .k) 0) (out-items (a .list) (c .before .place-of .result) (c .before .place-of .ensures) (a .words .now))
 
 pub slot-at-spec : {M : Type 1} → statement M
 slot-at-spec = tie.close (tie.spec place-of-requires slot-at-requires returns)
