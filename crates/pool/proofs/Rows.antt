@@ -1,5 +1,5 @@
 -- Things in rows of w numbers, read by any f: how many, row i by its own numbers, and what they are after row i was written, whole or in part.
--- The argument: induction on the rows; the first row is taken off in front. Products are opaque numbers to `omega`: `step` and `sizes` say what they are.
+-- The argument: induction on the rows; the first row is taken off in front. Products are opaque numbers to `omega`: `next`, `step` and `enough` say how they grow.
 use Prim.Native.Nat.{ℕ, zero, suc, _+_, _*_, _-_, _≤_, _<_}
 use mathlib.Core.Path.{_≡_, refl, ap, sym, _∙_}
 use mathlib.Core.List.{List, _∷_, _++_}

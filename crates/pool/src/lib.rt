@@ -55,18 +55,6 @@ fn low8(x: u32) -> u8
     (x % 256) as u8
 }
 
-fn wide16(x: u16) -> u32
-    ensures { λ r. ⌜ r ≡ x ⌝ }
-{
-    x as u32
-}
-
-fn wide8(x: u8) -> u32
-    ensures { λ r. ⌜ r ≡ x ⌝ }
-{
-    x as u32
-}
-
 fn flag_of(b: bool) -> u32
     ensures { λ r. ⌜ r ≡ flag b ⌝ }
 {
@@ -110,12 +98,12 @@ fn words(slot: Outgoing) -> [u32; WIDTH]
     let c = slot.command;
     let row = rows::of(c);
     let f = c.fields;
-    let kind = wide8(rows::kind(f));
+    let kind = rows::kind(f) as u32;
     let r = slot.reliable;
     let u = slot.unreliable;
-    let reliable = wide16(r.0);
-    let unreliable = wide16(u.0);
-    let attempts = wide16(slot.attempts);
+    let reliable = r.0 as u32;
+    let unreliable = u.0 as u32;
+    let attempts = slot.attempts as u32;
     let packet = flag_of(slot.packet);
     let mut part = [
         reliable,
@@ -328,9 +316,9 @@ pub fn put_in(pool: &mut [u32], i: usize, slot: Incoming)
         return;
     }
     let byte = slot.byte as u32;
-    let channel = wide8(slot.channel);
+    let channel = slot.channel as u32;
     let n = slot.number;
-    let number = wide16(n.0);
+    let number = n.0 as u32;
     let row = [
         byte,
         channel,
