@@ -1,6 +1,6 @@
 -- Things in rows of w numbers, read by any f: how many, row i by its own numbers, and what they are after row i was written, whole or in part.
--- The argument: induction on the rows; the first row is taken off in front. Products are opaque numbers to `omega`: `step` and `sizes` say what they are.
-use Prim.Native.Nat.{ℕ, zero, suc, _+_, _*_, _≤_, _<_}
+-- The argument: induction on the rows; the first row is taken off in front. Products are opaque numbers to `omega`: `next`, `step` and `enough` say how they grow.
+use Prim.Native.Nat.{ℕ, zero, suc, _+_, _*_, _-_, _≤_, _<_}
 use mathlib.Core.Path.{_≡_, refl, ap, sym, _∙_}
 use mathlib.Core.List.{List, _∷_, _++_}
 use native.Mathlib.Nat.{le-of-suc-le-suc, not-suc-le-zero, zero-mul, suc-mul, zero-add, add-zero}
@@ -58,6 +58,12 @@ module _ {A : Type 0} (f : List ℕ → A) (w : ℕ) where
   rows-at zero ws i d h = absurd (not-suc-le-zero h)
   rows-at (suc n) ws zero d h = ap f (sym (row-first w ws))
   rows-at (suc n) ws (suc i) d h = rows-at n (drop w ws) i d (le-of-suc-le-suc h) ∙ ap f (row-next w ws i)
+
+  -- row i as a part of the run, from its place to its end
+  pub rows-part : (n : ℕ) (ws : List ℕ) (i : ℕ) (d : A) → i < n → f (take (i * w + w - i * w) (drop (i * w) ws)) ≡ getD (rowsFrom f w n ws) i d
+  rows-part n ws i d h =
+      let e : i * w + w - i * w ≡ w = omega arith in
+      ap (λ (k : ℕ). f (take k (drop (i * w) ws))) e ∙ sym (rows-at n ws i d h)
 
   -- past the end nothing is read and nothing set
   pub rows-past : (n : ℕ) (ws : List ℕ) (i : ℕ) (d : A) → n ≤ i → getD (rowsFrom f w n ws) i d ≡ d

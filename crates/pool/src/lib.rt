@@ -8,7 +8,7 @@ ghost use Rattle.slots.specs.Lists.{outgoing};
 ghost use Rattle.parts.specs.Fresh.{noOutgoing, noIncoming};
 ghost use Rattle.parts.specs.Updates.{withAttempt};
 ghost use Rattle.damage.specs.Walks.{worthOf};
-ghost use Rattle.pool.specs.Slots.{width, poolLength, inPoolLength, flag, slotFrom, slotsOf, briefOf, inSlotsOf, wordsOf, kindFrom, fitOf, gradeOf};
+ghost use Rattle.pool.specs.Slots.{width, poolLength, inPoolLength, flag, slotFrom, slotsOf, briefOf, inWidth, inSlotFrom, inSlotsOf, wordsOf, kindFrom, fitOf, gradeOf};
 use command::fields::Command;
 use command::fields::Fields;
 use command::rows;
@@ -55,18 +55,6 @@ fn low8(x: u32) -> u8
     (x % 256) as u8
 }
 
-fn wide16(x: u16) -> u32
-    ensures { λ r. ⌜ r ≡ x ⌝ }
-{
-    x as u32
-}
-
-fn wide8(x: u8) -> u32
-    ensures { λ r. ⌜ r ≡ x ⌝ }
-{
-    x as u32
-}
-
 fn flag_of(b: bool) -> u32
     ensures { λ r. ⌜ r ≡ flag b ⌝ }
 {
@@ -110,12 +98,12 @@ fn words(slot: Outgoing) -> [u32; WIDTH]
     let c = slot.command;
     let row = rows::of(c);
     let f = c.fields;
-    let kind = wide8(rows::kind(f));
+    let kind = rows::kind(f) as u32;
     let r = slot.reliable;
     let u = slot.unreliable;
-    let reliable = wide16(r.0);
-    let unreliable = wide16(u.0);
-    let attempts = wide16(slot.attempts);
+    let reliable = r.0 as u32;
+    let unreliable = u.0 as u32;
+    let attempts = slot.attempts as u32;
     let packet = flag_of(slot.packet);
     let mut part = [
         reliable,
@@ -245,6 +233,24 @@ pub struct Brief {
     pub packet: bool,
 }
 
+// A slot's numbers in brief.
+fn brief_from(part: &[u32]) -> Brief
+    requires { ⌜ length (now part) ≡ width ⌝ }
+    ensures { λ r. ⌜ r ≡ briefOf (slotFrom (now (part .entry))) ⌝ }
+{
+    let reliable = Reliable(low16(part[0]));
+    Brief {
+        reliable,
+        byte: low8(part[9]),
+        channel: low8(part[10]),
+        sent: part[2],
+        timeout: part[3],
+        length: low16(part[6]),
+        attempts: low16(part[7]),
+        packet: 1 <= part[8],
+    }
+}
+
 // Slot i in brief; past the pool's end an empty one.
 pub fn brief_at(pool: &[u32], i: usize) -> Brief
     requires { ⌜ length (now pool) ≡ poolLength ⌝ }
@@ -254,17 +260,8 @@ pub fn brief_at(pool: &[u32], i: usize) -> Brief
         return no_brief();
     }
     let at = i * WIDTH;
-    let reliable = Reliable(low16(pool[at]));
-    Brief {
-        reliable,
-        byte: low8(pool[at + 9]),
-        channel: low8(pool[at + 10]),
-        sent: pool[at + 2],
-        timeout: pool[at + 3],
-        length: low16(pool[at + 6]),
-        attempts: low16(pool[at + 7]),
-        packet: 1 <= pool[at + 8],
-    }
+    let end = at + WIDTH;
+    brief_from(&pool[at..end])
 }
 
 // Slot i gets this sent time, timeout and count of attempts; past the pool's end nothing changes.
@@ -281,6 +278,22 @@ pub fn put_attempt(pool: &mut [u32], i: usize, sent: u32, timeout: u32, attempts
     pool[at + 7] = attempts as u32;
 }
 
+// An incoming slot's numbers, each read modulo its width.
+fn in_from(part: &[u32]) -> Incoming
+    requires { ⌜ length (now part) ≡ inWidth ⌝ }
+    ensures { λ r. ⌜ r ≡ inSlotFrom (now (part .entry)) ⌝ }
+{
+    let number = Reliable(low16(part[2]));
+    Incoming {
+        byte: low8(part[0]),
+        channel: low8(part[1]),
+        number,
+        fragments: part[3],
+        remaining: part[4],
+        length: part[5],
+    }
+}
+
 // Incoming slot i; past the pool's end an empty one.
 pub fn in_slot_at(pool: &[u32], i: usize) -> Incoming
     requires { ⌜ length (now pool) ≡ inPoolLength ⌝ }
@@ -290,15 +303,8 @@ pub fn in_slot_at(pool: &[u32], i: usize) -> Incoming
         return no_incoming();
     }
     let at = i * IN_WIDTH;
-    let number = Reliable(low16(pool[at + 2]));
-    Incoming {
-        byte: low8(pool[at]),
-        channel: low8(pool[at + 1]),
-        number,
-        fragments: pool[at + 3],
-        remaining: pool[at + 4],
-        length: pool[at + 5],
-    }
+    let end = at + IN_WIDTH;
+    in_from(&pool[at..end])
 }
 
 // Incoming slot i becomes this one; past the pool's end nothing changes.
@@ -310,9 +316,9 @@ pub fn put_in(pool: &mut [u32], i: usize, slot: Incoming)
         return;
     }
     let byte = slot.byte as u32;
-    let channel = wide8(slot.channel);
+    let channel = slot.channel as u32;
     let n = slot.number;
-    let number = wide16(n.0);
+    let number = n.0 as u32;
     let row = [
         byte,
         channel,

@@ -16,11 +16,11 @@ returns c =
 cast-byte : tie.Need-cast-byte
 cast-byte c = search needs
 
-wide8-requires : tie.Need-wide8-requires
-wide8-requires c κs = search needs
+cast-channel : tie.Need-cast-channel
+cast-channel c = search needs
 
-wide16-requires : tie.Need-wide16-requires
-wide16-requires c κs = search needs
+cast-number : tie.Need-cast-number
+cast-number c = search needs
 
 mul-copy : tie.Need-mul-copy
 mul-copy c = search needs
@@ -37,15 +37,12 @@ same-length c = search needs
 returns-2 : tie.Need-returns-2
 returns-2 c =
     let k = c .before .before in
-    let n = k .before .before .before in
-    let h = n .before .before in
-    let w = h .before in
+    let w = k .before .before .before .before .before .before in
     let t = w .before in
     let s = t .before .before in
     let a = s .args in
     ap inSlotsOf (k .copy .ensures)
-    ∙ in-slots-put (a .pool .now) (a .i) (a .slot) (h .wide8 .result) (n .wide16 .result) (t .if1 .left) (s .pre) (in-widths (a .slot) (w .struct-known .given))
-    (h .wide8 .ensures) (n .wide16 .ensures)
+    ∙ in-slots-put (a .pool .now) (a .i) (a .slot) (t .if1 .left) (s .pre) (in-widths (a .slot) (w .struct-known .given))
 
 pub put-in-spec : {M : Type 1} → statement M
 put-in-spec =
@@ -53,8 +50,8 @@ put-in-spec =
     (tie.spec
     returns
     cast-byte
-    wide8-requires
-    wide16-requires
+    cast-channel
+    cast-number
     mul-copy
     slice-aggregate-copy
     copy-requires
