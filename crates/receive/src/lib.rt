@@ -1,4 +1,6 @@
 // Receive: the next packet that was dispatched, by its cell of the store.
+pub mod lent;
+
 ghost use mathlib.Core.Path.{_≡_};
 ghost use Rattle.peer.specs.Outcome.{Came};
 ghost use Rattle.receive.specs.Calls.{answerOf, withoutFirst, lowered, receives};
