@@ -1,6 +1,6 @@
 // The record that the numbers mean, by value.
 ghost use mathlib.Core.Path.{_≡_};
-ghost use Prim.Native.Nat.{_+_, _≤_, _<_};
+ghost use Prim.Native.Nat.{_+_, _≤_, _<_, _%_};
 ghost use lib.ListN.{length};
 ghost use Rattle.lists.specs.Rows.{rowAt};
 ghost use Rattle.parts.specs.Sizes.{channels};
@@ -65,7 +65,7 @@ fn bandwidth(words: &[u32]) -> Bandwidth
 
 // A list of the outgoing pool, from its place.
 fn out_list(words: &[u32], at: usize) -> OutList
-    requires { ⌜ at + OUTGOING + 1 ≤ length (now words) ⌝ }
+    requires { ⌜ at + 32 + 1 ≤ length (now words) ⌝ }
     ensures { λ r. ⌜ r ≡ outListFrom (rowAt at 32 (now (words .entry))) ⌝ }
 {
     let mut slots = [0u16; OUTGOING];
@@ -81,7 +81,7 @@ fn out_list(words: &[u32], at: usize) -> OutList
 }
 
 fn in_list(words: &[u32], at: usize) -> InList
-    requires { ⌜ at + INCOMING + 1 ≤ length (now words) ⌝ }
+    requires { ⌜ at + 12 + 1 ≤ length (now words) ⌝ }
     ensures { λ r. ⌜ r ≡ inListFrom (rowAt at 12 (now (words .entry))) ⌝ }
 {
     let mut slots = [0u16; INCOMING];
