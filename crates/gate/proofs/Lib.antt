@@ -2,3 +2,4 @@ pub mod Turns
 pub mod Groups
 pub mod Stops
 pub mod Three
+pub mod Sums
