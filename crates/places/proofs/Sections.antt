@@ -89,7 +89,7 @@ paste-in ws row at n o m fits h full =
     let lp : length (paste s o row m) ≡ n = length-paste s o row m (omega arith) (omega arith) ∙ ls in
     let a : take o s ≡ take o (drop at ws) = take-take o n (drop at ws) (omega arith) in
     let b : drop (o + m) s ≡ take (n - (o + m)) (drop (at + (o + m)) ws) =
-        sym (take-all (n - (o + m)) (drop (o + m) s) (rw (length-drop) (omega (arith, ls)))) ∙ section-section at n (o + m) (n - (o + m)) ws (omega arith) in
+    sym (take-all (n - (o + m)) (drop (o + m) s) (rw (length-drop) (omega (arith, ls)))) ∙ section-section at n (o + m) (n - (o + m)) ws (omega arith) in
     let c : drop (at + n) ws ≡ drop (n - (o + m)) (drop (at + (o + m)) ws) = ap (λ (k : ℕ). drop k ws) w ∙ sym (drop-drop (n - (o + m)) (at + (o + m)) ws) in
     let t : take (n - (o + m)) (drop (at + (o + m)) ws) ++ drop (n - (o + m)) (drop (at + (o + m)) ws) ≡ drop (at + (o + m)) ws = whole-again (n - (o + m)) (drop (at + (o + m)) ws) in
     ap (λ (k : ℕ). take (at + o) ws ++ take m row ++ drop k ws) e
@@ -102,6 +102,7 @@ paste-in ws row at n o m fits h full =
   where
     whole-again : (k : ℕ) (l : List ℕ) → take k l ++ drop k l ≡ l
     whole-again k l = take-append-drop k l
+
     regroup : (a b c d e : List ℕ) → a ++ b ++ c ++ (d ++ e) ≡ a ++ (b ++ c ++ d) ++ e
     regroup a b c d e =
         sym (append-assoc (a ++ b ++ c) d e)

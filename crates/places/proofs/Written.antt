@@ -107,7 +107,7 @@ module _ (ws r : List ℕ) (at n : ℕ) (fits : at + n ≤ length ws) (full : le
       let a : k + 0 ≡ k = omega arith in
       let g : getD (paste ws at r n) k 0 ≡ getD ws k 0 = rw a at (h 0 (omega arith)) in
       let g′ : (i : ℕ) → i < m → getD (paste ws at r n) (suc k + i) 0 ≡ getD ws (suc k + i) 0 =
-          λ (i : ℕ) (l : i < m). let b : k + suc i ≡ suc k + i = omega arith in rw b at (h (suc i) (omega arith)) in
+      λ (i : ℕ) (l : i < m). let b : k + suc i ≡ suc k + i = omega arith in rw b at (h (suc i) (omega arith)) in
       rw (g, numbers-kept m (suc k) g′)
 
   part-before : (s : Size) (k : ℕ) → k + extent s ≤ at → part s k (paste ws at r n) ≡ part s k ws
