@@ -3,16 +3,18 @@ use Prim.Native.Nat.{ℕ, _+_, _*_, _%_, _<_}
 use mathlib.Core.Path.{_≡_, refl, ap, sym, _∙_}
 use mathlib.Core.List.{List}
 use native.Mathlib.Omega.{arith}
-use lib.ListN.{getD}
+use lib.ListN.{length, getD}
 use Rattle.lists.specs.Rows.{section, rowAt}
 use Rattle.parts.specs.Fresh.{noIncoming}
 use Rattle.parts.specs.declared.groups.Lists.{Lists}
 use Rattle.parts.specs.declared.groups.Incoming.{Incoming}
 use Rattle.pool.specs.Rows.{rowAt as row}
-use Rattle.pool.specs.Slots.{slotsOf, inSlotFrom, inSlotsOf}
-use Rattle.pool.proofs.Rows.{rows-at, row-at}
-use Rattle.places.specs.Whole.{made, parts, numbers, sizes, whole, outListFrom, inListFrom}
+use Rattle.pool.specs.Slots.{inSlotFrom}
+use Rattle.pool.proofs.Rows.{rows-length, rows-at, row-at}
+use Rattle.places.specs.Whole.{made, parts, numbers, sizes, whole, outListFrom, inListFrom, channelFrom}
 use Rattle.places.proofs.Sections.{section-number}
+use Rattle.places.proofs.ChannelLaws.{channels-is}
+use Rattle.places.proofs.PoolLaws.{in-pool-is}
 
 module _ (ws : List ℕ) where
   pub mtu-is : whole ws .flow .mtu ≡ getD ws 39 0
@@ -22,10 +24,6 @@ module _ (ws : List ℕ) where
   pub count-is : whole ws .standing .count ≡ getD ws 6 0
   unfolding made parts numbers sizes
   count-is = refl
-
-  pub outgoing-is : whole ws .outgoing ≡ slotsOf (section 330 832 ws)
-  unfolding made parts numbers sizes
-  outgoing-is = refl
 
   -- the outgoing half, by the rows of its lists
   pub lists-are : whole ws .lists ≡ record { sent = outListFrom (rowAt 43 32 ws); reliable = outListFrom (rowAt 76 32 ws); outgoing = outListFrom (rowAt 109 32 ws); dispatched = inListFrom (rowAt 142 12 ws) }
@@ -39,14 +37,13 @@ module _ (ws : List ℕ) where
   unfolding made parts numbers sizes
   total-is = refl
 
-  incoming-is : whole ws .incoming ≡ inSlotsOf (section 1162 72 ws)
-  unfolding made parts numbers sizes
-  incoming-is = refl
+  pub channels-length : length (whole ws .channels) ≡ 8
+  channels-length = ap length (channels-is ws) ∙ rows-length channelFrom 17 8 (section 194 136 ws)
 
   -- incoming slot s, and its number j
   module _ (s : ℕ) (h : s < 12) where
     slot-is : getD (whole ws .incoming) s noIncoming ≡ inSlotFrom (row 6 (section 1162 72 ws) s)
-    slot-is = ap (λ (l : List Incoming). getD l s noIncoming) incoming-is ∙ rows-at inSlotFrom 6 12 (section 1162 72 ws) s noIncoming h
+    slot-is = ap (λ (l : List Incoming). getD l s noIncoming) (in-pool-is ws) ∙ rows-at inSlotFrom 6 12 (section 1162 72 ws) s noIncoming h
 
     number-is : (j : ℕ) → j < 6 → getD (row 6 (section 1162 72 ws) s) j 0 ≡ getD ws (1162 + s * 6 + j) 0
     number-is j b =

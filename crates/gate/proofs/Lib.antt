@@ -3,3 +3,5 @@ pub mod Groups
 pub mod Stops
 pub mod Three
 pub mod Sums
+pub mod Held
+pub mod Order

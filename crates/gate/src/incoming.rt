@@ -129,15 +129,7 @@ pub(crate) fn is_sound(words: &[u32], count: u32) -> bool
     ensures { λ r. ⌜ r ≡ inSide count (whole (now (words .entry))) ⌝ }
 {
     let mut marks = [0u8; INCOMING];
-    let first = list_sound(
-        words,
-        places::DISPATCHED,
-        count,
-        false,
-        0,
-        &mut marks,
-        0,
-    );
+    let first = list_sound(words, places::DISPATCHED, count, false, 0, &mut marks, 0);
     if !first.ok {
         return false;
     }

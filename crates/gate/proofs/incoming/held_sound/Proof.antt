@@ -1,70 +1,109 @@
+-- The lists of all the channels below the count are those that are left, from the marks and the sum so far, a channel at a time.
+use Prim.Native.Nat.{_+_, _*_, _-_, _≤_}
+use mathlib.Core.Path.{_≡_, refl, sym, _∙_}
+use native.Mathlib.Omega.{arith}
+use lib.ListN.{length, take, drop}
+use borrow.Author.Needs.{needs}
+use borrow.Author.Tests.{not-true, not-false}
+use Rattle.lists.specs.Rows.{rowAt}
+use Rattle.parts.specs.Damage.{held, lengths}
+use Rattle.held.proofs.HeldLaws.{held-sum-end}
+use Rattle.places.specs.Whole.{whole}
+use Rattle.places.proofs.ChannelLaws.{held-is}
+use Rattle.gate.specs.Halves.{heldSound}
+use Rattle.gate.proofs.Groups.{total-is, channels-length}
+use Rattle.gate.proofs.Held.{held-stop, held-turn, held-sums, held-end}
 use Rattle.gate.proofs.incoming.held_sound.Statement.{statement}
 use Rattle.gate.proofs.incoming.held_sound.Tie as tie
-use Rattle.gate.proofs.incoming.held_sound.Reads as reads
-use Rattle.gate.proofs.incoming.held_sound.Lts as lts
-use Rattle.gate.proofs.incoming.list_sound.Reads as list-sound-reads
 
 abbrev Inv-loop : tie.InvT-loop
-Inv-loop words count marks₀ from total₀ k₀ marks total k = ?
+Inv-loop words count marks₀ from total₀ k₀ marks total k =
+    (k ≤ count) × (length marks ≡ 12)
+    × (heldSound (whole words .incoming) count 0 marks₀ (take count (whole words .channels)) ≡ heldSound (whole words .incoming) count k marks (drop k (take count (whole words .channels))))
+    × (from + lengths (whole words .incoming) (held (take count (whole words .channels))) ≡ total + lengths (whole words .incoming) (held (drop k (take count (whole words .channels)))))
+    × (total ≤ 49152 * (k + 1))
 
 abbrev μ-loop : tie.MeasureT-loop
-μ-loop words count marks₀ from total₀ k₀ marks total k = ?
+μ-loop words count marks₀ from total₀ k₀ marks total k = count - k
 
--- src/incoming.rt:113:5
 loop-holds : tie.Need-loop-holds Inv-loop μ-loop
-loop-holds c = ?
+loop-holds c = (search needs, search needs, refl, refl, search needs)
 
--- src/incoming.rt:114:37
 cast-at : tie.Need-cast-at Inv-loop μ-loop
-cast-at c = ?
+cast-at c = search needs
 
--- src/incoming.rt:114:37
 mul-at : tie.Need-mul-at Inv-loop μ-loop
-mul-at c = ?
+mul-at c = search needs
 
--- src/incoming.rt:114:18
 add-at : tie.Need-add-at Inv-loop μ-loop
-add-at c = ?
+add-at c = search needs
 
--- src/incoming.rt:114:18
 add-at-2 : tie.Need-add-at-2 Inv-loop μ-loop
-add-at-2 c = ?
+add-at-2 c = search needs
 
--- src/incoming.rt:115:13
 list-sound-requires : tie.Need-list-sound-requires Inv-loop μ-loop
-list-sound-requires c κs = ?
+list-sound-requires c κs = search needs
 
--- src/incoming.rt:117:13
 same-length : tie.Need-same-length Inv-loop μ-loop
-same-length c = ?
+same-length c = search needs
 
--- src/incoming.rt:117:13
 returns : tie.Need-returns Inv-loop μ-loop
-returns c = ?
+returns c =
+    let b = c .before .before .before .before .before .before .before .before .before .before in
+    let a = b .args in
+    let ws = a .words .now in
+    let slots = whole ws .incoming in
+    let cs = whole ws .channels in
+    let m = c .before .before .before .before .before .before .before .loop in
+    let w = c .before .before .before .before .list-sound in
+    let long : a .count ≤ length cs = omega (arith, channels-length ws, b .pre .1 .0) in
+    let row = rowAt (194 + m .k * 17 + 4) 12 ws in
+    let is = held-is ws (m .k) (omega (arith, b .pre .1 .0)) (b .pre .0) in
+    rw (m .inv .2, held-stop slots (a .count) cs (a .count) (m .k) long (omega arith) row (m .marks) is (w .result .ok) (w .last .1 .1 .1 .1 .1 .0) (w .ensures .0) (not-true (w .result .ok) (c .if1 .taken)))
 
--- src/incoming.rt:120:13
 add-k : tie.Need-add-k Inv-loop μ-loop
-add-k c = ?
+add-k c = search needs
 
--- src/incoming.rt:113:5
 loop-less : tie.Need-loop-less Inv-loop μ-loop
-loop-less c = ?
+loop-less c = search needs
 
--- src/incoming.rt:113:5
 loop-again : tie.Need-loop-again Inv-loop μ-loop
-loop-again c = ?
+loop-again c =
+    let b = c .before .before .before .before .before .before .before .before .before .before in
+    let a = b .args in
+    let ws = a .words .now in
+    let slots = whole ws .incoming in
+    let cs = whole ws .channels in
+    let m = c .before .before .before .before .before .before .before .loop in
+    let w = c .before .before .before .before .list-sound in
+    let long : a .count ≤ length cs = omega (arith, channels-length ws, b .pre .1 .0) in
+    let row = rowAt (194 + m .k * 17 + 4) 12 ws in
+    let is = held-is ws (m .k) (omega (arith, b .pre .1 .0)) (b .pre .0) in
+    let ok = not-false (w .result .ok) (c .if1 .left) in (
+      omega arith,
+      search needs,
+      m .inv .2 ∙ held-turn slots (a .count) cs (a .count) (m .k) long (omega arith) row (m .marks) is (w .result .ok) (w .last .1 .1 .1 .1 .1 .0) (w .ensures .0) ok,
+      m .inv .3 ∙ held-sums slots (a .count) cs (a .count) (m .k) long (omega arith) row (m .marks) is (w .result .ok) (w .last .1 .1 .1 .1 .1 .0) (w .ensures .0) (m .total) (w .result .total) (w .ensures .1) ok,
+      omega (arith, w .ensures .1 .low ok),
+    )
 
--- src/incoming.rt:122:5
 shared-slice-read-result : tie.Need-shared-slice-read-result Inv-loop μ-loop
-shared-slice-read-result c = ?
+shared-slice-read-result c = search needs
 
--- src/incoming.rt:104:1
 same-length-2 : tie.Need-same-length-2 Inv-loop μ-loop
-same-length-2 c = ?
+same-length-2 c = search needs
 
--- src/incoming.rt:104:1
 returns-2 : tie.Need-returns-2 Inv-loop μ-loop
-returns-2 c = ?
+returns-2 c =
+    let b = c .before .before .before .before .before in
+    let a = b .args in
+    let ws = a .words .now in
+    let slots = whole ws .incoming in
+    let cs = whole ws .channels in
+    let m = c .before .before .loop in
+    let end = held-sum-end slots cs (a .count) (m .k) (omega arith) in
+    let sum : a .from + lengths slots (held (take (a .count) cs)) ≡ m .total = omega arith in
+    rw (m .inv .2, held-end slots (a .count) cs (a .count) (m .k) (m .marks) (omega arith), sum, total-is ws)
 
 pub held-sound-spec : {M : Type 1} → statement M
 held-sound-spec =

@@ -1,6 +1,7 @@
 -- A turn of the walk at a time, as of an outgoing list, with the lengths summed on the way.
 use Prim.Native.Nat.{_+_, _*_, _-_, _≤_}
 use mathlib.Core.Path.{_≡_, refl, sym, _∙_}
+use mathlib.Core.Bool.{true, false}
 use native.Mathlib.Omega.{arith}
 use lib.ListN.{length, getD, drop, length-set}
 use borrow.Author.Needs.{needs}
@@ -116,7 +117,7 @@ returns-4 c =
     let i : Listed ws (a .at) 12 (v .result) = record { room = omega (arith, b .pre .0, b .pre .1 .0); is = v .ensures } in
     let m = c .before .before .before .before .before .before .before .before .loop in
     let s = c .before .before .before .before .before .narrow2 in
-    let bad = sym (c .before .slot-passes .ensures) ∙ not-true (c .before .slot-passes .result) (c .if4 .taken) in
+    let bad : f (s .result) ≡ false = sym (c .before .slot-passes .ensures) ∙ not-true (c .before .slot-passes .result) (c .if4 .taken) in
     (unfit f ws (a .at) 12 (v .result) i (omega arith) (a .marks .now) (m .marks) (m .j) (m .inv .2) (omega arith) (s .result) (s .ensures) (omega arith) (c .before .before .if3 .left) bad, sums-stop slots (itemsOf (rowAt (a .at) 12 ws)) (a .from) (m .total))
 
 length-at-requires : tie.Need-length-at-requires Inv-loop μ-loop
@@ -133,7 +134,7 @@ add-total c =
     let i : Listed ws (a .at) 12 (v .result) = record { room = omega (arith, b .pre .0, b .pre .1 .0); is = v .ensures } in
     let m = c .before .before .before .before .before .before .before .before .before .loop in
     let s = c .before .before .before .before .before .before .narrow2 in
-    let good = sym (c .before .before .slot-passes .ensures) ∙ not-false (c .before .before .slot-passes .result) (c .before .if4 .left) in
+    let good : f (s .result) ≡ true = sym (c .before .before .slot-passes .ensures) ∙ not-false (c .before .before .slot-passes .result) (c .before .if4 .left) in
     let short = pass-short (a .count) (a .own) (a .k) (getD slots (s .result) noIncoming) good in
     omega (arith, c .length-at .ensures)
 
@@ -157,7 +158,7 @@ loop-again c =
     let i : Listed ws (a .at) 12 (v .result) = record { room = omega (arith, b .pre .0, b .pre .1 .0); is = v .ensures } in
     let m = c .before .before .before .before .before .before .before .before .before .loop in
     let s = c .before .before .before .before .before .before .narrow2 in
-    let good = sym (c .before .before .slot-passes .ensures) ∙ not-false (c .before .before .slot-passes .result) (c .before .if4 .left) in
+    let good : f (s .result) ≡ true = sym (c .before .before .slot-passes .ensures) ∙ not-false (c .before .before .slot-passes .result) (c .before .if4 .left) in
     let short = pass-short (a .count) (a .own) (a .k) (getD slots (s .result) noIncoming) good in
     let sum = summed f ws (a .at) 12 (v .result) i (omega arith) (a .marks .now) (m .marks) (m .j) (m .inv .2) (omega arith) (s .result) (s .ensures) slots in
     let length-is = c .length-at .ensures in (
