@@ -1,5 +1,8 @@
 pub mod Asked
 pub mod Groups
+pub mod Held
+pub mod Order
 pub mod Stops
+pub mod Sums
 pub mod Three
 pub mod Turns
