@@ -65,7 +65,8 @@ fn slot_passes(words: &[u32], s: usize, count: u32, own: bool, k: u32) -> bool
     channel == k
 }
 
-// A list that is longer than its pool, or that names a slot that does not exist, is marked or does not pass; else each slot is marked, and its length added.
+// Not well is a list that is longer than its pool, or that names a slot that does not exist, is marked or does not pass; a slot that passes is marked, and its
+// length added.
 fn list_sound(
     words: &[u32],
     at: usize,
