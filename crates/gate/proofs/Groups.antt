@@ -25,7 +25,7 @@ module _ (ws : List ℕ) where
   unfolding made parts numbers sizes
   count-is = refl
 
-  -- the outgoing half, by the rows of its lists
+  -- the lists by their rows
   pub lists-are : whole ws .lists ≡ record { sent = outListFrom (rowAt 43 32 ws); reliable = outListFrom (rowAt 76 32 ws); outgoing = outListFrom (rowAt 109 32 ws); dispatched = inListFrom (rowAt 142 12 ws) }
   unfolding made parts numbers sizes
   lists-are = refl

@@ -11,13 +11,13 @@ use Rattle.numbers.specs.Pick.{both}
 use Rattle.numbers.proofs.BoolLaws.{both-assoc}
 use Rattle.runs.specs.Free.{markedAll}
 use Rattle.runs.proofs.Views.{part-step, part-end}
-use Rattle.lists.specs.Rows.{itemsOf, lenOf}
+use Rattle.lists.specs.Rows.{itemsOf}
 use Rattle.slots.specs.Lists.{incoming, inItems}
 use Rattle.slots.specs.declared.incoming.InList.{InList}
 use Rattle.parts.specs.declared.groups.Channel.{Channel}
 use Rattle.parts.specs.declared.groups.Incoming.{Incoming}
 use Rattle.parts.specs.Fresh.{noChannel}
-use Rattle.parts.specs.Damage.{below, held, heldFit, lengths, inSound}
+use Rattle.parts.specs.Damage.{held, heldFit, lengths}
 use Rattle.held.specs.Walks.{passes, inPasses, heldPass}
 use Rattle.held.proofs.WalkLaws.{middle}
 use Rattle.held.proofs.HeldLaws.{held-sum}
@@ -106,10 +106,12 @@ module _ (count : ℕ) (p : Peer) where
     pub dispatched-no : ok ≡ false → false ≡ inSide count p
     dispatched-no e = sym (side-is ∙ ap (λ (b : Bool). both b (rest (markedAll none (itemsOf row)) (lengths slots (itemsOf row)))) e)
 
-    pub rest-says : ok ≡ true → (t : ℕ) → Sums slots (itemsOf row) 0 ok t → rest after t ≡ inSide count p
-    rest-says e t s =
+    -- what the function that asks the rest answers
+    pub rest-says : ok ≡ true → (t : ℕ) → Sums slots (itemsOf row) 0 ok t → (r : Bool) → r ≡ rest after t → r ≡ inSide count p
+    rest-says e t s r q =
         let sum : t ≡ lengths slots (itemsOf row) = omega (arith, s .is e) in
-        sym (
+        q
+        ∙ sym (
         side-is
         ∙ ap (λ (b : Bool). both b (rest (markedAll none (itemsOf row)) (lengths slots (itemsOf row)))) e
         ∙ ap (λ (x : List ℕ). rest x (lengths slots (itemsOf row))) (sym (w .marks e))

@@ -1,7 +1,7 @@
 -- The three outgoing lists, one after the other, each not longer than its pool and walked over the marks of those before it, are the rule's outgoing half.
 -- The argument: the definition unrolled, its tests in the order in which they are asked; a walk that came to the end left its marks.
 use Prim.Native.Nat.{ℕ}
-use mathlib.Core.Path.{_≡_, refl, ap, sym, _∙_}
+use mathlib.Core.Path.{_≡_, ap, sym, _∙_}
 use mathlib.Core.Bool.{Bool, true, false}
 use mathlib.Core.List.{List, map}
 use lib.Dec.{leb}

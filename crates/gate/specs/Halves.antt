@@ -13,6 +13,7 @@ use Rattle.slots.specs.Lists.{outgoing, incoming, inItems}
 use Rattle.parts.specs.declared.groups.Lists.{Lists}
 use Rattle.parts.specs.declared.groups.Channel.{Channel}
 use Rattle.parts.specs.declared.groups.Incoming.{Incoming}
+use Rattle.parts.specs.Sizes.{storeLength}
 use Rattle.parts.specs.Damage.{below, heldFit, lengths, inSound}
 use Rattle.held.specs.Walks.{passes, inPasses}
 use Rattle.damage.specs.Walks.{outPass, worthOf, worthPasses}
@@ -33,7 +34,7 @@ outSide count p = both (outFits (p .lists)) (outPass (worthPasses (map (worthOf 
 -- the lengths that a walk sums on its way, where it got to its end
 pub record Sums (slots : List Incoming) (xs : List ℕ) (from : ℕ) (ok : Bool) (total : ℕ) : Type 0 where
   pub is : ok ≡ true → total ≡ from + lengths slots xs
-  pub low : ok ≡ true → total ≤ from + 49152
+  pub low : ok ≡ true → total ≤ from + storeLength
 
 -- the lists of the channels from k on, each from the marks of those before it
 unfoldable pub heldSound : List Incoming → ℕ → ℕ → List ℕ → List Channel → Bool

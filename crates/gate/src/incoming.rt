@@ -1,14 +1,14 @@
 // The incoming half of the damage test: the dispatched list, then those of the channels below the count, each walked over the marks of those before it, and the
 // lengths that they hold.
 ghost use mathlib.Core.Path.{_≡_};
-ghost use Prim.Native.Nat.{_+_, _≤_, _<_};
+ghost use Prim.Native.Nat.{_+_, _*_, _≤_, _<_};
 ghost use lib.Dec.{eqb};
 ghost use lib.ListN.{length, getD, take};
 ghost use Rattle.numbers.specs.Pick.{both};
 ghost use Rattle.lists.specs.Rows.{rowAt, itemsOf};
 ghost use Rattle.slots.specs.Lists.{incoming};
 ghost use Rattle.parts.specs.Fresh.{noIncoming};
-ghost use Rattle.parts.specs.Sizes.{channels};
+ghost use Rattle.parts.specs.Sizes.{channels, storeLength};
 ghost use Rattle.parts.specs.Damage.{held, lengths};
 ghost use Rattle.held.specs.Walks.{inPasses};
 ghost use Rattle.places.specs.Whole.{whole, recordLength};
@@ -16,6 +16,13 @@ ghost use Rattle.gate.specs.Halves.{Passes, Sums, heldSound, inSide};
 use crate::narrow;
 use parts::groups::CELL;
 use slots::INCOMING;
+
+// Where the record has its waiting total; the channel and the length among a slot's numbers.
+const TOTAL: usize = 192;
+
+const CHANNEL: usize = 1;
+
+const LENGTH: usize = 5;
 
 // Where a walk ended: whether every slot passed, and the lengths so far.
 struct Walk {
@@ -28,7 +35,7 @@ fn length_at(words: &[u32], s: usize) -> u32
     requires { ⌜ s < incoming ⌝ }
     ensures { λ r. ⌜ r ≡ getD (whole (now (words .entry)) .incoming) s noIncoming .length ⌝ }
 {
-    words[places::IN_POOL + s * pool::IN_WIDTH + 5]
+    words[places::IN_POOL + s * pool::IN_WIDTH + LENGTH]
 }
 
 fn channel_at(words: &[u32], s: usize) -> u32
@@ -36,7 +43,7 @@ fn channel_at(words: &[u32], s: usize) -> u32
     requires { ⌜ s < incoming ⌝ }
     ensures { λ r. ⌜ r ≡ getD (whole (now (words .entry)) .incoming) s noIncoming .channel ⌝ }
 {
-    words[places::IN_POOL + s * pool::IN_WIDTH + 1] % 256
+    words[places::IN_POOL + s * pool::IN_WIDTH + CHANNEL] % 256
 }
 
 // An incoming length above 4,096, a channel not below the count, or not that of the channel list it stands in.
@@ -58,7 +65,8 @@ fn slot_passes(words: &[u32], s: usize, count: u32, own: bool, k: u32) -> bool
     channel == k
 }
 
-// A list that is longer than its pool, or that names a slot that does not exist, is marked or does not pass; else each slot is marked, and its length added.
+// Not well is a list that is longer than its pool, or that names a slot that does not exist, is marked or does not pass; a slot that passes is marked, and its
+// length added.
 fn list_sound(
     words: &[u32],
     at: usize,
@@ -71,7 +79,7 @@ fn list_sound(
     requires { ⌜ length (now words) ≡ recordLength ⌝ }
     requires { ⌜ at + 13 ≤ recordLength ⌝ }
     requires { ⌜ length (now marks) ≡ incoming ⌝ }
-    requires { ⌜ from ≤ 442368 ⌝ }
+    requires { ⌜ from ≤ channels * storeLength ⌝ }
     ensures walks { λ r. ⌜ Passes (inPasses (whole (now (words .entry)) .incoming) count own k) incoming (now (marks .entry)) (rowAt at incoming (now (words .entry))) (r .ok) (now (marks .exit)) ⌝ }
     ensures sums { λ r. ⌜ Sums (whole (now (words .entry)) .incoming) (itemsOf (rowAt at incoming (now (words .entry)))) from (r .ok) (r .total) ⌝ }
 {
@@ -105,7 +113,7 @@ fn held_sound(words: &[u32], count: u32, marks: &mut [u8], from: u32) -> bool
     requires { ⌜ length (now words) ≡ recordLength ⌝ }
     requires { ⌜ count ≤ channels ⌝ }
     requires { ⌜ length (now marks) ≡ incoming ⌝ }
-    requires { ⌜ from ≤ 49152 ⌝ }
+    requires { ⌜ from ≤ storeLength ⌝ }
     ensures { λ r. ⌜ r ≡ both (heldSound (whole (now (words .entry)) .incoming) count 0 (now (marks .entry)) (take count (whole (now (words .entry)) .channels))) (eqb (whole (now (words .entry)) .waiting .total) (from + lengths (whole (now (words .entry)) .incoming) (held (take count (whole (now (words .entry)) .channels))))) ⌝ }
 {
     let mut total = from;
@@ -119,7 +127,7 @@ fn held_sound(words: &[u32], count: u32, marks: &mut [u8], from: u32) -> bool
         total = walk.total;
         k = k + 1;
     }
-    words[192] == total
+    words[TOTAL] == total
 }
 
 // "a list is longer than its pool, names a slot that does not exist, or a slot stands twice", each slot, and the waiting total.

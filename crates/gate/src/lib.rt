@@ -1,6 +1,6 @@
 // The gate of every call on the lent record: settings and store (11), then the record (13). Nothing is copied: a slot is asked where a list names it.
-pub mod incoming;
-pub mod outgoing;
+mod incoming;
+mod outgoing;
 
 ghost use mathlib.Core.Path.{_≡_};
 ghost use lib.ListN.{length};
@@ -17,8 +17,13 @@ use peer::gate::Gate;
 use peer::gate::Lent;
 use peer::settings::Settings;
 
+// Where the record has its channel count and its MTU.
+const COUNT: usize = 6;
+
+const MTU: usize = 39;
+
 // A length or a cell of a list as it is read.
-pub(crate) fn narrow(x: u32) -> usize
+fn narrow(x: u32) -> usize
     ensures { λ r. ⌜ r ≡ low x ⌝ }
 {
     (x % 65536) as usize
@@ -70,8 +75,8 @@ pub fn is_sound(words: &[u32]) -> bool
     requires { ⌜ length (now words) ≡ recordLength ⌝ }
     ensures { λ r. ⌜ r ≡ sound (whole (now (words .entry))) ⌝ }
 {
-    let count = words[6];
-    if !is_ranged(words[39], count) {
+    let count = words[COUNT];
+    if !is_ranged(words[MTU], count) {
         return false;
     }
     if !outgoing::is_sound(words, count) {

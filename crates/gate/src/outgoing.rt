@@ -20,7 +20,7 @@ fn is_enough(worth: u8, sent: bool) -> bool
     1 <= worth
 }
 
-// A list that is longer than its pool, or that names a slot that does not exist, is marked or is not good for it; else each slot is marked.
+// Not well is a list that is longer than its pool, or that names a slot that does not exist, is marked or is not good for it; a slot that is good is marked.
 fn list_sound(words: &[u32], at: usize, count: u32, sent: bool, marks: &mut [u8]) -> bool
     requires { ⌜ length (now words) ≡ recordLength ⌝ }
     requires { ⌜ at + 33 ≤ recordLength ⌝ }
@@ -41,10 +41,8 @@ fn list_sound(words: &[u32], at: usize, count: u32, sent: bool, marks: &mut [u8]
         if marks[s] == 1 {
             return false;
         }
-        if !is_enough(
-            pool::grade_at(&words[places::POOL..places::IN_POOL], s, count),
-            sent,
-        ) {
+        let worth = pool::grade_at(&words[places::POOL..places::IN_POOL], s, count);
+        if !is_enough(worth, sent) {
             return false;
         }
         marks[s] = 1;

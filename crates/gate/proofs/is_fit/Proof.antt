@@ -1,8 +1,6 @@
 -- `is_fit` asks for the settings, and for a store's length where one is lent.
-use mathlib.Core.Path.{sym, ap, _∙_}
 use borrow.Author.Needs.{needs}
 use borrow.Author.Tests.{not-true, not-false}
-use Rattle.peer.specs.Gate.{fits}
 use Rattle.gate.proofs.is_fit.Statement.{statement}
 use Rattle.gate.proofs.is_fit.Tie as tie
 

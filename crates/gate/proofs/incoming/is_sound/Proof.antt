@@ -1,5 +1,4 @@
 -- The dispatched list says no, or the channels' lists say what is left of the rule.
-use mathlib.Core.Path.{_∙_}
 use native.Mathlib.Omega.{arith}
 use borrow.Author.Tests.{not-true, not-false}
 use Rattle.lists.specs.Rows.{rowAt}
@@ -39,7 +38,7 @@ returns-2 c =
     let a = b .args in
     let ws = a .words .now in
     let w = c .before .before .before .before .before .before .list-sound in
-    c .before .held-sound .ensures ∙ rest-says (a .count) (whole ws) (rowAt 142 12 ws) (dispatched-is ws) (w .result .ok) (w .last .1 .1 .1 .1 .1 .0) (w .ensures .0) (not-false (w .result .ok) (c .before .before .before .if1 .left)) (w .result .total) (w .ensures .1)
+    rest-says (a .count) (whole ws) (rowAt 142 12 ws) (dispatched-is ws) (w .result .ok) (w .last .1 .1 .1 .1 .1 .0) (w .ensures .0) (not-false (w .result .ok) (c .before .before .before .if1 .left)) (w .result .total) (w .ensures .1) (c .before .held-sound .result) (c .before .held-sound .ensures)
 
 pub is-sound-spec : {M : Type 1} → statement M
 is-sound-spec =

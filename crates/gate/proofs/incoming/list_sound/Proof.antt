@@ -1,6 +1,6 @@
 -- A turn of the walk at a time, as of an outgoing list, with the lengths summed on the way.
 use Prim.Native.Nat.{_+_, _*_, _-_, _≤_}
-use mathlib.Core.Path.{_≡_, refl, sym, _∙_}
+use mathlib.Core.Path.{_≡_, refl}
 use mathlib.Core.Bool.{true, false}
 use native.Mathlib.Omega.{arith}
 use lib.ListN.{length, getD, drop, length-set}
@@ -13,6 +13,7 @@ use Rattle.held.specs.Walks.{inPasses}
 use Rattle.held.proofs.SumLaws.{pass-short}
 use Rattle.places.specs.Whole.{whole}
 use Rattle.gate.proofs.Turns.{Listed, Left, left-all, long, end, past, twice, unfit, turn, summed, summed-end}
+use Rattle.gate.proofs.Stops.{says}
 use Rattle.gate.proofs.Sums.{sums-stop}
 use Rattle.gate.proofs.incoming.list_sound.Statement.{statement}
 use Rattle.gate.proofs.incoming.list_sound.Tie as tie
@@ -117,7 +118,7 @@ returns-4 c =
     let i : Listed ws (a .at) 12 (v .result) = record { room = omega (arith, b .pre .0, b .pre .1 .0); is = v .ensures } in
     let m = c .before .before .before .before .before .before .before .before .loop in
     let s = c .before .before .before .before .before .narrow2 in
-    let bad : f (s .result) ≡ false = sym (c .before .slot-passes .ensures) ∙ not-true (c .before .slot-passes .result) (c .if4 .taken) in
+    let bad : f (s .result) ≡ false = says (c .before .slot-passes .result) (f (s .result)) false (c .before .slot-passes .ensures) (not-true _ (c .if4 .taken)) in
     (unfit f ws (a .at) 12 (v .result) i (omega arith) (a .marks .now) (m .marks) (m .j) (m .inv .2) (omega arith) (s .result) (s .ensures) (omega arith) (c .before .before .if3 .left) bad, sums-stop slots (itemsOf (rowAt (a .at) 12 ws)) (a .from) (m .total))
 
 length-at-requires : tie.Need-length-at-requires Inv-loop μ-loop
@@ -134,7 +135,7 @@ add-total c =
     let i : Listed ws (a .at) 12 (v .result) = record { room = omega (arith, b .pre .0, b .pre .1 .0); is = v .ensures } in
     let m = c .before .before .before .before .before .before .before .before .before .loop in
     let s = c .before .before .before .before .before .before .narrow2 in
-    let good : f (s .result) ≡ true = sym (c .before .before .slot-passes .ensures) ∙ not-false (c .before .before .slot-passes .result) (c .before .if4 .left) in
+    let good : f (s .result) ≡ true = says (c .before .before .slot-passes .result) (f (s .result)) true (c .before .before .slot-passes .ensures) (not-false _ (c .before .if4 .left)) in
     let short = pass-short (a .count) (a .own) (a .k) (getD slots (s .result) noIncoming) good in
     omega (arith, c .length-at .ensures)
 
@@ -158,7 +159,7 @@ loop-again c =
     let i : Listed ws (a .at) 12 (v .result) = record { room = omega (arith, b .pre .0, b .pre .1 .0); is = v .ensures } in
     let m = c .before .before .before .before .before .before .before .before .before .loop in
     let s = c .before .before .before .before .before .before .narrow2 in
-    let good : f (s .result) ≡ true = sym (c .before .before .slot-passes .ensures) ∙ not-false (c .before .before .slot-passes .result) (c .before .if4 .left) in
+    let good : f (s .result) ≡ true = says (c .before .before .slot-passes .result) (f (s .result)) true (c .before .before .slot-passes .ensures) (not-false _ (c .before .if4 .left)) in
     let short = pass-short (a .count) (a .own) (a .k) (getD slots (s .result) noIncoming) good in
     let sum = summed f ws (a .at) 12 (v .result) i (omega arith) (a .marks .now) (m .marks) (m .j) (m .inv .2) (omega arith) (s .result) (s .ensures) slots in
     let length-is = c .length-at .ensures in (

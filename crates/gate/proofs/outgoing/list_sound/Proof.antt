@@ -11,7 +11,7 @@ use Rattle.lists.specs.Rows.{rowAt, itemsOf}
 use Rattle.damage.specs.Walks.{worthOf, worthPasses, enough}
 use Rattle.parts.specs.declared.groups.Outgoing.{Outgoing}
 use Rattle.places.specs.Whole.{whole}
-use Rattle.gate.proofs.Turns.{Listed, Left, left-all, long, end, past, twice, unfit, turn}
+use Rattle.gate.proofs.Turns.{Listed, Left, long, end, past, twice, unfit, turn}
 use Rattle.places.proofs.PoolLaws.{pool-is}
 use Rattle.gate.proofs.outgoing.list_sound.Statement.{statement}
 use Rattle.gate.proofs.outgoing.list_sound.Tie as tie
