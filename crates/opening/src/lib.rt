@@ -20,6 +20,8 @@ use peer::gate::Lent;
 use peer::record::Peer;
 use peer::settings::Settings;
 
+pub mod lent;
+
 // Needs no sound record.
 pub fn reset(peer: Peer, settings: Settings) -> Called
     ensures { λ r. ⌜ Came answerOf (resets settings peer) (r .reply) (r .peer) ⌝ }
