@@ -1,5 +1,4 @@
 -- `reset` asks for the settings alone; the numbers are cleared, then the reset record of what was kept is made of them.
-use Prim.Native.Nat.{ℕ}
 use mathlib.Core.Path.{_≡_, sym, ap, _∙_}
 use lib.ListN.{length}
 use borrow.Author.Tests.{not-true, not-false}

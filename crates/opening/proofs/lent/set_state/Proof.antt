@@ -1,5 +1,5 @@
 -- `set_state` passes the gate, then asks whether there is such a state, and changes it alone.
-use mathlib.Core.Path.{_≡_, refl, sym, ap, _∙_}
+use mathlib.Core.Path.{refl, ap, _∙_}
 use Rattle.peer.specs.Calls.{answerOf}
 use Rattle.peer.specs.declared.gate.Lent.the-variants.{Nothing}
 use Rattle.places.specs.Whole.{whole}
