@@ -11,12 +11,10 @@ use Rattle.build.specs.Decoded.{decoded}
 use Rattle.parts.specs.Fresh.{noLists, noChannel, noOutgoing, noIncoming}
 use Rattle.parts.specs.Updates.{withCount, withMtu}
 use Rattle.parts.specs.declared.groups.Limits.{Limits}
-use Rattle.parts.specs.declared.groups.Throttling.{Throttling}
-use Rattle.parts.specs.declared.groups.Trips.{Trips}
 use Rattle.pool.specs.Rows.{rowsFrom}
 use Rattle.pool.specs.Slots.{slotFrom, inSlotFrom}
 use Rattle.pool.proofs.Copies.{paste-over}
-use Rattle.peer.specs.Fresh.{freshIds, freshFlow, freshPeer}
+use Rattle.peer.specs.Fresh.{freshIds, freshPeer}
 use Rattle.peer.specs.Updates.{withStanding, withThrottling, withFlow, withGroups, withWaiting, withChannels}
 use Rattle.peer.specs.declared.record.Peer.{Peer}
 use Rattle.peer.specs.declared.defaults.Kept.{Kept}
@@ -74,38 +72,33 @@ module _ (ws : List ℕ) (l : length ws ≡ 1234) where
   put-reserved x r e h = numbers-put ws 5 4 1 156 (r ∷ []) l (omega arith) refl refl (omega arith) (omega arith) ∙ rw (low 65536 r x e h)
 
 -- ---- one after the other
-abbrev throttling : Throttling
-throttling = record { value = 32; limit = 32; counter = 0; epoch = 0; acceleration = 2; deceleration = 2; interval = 5000 }
+module _ (mtu : ℕ) (k : Kept) where
+  abbrev fresh : Peer
+  fresh = freshPeer mtu k
 
-abbrev limits : Limits
-limits = record { ping = 500; timeout = 32; minimum = 5000; maximum = 30000 }
+  -- what a reset writes, put into a record
+  abbrev refreshed : Peer → Peer
+  refreshed p =
+      let q = withFlow (withTrips (withLimits (withThrottling (withIds p (freshIds k)) (fresh .throttling)) (fresh .limits)) (fresh .trips)) (fresh .flow) in
+      withWaiting (withGroups q (withReserved (q .groups) (k .reserved))) (fresh .waiting)
 
-abbrev trips : Trips
-trips = record { last = 500; lowest = 500; «last_variance» = 0; «highest_variance» = 0; now = 500; variance = 0 }
+  of-zeros : refreshed (whole (replicate 1234 0)) ≡ fresh
+  unfolding made parts numbers sizes rowsFrom slotFrom inSlotFrom channelFrom decoded noLists noChannel noOutgoing noIncoming freshPeer
+  of-zeros = refl
 
--- the parts of the reset record, put into another
-abbrev refreshed : ℕ → Kept → Peer → Peer
-refreshed mtu k p =
-    let q = withFlow (withTrips (withLimits (withThrottling (withIds p (freshIds k)) throttling) limits) trips) (freshFlow mtu) in
-    withWaiting (withGroups q (withReserved (q .groups) (k .reserved))) (record { event = 0; total = 0; queued = k .queued })
-
-zeros-fresh : (mtu : ℕ) (k : Kept) → refreshed mtu k (whole (replicate 1234 0)) ≡ freshPeer mtu k
-unfolding made parts numbers sizes rowsFrom slotFrom inSlotFrom channelFrom decoded noLists noChannel noOutgoing noIncoming freshPeer
-zeros-fresh mtu k = refl
-
-pub refreshes : (mtu : ℕ) (k : Kept) (ws : List ℕ) (t u v w x y z : Peer) → ws ≡ replicate 1234 0 → t ≡ withIds (whole ws) (freshIds k) → u ≡ withThrottling t throttling → v ≡ withLimits u limits
-    → w ≡ withTrips v trips → x ≡ withFlow w (freshFlow mtu) → y ≡ withGroups x (withReserved (x .groups) (k .reserved)) → z ≡ withWaiting y (record { event = 0; total = 0; queued = k .queued })
-    → z ≡ freshPeer mtu k
-refreshes mtu k ws t u v w x y z o a b c d e f g =
-    g
-    ∙ ap (λ (p : Peer). withWaiting p (record { event = 0; total = 0; queued = k .queued }))
-    (f
-    ∙ ap (λ (p : Peer). withGroups p (withReserved (p .groups) (k .reserved)))
-    (e
-    ∙ ap (λ (p : Peer). withFlow p (freshFlow mtu))
-    (d ∙ ap (λ (p : Peer). withTrips p trips) (c ∙ ap (λ (p : Peer). withLimits p limits) (b ∙ ap (λ (p : Peer). withThrottling p throttling) a)))))
-    ∙ ap (λ (l : List ℕ). refreshed mtu k (whole l)) o
-    ∙ zeros-fresh mtu k
+  pub refreshes : (ws : List ℕ) (t u v w x y z : Peer) → ws ≡ replicate 1234 0 → t ≡ withIds (whole ws) (freshIds k) → u ≡ withThrottling t (fresh .throttling)
+      → v ≡ withLimits u (fresh .limits) → w ≡ withTrips v (fresh .trips) → x ≡ withFlow w (fresh .flow) → y ≡ withGroups x (withReserved (x .groups) (k .reserved))
+      → z ≡ withWaiting y (fresh .waiting) → z ≡ fresh
+  refreshes ws t u v w x y z o a b c d e f g =
+      g
+      ∙ ap (λ (p : Peer). withWaiting p (fresh .waiting))
+      (f
+      ∙ ap (λ (p : Peer). withGroups p (withReserved (p .groups) (k .reserved)))
+      (e
+      ∙ ap (λ (p : Peer). withFlow p (fresh .flow))
+      (d ∙ ap (λ (p : Peer). withTrips p (fresh .trips)) (c ∙ ap (λ (p : Peer). withLimits p (fresh .limits)) (b ∙ ap (λ (p : Peer). withThrottling p (fresh .throttling)) a)))))
+      ∙ ap (λ (l : List ℕ). refreshed (whole l)) o
+      ∙ of-zeros
 
 pub begins-by : (mtu count : ℕ) (p v w z : Peer) → v ≡ withStanding p (withCount (p .standing) count) → w ≡ withFlow v (withMtu (v .flow) mtu) → z ≡ withChannels w (replicate 8 noChannel)
     → z ≡ begun mtu count p

@@ -1,7 +1,7 @@
 -- The numbers from their places, the narrow ones cut.
 use mathlib.Core.Path.{sym}
-use Rattle.opening.proofs.Places.{kept-is}
 use borrow.Author.Needs.{needs}
+use Rattle.opening.proofs.Places.{kept-is}
 use Rattle.opening.proofs.lent.kept_of.Statement.{statement}
 use Rattle.opening.proofs.lent.kept_of.Tie as tie
 
@@ -34,8 +34,12 @@ shared-slice-read-t7 c = search needs
 
 returns : tie.Need-returns
 returns c =
-    sym (kept-is (c .before .before .before .before .before .before .before .before .before .before .args .words .now) (c .before .before .before .before .before .before .before .low16 .result) (c .before .before .before .before .before .low8 .result) (c .before .before .before .low82 .result) (c .before .low162 .result)
-    (c .before .before .before .before .before .before .before .low16 .ensures) (c .before .before .before .before .before .low8 .ensures) (c .before .before .before .low82 .ensures) (c .before .low162 .ensures))
+    let d = c .before in
+    let b = d .before .before in
+    let o = b .before .before in
+    let a = o .before .before in
+    sym (kept-is (a .before .before .before .args .words .now) (a .low16 .result) (o .low8 .result) (b .low82 .result) (d .low162 .result)
+    (a .low16 .ensures) (o .low8 .ensures) (b .low82 .ensures) (d .low162 .ensures))
 
 pub kept-of-spec : {M : Type 1} → statement M
 kept-of-spec =

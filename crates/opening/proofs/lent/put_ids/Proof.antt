@@ -1,6 +1,6 @@
 -- The numbers of the group, to their places: `numbers-put`.
-use Rattle.opening.proofs.Places.{put-ids}
 use borrow.Author.Needs.{needs}
+use Rattle.opening.proofs.Places.{put-ids}
 use Rattle.opening.proofs.lent.put_ids.Statement.{statement}
 use Rattle.opening.proofs.lent.put_ids.Tie as tie
 

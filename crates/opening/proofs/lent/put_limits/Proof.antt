@@ -1,6 +1,6 @@
 -- The numbers of the group, to their places: `numbers-put`.
-use Rattle.opening.proofs.Places.{put-limits}
 use borrow.Author.Needs.{needs}
+use Rattle.opening.proofs.Places.{put-limits}
 use Rattle.opening.proofs.lent.put_limits.Statement.{statement}
 use Rattle.opening.proofs.lent.put_limits.Tie as tie
 

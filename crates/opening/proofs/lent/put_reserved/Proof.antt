@@ -1,6 +1,6 @@
 -- The number, to its place: `numbers-put`.
-use Rattle.opening.proofs.Places.{put-reserved}
 use borrow.Author.Needs.{needs}
+use Rattle.opening.proofs.Places.{put-reserved}
 use Rattle.opening.proofs.lent.put_reserved.Statement.{statement}
 use Rattle.opening.proofs.lent.put_reserved.Tie as tie
 

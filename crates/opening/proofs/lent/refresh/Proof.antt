@@ -1,7 +1,8 @@
 -- The groups one after the other, over zeros, are the reset record.
+use borrow.Author.Needs.{needs}
+use Rattle.peer.specs.Fresh.{freshPeer}
 use Rattle.places.specs.Whole.{whole}
 use Rattle.opening.proofs.Places.{refreshes}
-use borrow.Author.Needs.{needs}
 use Rattle.opening.proofs.lent.refresh.Statement.{statement}
 use Rattle.opening.proofs.lent.refresh.Tie as tie
 
@@ -30,6 +31,7 @@ same-length : tie.Need-same-length
 same-length c = search needs
 
 returns : tie.Need-returns
+unfolding freshPeer
 returns c =
     let z = c .before .before in
     let y = z .before .before .before .before in

@@ -2,9 +2,9 @@
 use mathlib.Core.Path.{_≡_, sym, ap, _∙_}
 use lib.ListN.{length}
 use borrow.Author.Tests.{not-true, not-false}
+use borrow.Author.Needs.{needs}
 use Rattle.peer.specs.Fresh.{freshPeer}
 use Rattle.opening.proofs.Places.{cleared}
-use borrow.Author.Needs.{needs}
 use Rattle.opening.proofs.lent.reset.Statement.{statement}
 use Rattle.opening.proofs.lent.reset.Tie as tie
 

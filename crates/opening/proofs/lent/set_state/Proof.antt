@@ -1,15 +1,15 @@
 -- `set_state` passes the gate, then asks whether there is such a state, and changes it alone.
 use mathlib.Core.Path.{refl, ap, _∙_}
+use borrow.Author.Tests.{le-leb, lt-leb}
+use borrow.Author.Needs.{needs}
 use Rattle.peer.specs.Calls.{answerOf}
 use Rattle.peer.specs.declared.gate.Lent.the-variants.{Nothing}
 use Rattle.places.specs.Whole.{whole}
 use Rattle.gate.proofs.Asked.{Asked, asked-shut, asked-open}
-use borrow.Author.Tests.{le-leb, lt-leb}
 use Rattle.parts.specs.Updates.{withState}
 use Rattle.parts.specs.declared.groups.Standing.{Standing}
 use Rattle.peer.specs.Updates.{withStanding}
 use Rattle.opening.specs.Calls.{setsStateSound}
-use borrow.Author.Needs.{needs}
 use Rattle.opening.proofs.lent.set_state.Statement.{statement}
 use Rattle.opening.proofs.lent.set_state.Tie as tie
 
@@ -48,13 +48,15 @@ put-standing-requires c κs = search needs
 
 returns-3 : tie.Need-returns-3
 returns-3 c =
-    let a = c .before .before .before .before .before .before .before .before .before .before .before .args in
+    let s = c .before .before in
+    let t = s .before .before .before in
+    let g = t .before .before .before in
+    let a = g .before .before .before .args in
     let p = whole (a .words .now) in
-    let g = c .before .before .before .before .before .before .before .before .ask in
-    let asked : Asked = record { settings = a .settings; lent = Nothing; peer = p; gate = g .result; is = g .ensures } in
-    let high = le-leb _ _ (c .before .before .before .before .before .if1 .left) in
-    let done = c .put-standing .ensures ∙ ap (λ (s : Standing). withStanding p (withState s (a .state))) (c .before .before .standing .ensures) in
-    asked-open asked p (setsStateSound (a .state) p) answerOf _ _ (c .before .before .before .before .before .before .enum-told .given .1) (record { answer = rw high; after = rw high done })
+    let asked : Asked = record { settings = a .settings; lent = Nothing; peer = p; gate = g .ask .result; is = g .ask .ensures } in
+    let high = le-leb _ _ (t .if1 .left) in
+    let done = c .put-standing .ensures ∙ ap (λ (s : Standing). withStanding p (withState s (a .state))) (s .standing .ensures) in
+    asked-open asked p (setsStateSound (a .state) p) answerOf _ _ (t .before .enum-told .given .1) (record { answer = rw high; after = rw high done })
 
 pub set-state-spec : {M : Type 1} → statement M
 set-state-spec =
