@@ -14,11 +14,13 @@ use peer::calls::Called;
 use peer::calls::Reply;
 use peer::defaults::Kept;
 use peer::defaults::NO_CHANNEL;
-use peer::gate::pass;
 use peer::gate::Gate;
 use peer::gate::Lent;
+use peer::gate::pass;
 use peer::record::Peer;
 use peer::settings::Settings;
+
+pub mod lent;
 
 // Needs no sound record.
 pub fn reset(peer: Peer, settings: Settings) -> Called

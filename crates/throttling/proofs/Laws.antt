@@ -14,8 +14,15 @@ use Rattle.throttle.specs.declared.Throttle.{Throttle}
 use Rattle.throttle.specs.declared.Turn.{Turn}
 use Rattle.throttle.specs.declared.Turn.the-variants as turn
 use Rattle.throttle.proofs.Settled.{turns-apart}
+use Rattle.averages.specs.Interval.{throttleOf, throttled}
+use Rattle.parts.specs.declared.groups.Throttling.{Throttling}
+use Rattle.parts.specs.declared.groups.Trips.{Trips}
+use Rattle.peer.specs.Outcome.{Came}
+use Rattle.peer.specs.Updates.{withThrottling}
+use Rattle.peer.specs.declared.record.Peer.{Peer}
 use Rattle.throttling.specs.Calls as calls
-use Rattle.throttling.specs.Calls.{replyOf}
+use Rattle.throttling.specs.Calls.{replyOf, throttlesSound}
+use Rattle.throttling.specs.declared.Reply.{Reply}
 use Rattle.throttling.specs.declared.Reply.the-variants as vr
 
 module _ (t : Throttle) (sample : ℕ) where
@@ -44,3 +51,14 @@ module _ (t : Throttle) (sample : ℕ) where
   answers-as-throttle =
       tests-of calls.answerOf vr.Held vr.Raised vr.Lowered vr.Held
       ∙ sym (tests-of (λ (z : ℤ). says (z ∷ [])) (pos 0) (pos 1) (negsuc 0) (pos 0))
+
+-- what the call on the lent record comes to behind its gate, of the groups that it read and wrote
+pub throttles-by : (sample : ℕ) (p : Peer) (th : Throttling) (t : Trips) → th ≡ p .throttling → t ≡ p .trips → (new : Throttling) → new ≡ throttled sample th t
+    → (u : Turn) → answerOf u ≡ answerAfter (throttleOf th t) sample → (r : Reply) → r ≡ replyOf u → (z : Peer) → z ≡ withThrottling p new → Came calls.answerOf (throttlesSound sample p) r z
+throttles-by sample p th t a b new n u e r f z w =
+    let here : new ≡ throttled sample (p .throttling) (p .trips) = rw (a, b) at n in
+    let told : answerOf u ≡ answerAfter (throttleOf (p .throttling) (p .trips)) sample = rw (a, b) at e in
+    record {
+      answer = ap calls.answerOf (f ∙ reply-of-turn (throttleOf (p .throttling) (p .trips)) sample u told);
+      after = w ∙ ap (withThrottling p) here;
+    }

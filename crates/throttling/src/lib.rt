@@ -3,12 +3,14 @@ ghost use mathlib.Core.Path.{_≡_};
 ghost use Rattle.peer.specs.Outcome.{Came};
 ghost use Rattle.throttling.specs.Calls.{answerOf, replyOf, throttles};
 use numbers::refusals::Refusal;
-use peer::gate::pass;
 use peer::gate::Gate;
 use peer::gate::Lent;
+use peer::gate::pass;
 use peer::record::Peer;
 use peer::settings::Settings;
 use throttle::Turn;
+
+pub mod lent;
 
 pub enum Reply {
     Held,
