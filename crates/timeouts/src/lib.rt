@@ -12,6 +12,8 @@ use peer::record::Peer;
 use peer::settings::Settings;
 use slots::OUTGOING;
 
+pub mod lent;
+
 pub enum Reply {
     Done,
     Disconnect,
