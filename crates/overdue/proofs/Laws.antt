@@ -70,26 +70,26 @@ module _ (mark : ℕ) where
       go true h = omega arith
       go false h = omega arith
 
--- after k places of the cells: what bears the mark is stored from the first cell on
-pub record Borne (mark : ℕ) (marks cells : List ℕ) (k : ℕ) (slots : List ℕ) (m : ℕ) : Type 0 where
+-- after k places of the cells: what bears the mark is stored into a base from its first cell on
+pub record Borne (mark : ℕ) (marks cells base : List ℕ) (k : ℕ) (slots : List ℕ) (m : ℕ) : Type 0 where
   pub count : m ≡ length (bearing mark marks (take k cells))
-  pub stored : slots ≡ sets cells 0 (bearing mark marks (take k cells))
+  pub stored : slots ≡ sets base 0 (bearing mark marks (take k cells))
 
-module _ (mark : ℕ) (marks cells : List ℕ) where
-  pub borne-none : Borne mark marks cells 0 cells 0
+module _ (mark : ℕ) (marks cells base : List ℕ) where
+  pub borne-none : Borne mark marks cells base 0 base 0
   unfolding bearing
   borne-none = record { count = refl; stored = refl }
 
-  module _ {k m : ℕ} {slots : List ℕ} (b : Borne mark marks cells k slots m) where
+  module _ {k m : ℕ} {slots : List ℕ} (b : Borne mark marks cells base k slots m) where
     pub borne-low : m ≤ k
     borne-low = omega (arith, b .count, bearing-length mark marks (take k cells), length-take k cells)
 
-    pub borne-made : k ≤ length cells → Makes cells (bearing mark marks (take k cells)) m slots
+    pub borne-made : k ≤ length base → Makes base (bearing mark marks (take k cells)) m slots
     borne-made h =
         record {
           count = b .count;
           fits = omega (arith, borne-low);
-          cells = b .stored ∙ sets-over cells (bearing mark marks (take k cells)) 0 (omega (arith, b .count, borne-low));
+          cells = b .stored ∙ sets-over base (bearing mark marks (take k cells)) 0 (omega (arith, b .count, borne-low));
         }
 
     module _ (h : k < length cells) where
@@ -98,18 +98,18 @@ module _ (mark : ℕ) (marks cells : List ℕ) where
           let e : length (take k cells) ≡ k = length-take-le k cells (omega arith) in
           rw (add-one k, take-suc cells k 0 h) (rw e at (bearing-snoc mark (take k cells) marks (getD cells k 0)))
 
-      pub borne-with : getD marks k 0 ≡ mark → Borne mark marks cells (k + 1) (set slots m (getD cells k 0)) (m + 1)
+      pub borne-with : getD marks k 0 ≡ mark → Borne mark marks cells base (k + 1) (set slots m (getD cells k 0)) (m + 1)
       borne-with e =
           let t : bearing mark marks (take (k + 1) cells) ≡ bearing mark marks (take k cells) ++ (getD cells k 0 ∷ []) = rw (eq-eqb _ _ e) at one-more in
           record {
             count = rw (t, b .count) (simp length-append (omega arith));
-            stored = rw (t, b .stored, b .count) (sym (rw zero-add at (sets-snoc (bearing mark marks (take k cells)) cells 0 (getD cells k 0))));
+            stored = rw (t, b .stored, b .count) (sym (rw zero-add at (sets-snoc (bearing mark marks (take k cells)) base 0 (getD cells k 0))));
           }
 
-      pub borne-without : (getD marks k 0 ≡ mark → ⊥) → Borne mark marks cells (k + 1) slots m
+      pub borne-without : (getD marks k 0 ≡ mark → ⊥) → Borne mark marks cells base (k + 1) slots m
       borne-without e =
           let t : bearing mark marks (take (k + 1) cells) ≡ bearing mark marks (take k cells) = rw (ne-eqb _ _ e) at one-more in
-          record { count = b .count ∙ ap length (sym t); stored = b .stored ∙ ap (sets cells 0) (sym t) }
+          record { count = b .count ∙ ap length (sym t); stored = b .stored ∙ ap (sets base 0) (sym t) }
 
 -- a run that was kept in a list, before all of another
 pub ahead-made : (l sent : OutList) (xs : List ℕ) {run made : OutList} → run ≡ outKeep sent xs

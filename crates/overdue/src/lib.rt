@@ -1,4 +1,5 @@
 // What the timeout check makes of the sent commands, on the groups that it changes.
-pub mod lists;
+pub mod back;
+pub mod lent;
 pub mod step;
 pub mod turn;

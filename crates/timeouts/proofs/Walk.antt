@@ -45,14 +45,48 @@ onward ms w = record { walk = w .walk; marks = ms ++ w .marks; slots = w .slots 
 onward-marked : (ms : List ℕ) (m : ℕ) (w : Walked) → onward ms (markedBy m w) ≡ onward (ms ++ (m ∷ [])) w
 onward-marked ms m w = ap (λ (l : List ℕ). record { walk = w .walk; marks = l; slots = w .slots }) (sym (append-assoc ms (m ∷ []) (w .marks)))
 
+-- after j of the items: what the walk makes of all of them is what it makes of those left
+pub record Going (limits : Limits) (clock : ℕ) (items : List ℕ) (w₀ : Walk) (p₀ p : Peer) (w : Walk) (marks : List ℕ) (j : ℕ) : Type 0 where
+  pub sized : length marks ≡ outgoing
+  pub same : p ≡ withOutgoing p₀ (p .outgoing)
+  pub goes : walked limits clock items w₀ (p₀ .outgoing) ≡ onward (take j marks) (walked limits clock (drop j items) w (p .outgoing))
+
+module _ {limits : Limits} {clock : ℕ} {items : List ℕ} {w₀ : Walk} {p₀ p : Peer} {w : Walk} {marks : List ℕ} {j : ℕ}
+    (g : Going limits clock items w₀ p₀ p w marks j) where
+  -- s is the next of them
+  pub going-turn : (s : ℕ) → drop j items ≡ s ∷ drop (j + 1) items → j < outgoing → (t : Turned) → t ≡ turnBy limits clock w (getD (p .outgoing) s noOutgoing)
+      → Going limits clock items w₀ p₀ (withOutgoing p (set (p .outgoing) s (t .slot))) (t .walk) (set marks j (t .mark)) (j + 1)
+  unfolding walked
+  going-turn s split high t te =
+      let rest = drop (j + 1) items in
+      let after = set (p .outgoing) s (t .slot) in
+      let long : j < length marks = omega (arith, g .sized) in
+      let laid : take (j + 1) (set marks j (t .mark)) ≡ take j marks ++ (t .mark ∷ []) = rw add-one (take-suc-set marks j (t .mark) long) in
+      record {
+        sized = length-set marks j (t .mark) ∙ g .sized;
+        same = ap (λ (q : Peer). withOutgoing q after) (g .same);
+        goes =
+            g .goes
+            ∙ ap (λ (xs : List ℕ). onward (take j marks) (walked limits clock xs w (p .outgoing))) split
+            ∙ ap (λ (t : Turned). onward (take j marks) (markedBy (t .mark) (walked limits clock rest (t .walk) (set (p .outgoing) s (t .slot))))) (sym te)
+            ∙ onward-marked (take j marks) (t .mark) (walked limits clock rest (t .walk) after)
+            ∙ ap (λ (ms : List ℕ). onward ms (walked limits clock rest (t .walk) after)) (sym laid);
+      }
+
+  pub going-end : drop j items ≡ [] → walked limits clock items w₀ (p₀ .outgoing) ≡ record { walk = w; marks = take j marks; slots = p .outgoing }
+  unfolding walked
+  going-end h =
+      g .goes
+      ∙ ap (λ (xs : List ℕ). onward (take j marks) (walked limits clock xs w (p .outgoing))) h
+      ∙ ap (λ (ms : List ℕ). record { walk = w; marks = ms; slots = p .outgoing }) (append-nil (take j marks))
+
+-- the same of the first n cells, each of which exists
 pub record Walking (limits : Limits) (clock : ℕ) (cells : List ℕ) (n : ℕ) (w₀ : Walk) (p₀ p : Peer) (w : Walk) (marks : List ℕ) (j : ℕ) : Type 0 where
   pub low : j ≤ n
   pub high : n ≤ outgoing
   pub fits : n ≤ length cells
-  pub sized : length marks ≡ outgoing
   pub exists : exist outgoing (drop j (take n cells)) ≡ true
-  pub same : p ≡ withOutgoing p₀ (p .outgoing)
-  pub goes : walked limits clock (take n cells) w₀ (p₀ .outgoing) ≡ onward (take j marks) (walked limits clock (drop j (take n cells)) w (p .outgoing))
+  pub going : Going limits clock (take n cells) w₀ p₀ p w marks j
 
 module _ {limits : Limits} {clock : ℕ} {cells : List ℕ} {n : ℕ} {w₀ : Walk} {p₀ p : Peer} {w : Walk} {marks : List ℕ} {j : ℕ}
     (g : Walking limits clock cells n w₀ p₀ p w marks j) where
@@ -75,33 +109,20 @@ module _ {limits : Limits} {clock : ℕ} {cells : List ℕ} {n : ℕ} {w₀ : Wa
 
     pub walking-turn : (t : Turned) → t ≡ turnBy limits clock w (getD (p .outgoing) at noOutgoing)
         → Walking limits clock cells n w₀ p₀ (withOutgoing p (set (p .outgoing) at (t .slot))) (t .walk) (set marks j (t .mark)) (j + 1)
-    unfolding exist walked
+    unfolding exist
     walking-turn t te =
-        let after = set (p .outgoing) at (t .slot) in
-        let long : j < length marks = omega (arith, g .sized, g .high) in
-        let laid : take (j + 1) (set marks j (t .mark)) ≡ take j marks ++ (t .mark ∷ []) = rw add-one (take-suc-set marks j (t .mark) long) in
         record {
           low = omega arith;
           high = g .high;
           fits = g .fits;
-          sized = length-set marks j (t .mark) ∙ g .sized;
           exists = both-right (ltb at outgoing) (exist outgoing rest) all-exist;
-          same = ap (λ (q : Peer). withOutgoing q after) (g .same);
-          goes =
-              g .goes
-              ∙ ap (λ (xs : List ℕ). onward (take j marks) (walked limits clock xs w (p .outgoing))) split
-              ∙ ap (λ (t : Turned). onward (take j marks) (markedBy (t .mark) (walked limits clock rest (t .walk) (set (p .outgoing) at (t .slot))))) (sym te)
-              ∙ onward-marked (take j marks) (t .mark) (walked limits clock rest (t .walk) after)
-              ∙ ap (λ (ms : List ℕ). onward ms (walked limits clock rest (t .walk) after)) (sym laid);
+          going = going-turn (g .going) at split (omega (arith, g .high)) t te;
         }
 
   walking-end : n ≤ j → walked limits clock (take n cells) w₀ (p₀ .outgoing) ≡ record { walk = w; marks = take n marks; slots = p .outgoing }
-  unfolding walked
   walking-end h =
       let e : j ≡ n = omega (arith, g .low) in
-      g .goes
-      ∙ ap (λ (xs : List ℕ). onward (take j marks) (walked limits clock xs w (p .outgoing))) (part-end cells j n h)
-      ∙ ap (λ (ms : List ℕ). record { walk = w; marks = ms; slots = p .outgoing }) (append-nil (take j marks) ∙ ap (λ (k : ℕ). take k marks) e)
+      going-end (g .going) (part-end cells j n h) ∙ ap (λ (k : ℕ). record { walk = w; marks = take k marks; slots = p .outgoing }) e
 
 -- the record with what the code stores at the end
 abbrev stored : Peer → Walk → Lists → List Outgoing → Peer
@@ -126,10 +147,8 @@ module _ (s : Settings) (clock : ℕ) (p : Peer) (ws : List ℕ) (v : ws ≡ wor
         low = omega arith;
         high = counted .low;
         fits = omega (arith, counted .is, out-fits (p .lists .sent));
-        sized = h;
         exists = rw (counted .same) exists;
-        same = refl;
-        goes = refl;
+        going = record { sized = h; same = refl; goes = refl };
       }
 
   module _ {r : Peer} {w : Walk} {marks : List ℕ} {j : ℕ} (t : Walking (p .limits) clock (p .lists .sent .slots) n w₀ p r w marks j) (h : n ≤ j) where
@@ -153,5 +172,5 @@ module _ (s : Settings) (clock : ℕ) (p : Peer) (ws : List ℕ) (v : ws ≡ wor
         (rw walk-is (record {
           answer = ap answerOf re;
           after =
-              ap (λ (q : Peer). stored q w left (r .outgoing)) (t .same) ∙ ap (λ (l : Lists). stored p w l (r .outgoing)) lists;
+              ap (λ (q : Peer). stored q w left (r .outgoing)) (t .going .same) ∙ ap (λ (l : Lists). stored p w l (r .outgoing)) lists;
         }))

@@ -3,14 +3,16 @@ ghost use mathlib.Core.Path.{_≡_};
 ghost use Rattle.peer.specs.Outcome.{Came};
 ghost use Rattle.timeouts.specs.Calls.{answerOf, replyBy, checks};
 use numbers::refusals::Refusal;
-use overdue::lists;
+use overdue::back::send_back;
 use overdue::turn;
-use peer::gate::pass;
 use peer::gate::Gate;
 use peer::gate::Lent;
+use peer::gate::pass;
 use peer::record::Peer;
 use peer::settings::Settings;
 use slots::OUTGOING;
+
+pub mod lent;
 
 pub enum Reply {
     Done,
@@ -76,7 +78,7 @@ pub fn check(peer: Peer, settings: Settings, clock: u32) -> Checked
         w = t.walk;
         j = j + 1;
     }
-    let left = lists::send_back(lists, marks);
+    let left = send_back(lists, marks);
     p.times.next_timeout = w.next;
     p.times.earliest_timeout = w.earliest;
     p.loss.lost = w.lost;

@@ -4,8 +4,8 @@ use Rattle.slots.specs.Lists.{outItems}
 use Rattle.overdue.specs.Overdue.{backOutgoing, backReliable}
 use Rattle.overdue.specs.Walking.{bearing}
 use Rattle.overdue.proofs.Laws.{ahead-made}
-use Rattle.overdue.proofs.lists.send_back.Statement.{statement}
-use Rattle.overdue.proofs.lists.send_back.Tie as tie
+use Rattle.overdue.proofs.back.send_back.Statement.{statement}
+use Rattle.overdue.proofs.back.send_back.Tie as tie
 
 bearing-requires : tie.Need-bearing-requires
 bearing-requires c κs = search needs

@@ -10,11 +10,11 @@ use Rattle.slots.specs.Lists.{outItems}
 use Rattle.slots.proofs.Views.{out-made}
 use Rattle.overdue.specs.Walking.{bearing}
 use Rattle.overdue.proofs.Laws.{Borne, borne-none, borne-low, borne-with, borne-without, borne-made}
-use Rattle.overdue.proofs.lists.bearing.Statement.{statement}
-use Rattle.overdue.proofs.lists.bearing.Tie as tie
+use Rattle.overdue.proofs.back.bearing.Statement.{statement}
+use Rattle.overdue.proofs.back.bearing.Tie as tie
 
 abbrev Inv-loop : tie.InvT-loop
-Inv-loop mark marks n cells slots₀ m₀ k₀ slots m k = (k ≤ n) × (n ≤ 32) × (m ≤ k) × (length cells ≡ 32) × Borne mark marks cells k slots m
+Inv-loop mark marks n cells slots₀ m₀ k₀ slots m k = (k ≤ n) × (n ≤ 32) × (m ≤ k) × (length cells ≡ 32) × Borne mark marks cells cells k slots m
 
 abbrev μ-loop : tie.MeasureT-loop
 μ-loop mark marks n cells slots₀ m₀ k₀ slots m k = n - k
@@ -25,7 +25,7 @@ count-requires c κs = search needs
 loop-holds : tie.Need-loop-holds Inv-loop μ-loop
 loop-holds c =
     let a = c .before .before .before .args in
-    (omega arith, c .before .before .count .ensures .low, omega arith, search needs, borne-none (a .mark) (a .t2) (a .list .slots))
+    (omega arith, c .before .before .count .ensures .low, omega arith, search needs, borne-none (a .mark) (a .t2) (a .list .slots) (a .list .slots))
 
 array-read-if1 : tie.Need-array-read-if1 Inv-loop μ-loop
 array-read-if1 c = omega arith
@@ -58,10 +58,10 @@ loop-again c =
     let i = l .loop .inv in
     let b = i .4 in
     let h : l .loop .k < length (a .list .slots) = omega arith in
-    let next : Borne (a .mark) (a .t2) (a .list .slots) (l .loop .k + 1) (c .if1 .slots) (c .if1 .m) =
-    ⊎-elim (λ w. rw (w .1, w .2) (borne-with (a .mark) (a .t2) (a .list .slots) b h (w .0 .taken)))
-    (λ w. rw (w .1, w .2) (borne-without (a .mark) (a .t2) (a .list .slots) b h (w .0 .left))) (c .if1 .came) in
-    (omega arith, i .1, borne-low (a .mark) (a .t2) (a .list .slots) next, i .3, next)
+    let next : Borne (a .mark) (a .t2) (a .list .slots) (a .list .slots) (l .loop .k + 1) (c .if1 .slots) (c .if1 .m) =
+    ⊎-elim (λ w. rw (w .1, w .2) (borne-with (a .mark) (a .t2) (a .list .slots) (a .list .slots) b h (w .0 .taken)))
+    (λ w. rw (w .1, w .2) (borne-without (a .mark) (a .t2) (a .list .slots) (a .list .slots) b h (w .0 .left))) (c .if1 .came) in
+    (omega arith, i .1, borne-low (a .mark) (a .t2) (a .list .slots) (a .list .slots) next, i .3, next)
 
 cast-t21 : tie.Need-cast-t21 Inv-loop μ-loop
 cast-t21 c = omega arith
@@ -73,7 +73,7 @@ returns c =
     let a = n .before .args in
     let k : l .loop .k ≡ n .count .result = omega arith in
     out-made (a .list) (bearing (a .mark) (a .t2) (take (l .loop .k) (a .list .slots))) (bearing (a .mark) (a .t2) (outItems (a .list))) (l .loop .slots) (l .loop .m)
-    (borne-made (a .mark) (a .t2) (a .list .slots) (l .loop .inv .4) (omega arith))
+    (borne-made (a .mark) (a .t2) (a .list .slots) (a .list .slots) (l .loop .inv .4) (omega arith))
     (rw k (ap (bearing (a .mark) (a .t2)) (n .count .ensures .same)))
 
 pub bearing-spec : {M : Type 1} → statement M

@@ -1,0 +1,61 @@
+-- `check` meets its contract: it passes the gate; then walk, lists and numbers one after the other leave the rule's record.
+use borrow.Author.Needs.{needs}
+use Rattle.places.specs.Whole.{whole}
+use Rattle.timeouts.proofs.LentLaws.{check-shut, check-went}
+use Rattle.timeouts.proofs.lent.check.Statement.{statement}
+use Rattle.timeouts.proofs.lent.check.Tie as tie
+
+ask-requires : tie.Need-ask-requires
+ask-requires c κs = search needs
+
+enum-known-gate : tie.Need-enum-known-gate
+enum-known-gate c = search needs
+
+returns : tie.Need-returns
+returns c =
+    let g = c .before .before .before in
+    let a = g .before .before .before .args in
+    let k = c .before .gate .given in
+    check-shut (a .settings) (a .clock) (whole (a .words .now)) (g .ask .result) (g .ask .ensures) (k .0 .0) (k .1)
+
+enum-told : tie.Need-enum-told
+enum-told c = search needs
+
+walk-requires : tie.Need-walk-requires
+walk-requires c κs = search needs
+
+send-back-requires : tie.Need-send-back-requires
+send-back-requires c κs = search needs
+
+settle-requires : tie.Need-settle-requires
+settle-requires c κs = search needs
+
+reply-of-requires : tie.Need-reply-of-requires
+reply-of-requires c κs = search needs
+
+returns-2 : tie.Need-returns-2
+returns-2 c =
+    let z = c .before in
+    let y = z .before .before in
+    let x = y .before .before .before .before in
+    let o = x .before .before in
+    let g = o .before .before in
+    let a = g .before .before .before .args in
+    let w = x .walk .result in
+    check-went (a .settings) (a .clock) (whole (a .words .now)) (g .ask .result) (g .ask .ensures) (o .enum-told .given .1) (w .walk) (w .marks)
+    (whole (x .walk .last .0)) (whole (y .send-back .last .0)) (whole (z .settle .last .0)) (c .reply-of .result)
+    (x .walk .ensures .0) (x .walk .ensures .1 .0) (x .walk .ensures .1 .1) (y .send-back .ensures) (z .settle .ensures) (c .reply-of .ensures)
+
+pub check-spec : {M : Type 1} → statement M
+check-spec =
+    tie.close
+    (tie.spec
+    ask-requires
+    enum-known-gate
+    returns
+    enum-told
+    walk-requires
+    send-back-requires
+    settle-requires
+    reply-of-requires
+    returns-2)

@@ -1,0 +1,96 @@
+// The timeout check on the record that the caller lends.
+ghost use mathlib.Core.Path.{_≡_};
+ghost use lib.ListN.{length, take};
+ghost use Rattle.slots.specs.Lists.{outItems};
+ghost use Rattle.parts.specs.Updates.{withTimeouts, withPacketsLost, withTransit};
+ghost use Rattle.peer.specs.Outcome.{Came};
+ghost use Rattle.peer.specs.Updates.{withChecked, withOutgoing};
+ghost use Rattle.places.specs.Whole.{whole, recordLength};
+ghost use Rattle.overdue.specs.Walking.{atEntry};
+ghost use Rattle.timeouts.specs.Calls.{answerOf, walkOf, checks};
+use crate::Reply;
+use crate::reply_of;
+use overdue::lent::send_back;
+use overdue::lent::turn;
+use overdue::step::Walk;
+use overdue::turn::start;
+use peer::gate::Gate;
+use peer::gate::Lent;
+use peer::settings::Settings;
+use places::RECORD;
+use places::groups;
+use queues::Out;
+use queues::outgoing;
+use slots::OUTGOING;
+
+// The numbers that the walk begins with.
+fn begin(words: &[u32]) -> Walk
+    requires { ⌜ length (now words) ≡ recordLength ⌝ }
+    ensures { λ r. ⌜ r ≡ atEntry (whole (now (words .entry)) .times) (whole (now (words .entry)) .loss) (whole (now (words .entry)) .flow) ⌝ }
+{
+    start(
+        groups::times(words),
+        groups::loss(words),
+        groups::flow(words),
+    )
+}
+
+// The numbers that the walk ends with, and a mark for each slot of the sent list.
+struct Marked {
+    walk: Walk,
+    marks: [u8; OUTGOING],
+}
+
+fn walk(words: &mut [u32], clock: u32) -> Marked
+    requires { ⌜ length (now words) ≡ recordLength ⌝ }
+    ensures walk { λ r. ⌜ r .walk ≡ walkOf clock (whole (now (words .entry))) .walk ⌝ }
+    ensures marks { λ r. ⌜ take (length (outItems (whole (now (words .entry)) .lists .sent))) (r .marks) ≡ walkOf clock (whole (now (words .entry))) .marks ⌝ }
+    ensures slots { λ r. ⌜ whole (now (words .exit)) ≡ withOutgoing (whole (now (words .entry))) (walkOf clock (whole (now (words .entry))) .slots) ⌝ }
+{
+    let limits = groups::limits(words);
+    let n = outgoing::count(words, Out::Sent);
+    let mut w = begin(words);
+    let mut marks = [0u8; OUTGOING];
+    let mut j: usize = 0;
+    while j < n {
+        let s = outgoing::slot_at(words, Out::Sent, j);
+        let t = turn(words, limits, clock, w, s as usize);
+        marks[j] = t.mark;
+        w = t.walk;
+        j = j + 1;
+    }
+    Marked { walk: w, marks }
+}
+
+// Times, loss and flow get the walk's numbers.
+fn settle(words: &mut [u32], w: Walk)
+    requires { ⌜ length (now words) ≡ recordLength ⌝ }
+    ensures { λ _. ⌜ whole (now (words .exit)) ≡ withChecked (whole (now (words .entry))) (withTimeouts (whole (now (words .entry)) .times) (w .next) (w .earliest)) (withPacketsLost (whole (now (words .entry)) .loss) (w .lost)) (withTransit (whole (now (words .entry)) .flow) (w .transit)) (whole (now (words .entry)) .lists) (whole (now (words .entry)) .outgoing) ⌝ }
+{
+    let mut times = groups::times(words);
+    let mut loss = groups::loss(words);
+    let mut flow = groups::flow(words);
+    times.next_timeout = w.next;
+    times.earliest_timeout = w.earliest;
+    loss.lost = w.lost;
+    flow.transit = w.transit;
+    groups::put_times(words, times);
+    groups::put_loss(words, loss);
+    groups::put_flow(words, flow);
+}
+
+// Refused by 11 and 13.
+pub fn check(words: &mut [u32; RECORD], settings: Settings, clock: u32) -> Reply
+    ensures { λ r. ⌜ Came answerOf (checks settings clock (whole (now (words .entry)))) r (whole (now (words .exit))) ⌝ }
+{
+    let gate = gate::ask(words, settings, Lent::Nothing);
+    if let Gate::Shut(why) = gate {
+        return Reply::Refused(why);
+    }
+    let m = walk(words, clock);
+    let w = m.walk;
+    let marks = m.marks;
+    send_back(words, marks);
+    settle(words, w);
+    reply_of(w.over)
+}
