@@ -27,7 +27,7 @@ fn is_channel(channel: u8, count: u32) -> bool
     channel == ITSELF
 }
 
-fn judge(x: Piece, count: u32, free: usize) -> Gate
+pub(crate) fn judge(x: Piece, count: u32, free: usize) -> Gate
     ensures { λ r. ⌜ r ≡ setupGate x count free ⌝ }
 {
     let c = x.command;
