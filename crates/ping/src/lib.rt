@@ -1,4 +1,6 @@
 // Ping, and what it refuses.
+pub mod lent;
+
 ghost use mathlib.Core.Path.{_≡_};
 ghost use Rattle.peer.specs.Outcome.{Came};
 ghost use Rattle.peer.specs.Calls.{answerOf};
@@ -11,9 +13,9 @@ use parts::groups::ITSELF;
 use parts::groups::Standing;
 use peer::calls::Called;
 use peer::calls::Reply;
-use peer::gate::pass;
 use peer::gate::Gate;
 use peer::gate::Lent;
+use peer::gate::pass;
 use peer::record::Peer;
 use peer::settings::Settings;
 use stamps::counting;
@@ -21,7 +23,7 @@ use stamps::outbox;
 use stamps::pieces::Piece;
 
 // Command 5 with the acknowledge flag, channel 255, no packet.
-const PING: Piece = Piece {
+pub(crate) const PING: Piece = Piece {
     command: Command {
         byte: 5 + 128,
         channel: ITSELF,
@@ -33,7 +35,7 @@ const PING: Piece = Piece {
     length: 0,
 };
 
-fn may_ping(standing: Standing, free: usize) -> Gate
+pub(crate) fn may_ping(standing: Standing, free: usize) -> Gate
     ensures { λ r. ⌜ r ≡ pingGate standing free ⌝ }
 {
     if standing.state != Peer::CONNECTED {

@@ -3,3 +3,4 @@ pub mod Sound
 pub mod Taking
 pub mod Stored
 pub mod Setups
+pub mod Lents

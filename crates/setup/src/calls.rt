@@ -8,9 +8,9 @@ use numbers::refusals::Refusal;
 use parts::groups::ITSELF;
 use peer::calls::Called;
 use peer::calls::Reply;
-use peer::gate::pass;
 use peer::gate::Gate;
 use peer::gate::Lent;
+use peer::gate::pass;
 use peer::record::Peer;
 use peer::settings::Settings;
 use stamps::counting;
@@ -27,7 +27,7 @@ fn is_channel(channel: u8, count: u32) -> bool
     channel == ITSELF
 }
 
-fn judge(x: Piece, count: u32, free: usize) -> Gate
+pub(crate) fn judge(x: Piece, count: u32, free: usize) -> Gate
     ensures { λ r. ⌜ r ≡ setupGate x count free ⌝ }
 {
     let c = x.command;

@@ -1,2 +1,3 @@
 // Setting up an outgoing command on the record.
 pub mod calls;
+pub mod lent;

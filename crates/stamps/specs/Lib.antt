@@ -2,3 +2,4 @@ pub mod Counting
 pub mod Pieces
 pub mod Room
 pub mod Outboxes
+pub mod Lent

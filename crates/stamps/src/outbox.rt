@@ -57,7 +57,7 @@ fn join(lists: Lists, x: Piece, s: u16) -> Lists
 }
 
 // One slot more has a mark.
-fn mark(marks: [u8; OUTGOING], s: u16) -> [u8; OUTGOING]
+pub(crate) fn mark(marks: [u8; OUTGOING], s: u16) -> [u8; OUTGOING]
     ensures { λ r. ⌜ r ≡ set marks s 1 ⌝ }
 {
     let mut all = marks;
