@@ -10,9 +10,9 @@ use numbers::counters::Reliable;
 use numbers::refusals::Refusal;
 use parts::groups::Lists;
 use parts::groups::Times;
-use peer::gate::pass;
 use peer::gate::Gate;
 use peer::gate::Lent;
+use peer::gate::pass;
 use peer::record::Peer;
 use peer::settings::Settings;
 
