@@ -1,11 +1,11 @@
 -- The channels of the record: a channel by its own numbers, and the record after some of them were written.
 -- The argument: a write inside a channel is a row pasted inside the channels' part; then a channel is four numbers and the rest.
-use Prim.Native.Nat.{ℕ, _+_, _*_, _%_, _≤_, _<_}
+use Prim.Native.Nat.{ℕ, suc, _+_, _*_, _%_, _≤_, _<_}
 use mathlib.Core.Path.{_≡_, refl, ap, sym, _∙_}
 use mathlib.Core.List.{List, [], _∷_}
 use native.Mathlib.Omega.{arith}
 use lib.ListN.{length, getD, set, drop, length-drop}
-use lib.Seq.{paste, sets, sets-eq, take-all, length-paste, getD-drop}
+use lib.Seq.{paste, sets-eq, take-all, length-paste}
 use Rattle.numbers.specs.declared.counters.Reliable.{Reliable}
 use Rattle.numbers.specs.declared.counters.Unreliable.{Unreliable}
 use Rattle.lists.specs.Rows.{section}
@@ -18,6 +18,7 @@ use Rattle.pool.proofs.Rows.{rows-at, rows-paste}
 use Rattle.places.specs.Whole.{sizes, numbers, parts, made, whole, inListFrom, channelFrom, channelsFrom}
 use Rattle.places.specs.Updates.{channelAt, numbersOf}
 use Rattle.places.proofs.Sections.{section-length, section-number, section-section, paste-in}
+use Rattle.places.proofs.GroupLaws.{low}
 use Rattle.places.proofs.Written.{place, row-put}
 
 -- ---- a channel's row
@@ -35,6 +36,15 @@ row-held r row l m =
     let rest : length (drop 4 r) ≡ 13 = length-drop 4 r ∙ omega arith in
     ap (λ (s : List ℕ). channelFrom (paste s 4 row 13)) (four r (omega arith))
     ∙ ap (λ (s : List ℕ). withHeld (channelFrom r) (inListFrom s)) (paste-over (drop 4 r) row 13 rest ∙ take-all 13 row (omega arith))
+
+module _ (s : List ℕ) (x y : ℕ) (r : Reliable) (u : Unreliable) (m : length s ≡ 17) (ex : x ≡ r .0) (hx : r .0 < 65536) (ey : y ≡ u .0) (hy : u .0 < 65536) where
+  row-outgoing : channelFrom (paste s 0 (x ∷ y ∷ []) 2) ≡ withNumbers (channelFrom s) r u
+  unfolding channelFrom
+  row-outgoing = ap (λ (t : List ℕ). channelFrom (paste t 0 (x ∷ y ∷ []) 2)) (four s (omega arith)) ∙ rw (low x (r .0) ex hx, low y (u .0) ey hy)
+
+  row-incoming : channelFrom (paste s 2 (x ∷ y ∷ []) 2) ≡ withLast (channelFrom s) r u
+  unfolding channelFrom
+  row-incoming = ap (λ (t : List ℕ). channelFrom (paste t 2 (x ∷ y ∷ []) 2)) (four s (omega arith)) ∙ rw (low x (r .0) ex hx, low y (u .0) ey hy)
 
 -- ---- the channels' part
 pub channels-is : (ws : List ℕ) → whole ws .channels ≡ channelsFrom (section 194 136 ws)
@@ -63,10 +73,13 @@ module _ (ws : List ℕ) (l : length ws ≡ 1234) where
         ∙ rows-at channelFrom 17 8 (section 194 136 ws) i noChannel h
         ∙ ap channelFrom own-row
 
+    pub channel-number : (k : ℕ) → k < 17 → getD own k 0 ≡ getD ws (194 + i * 17 + k) 0
+    channel-number k b = section-number (194 + i * 17) 17 k ws b
+
     -- m of its numbers written, from number k on
-    pub put-part : (k m : ℕ) (row : List ℕ) → k + m ≤ 17 → length row ≡ m
+    pub put-channel-part : (k m : ℕ) (row : List ℕ) → k + m ≤ 17 → length row ≡ m
         → whole (paste ws (194 + i * 17 + k) row m) ≡ withChannels (whole ws) (set (whole ws .channels) i (channelFrom (paste own k row m)))
-    put-part k m row b r =
+    put-channel-part k m row b r =
         let s = section 194 136 ws in
         let e : 194 + i * 17 + k ≡ 194 + (i * 17 + k) = omega arith in
         let ls : length s ≡ 136 = section-length 194 136 ws (omega arith) in
@@ -88,5 +101,35 @@ held-is ws i h l =
 pub put-held : (ws : List ℕ) (i : ℕ) (row : List ℕ) → i < 8 → length row ≡ 13 → length ws ≡ 1234
     → whole (paste ws (194 + i * 17 + 4) row 13) ≡ withChannels (whole ws) (set (whole ws .channels) i (withHeld (channelAt (whole ws) i) (inListFrom row)))
 put-held ws i row h m l =
-    put-part ws l i h 4 13 row (omega arith) m
+    put-channel-part ws l i h 4 13 row (omega arith) m
     ∙ ap (λ (c : Channel). withChannels (whole ws) (set (whole ws .channels) i c)) (row-held (own ws l i h) row (own-length ws l i h) m ∙ ap (λ (c : Channel). withHeld c (inListFrom row)) (sym (channel-is ws l i h)))
+
+-- ---- its numbers
+pub numbers-is : (ws : List ℕ) (i a b c d : ℕ) → i < 8 → length ws ≡ 1234
+    → a ≡ getD ws (194 + i * 17) 0 % 65536 → b ≡ getD ws (194 + i * 17 + 1) 0 % 65536 → c ≡ getD ws (194 + i * 17 + 2) 0 % 65536 → d ≡ getD ws (194 + i * 17 + 3) 0 % 65536
+    → numbersOf (channelAt (whole ws) i)
+    ≡ record { «outgoing_reliable» = record { 0 = a }; «outgoing_unreliable» = record { 0 = b }; «incoming_reliable» = record { 0 = c }; «incoming_unreliable» = record { 0 = d } }
+unfolding channelFrom
+numbers-is ws i a b c d h l ea eb ec ed =
+    let e : 194 + i * 17 + 0 ≡ 194 + i * 17 = omega arith in
+    let n0 : getD (own ws l i h) 0 0 ≡ getD ws (194 + i * 17) 0 = channel-number ws l i h 0 (omega arith) ∙ ap (λ (k : ℕ). getD ws k 0) e in
+    ap numbersOf (channel-is ws l i h)
+    ∙ rw (ea, eb, ec, ed, n0, channel-number ws l i h 1 (omega arith), channel-number ws l i h 2 (omega arith), channel-number ws l i h 3 (omega arith))
+
+module _ (ws : List ℕ) (i x y : ℕ) (r : Reliable) (u : Unreliable) (h : i < 8) (l : length ws ≡ 1234) (ex : x ≡ r .0) (hx : r .0 < 65536) (ey : y ≡ u .0) (hy : u .0 < 65536) where
+  -- two numbers, one by one: the channel that comes of it is `to` of what it was
+  pair : (to : Channel → Channel) (at k : ℕ) → at ≡ 194 + i * 17 + k → k + 2 ≤ 17 → channelFrom (paste (own ws l i h) k (x ∷ y ∷ []) 2) ≡ to (channelFrom (own ws l i h))
+      → whole (set (set ws at x) (at + 1) y) ≡ withChannels (whole ws) (set (whole ws .channels) i (to (channelAt (whole ws) i)))
+  pair to at k e b is =
+      let s : at + 1 ≡ suc at = omega arith in
+      ap (λ (n : ℕ). whole (set (set ws at x) n y)) s
+      ∙ ap whole (sets-eq (x ∷ y ∷ []) ws at (omega arith))
+      ∙ ap (λ (n : ℕ). whole (paste ws n (x ∷ y ∷ []) 2)) e
+      ∙ put-channel-part ws l i h k 2 (x ∷ y ∷ []) b refl
+      ∙ ap (λ (c : Channel). withChannels (whole ws) (set (whole ws .channels) i c)) (is ∙ ap to (sym (channel-is ws l i h)))
+
+  pub put-outgoing-numbers : whole (set (set ws (194 + i * 17) x) (194 + i * 17 + 1) y) ≡ withChannels (whole ws) (set (whole ws .channels) i (withNumbers (channelAt (whole ws) i) r u))
+  put-outgoing-numbers = pair (λ (c : Channel). withNumbers c r u) (194 + i * 17) 0 (omega arith) (omega arith) (row-outgoing (own ws l i h) x y r u (own-length ws l i h) ex hx ey hy)
+
+  pub put-incoming-numbers : whole (set (set ws (194 + i * 17 + 2) x) (194 + i * 17 + 2 + 1) y) ≡ withChannels (whole ws) (set (whole ws .channels) i (withLast (channelAt (whole ws) i) r u))
+  put-incoming-numbers = pair (λ (c : Channel). withLast c r u) (194 + i * 17 + 2) 2 refl (omega arith) (row-incoming (own ws l i h) x y r u (own-length ws l i h) ex hx ey hy)

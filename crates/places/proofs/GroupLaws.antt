@@ -24,8 +24,9 @@ use Rattle.places.specs.Whole.{sizes, numbers, parts, made, whole}
 use Rattle.places.specs.Updates.{withTrips}
 use Rattle.places.proofs.Written.{place, numbers-put, row-put}
 
-low : (x : ℕ) → x < 65536 → x % 65536 ≡ x
-low x h = omega arith
+-- a number that fits is read as it is
+pub low : (x y : ℕ) → x ≡ y → y < 65536 → x % 65536 ≡ y
+low x y e h = omega arith
 
 module _ (ws : List ℕ) where
   pub standing-is : whole ws .standing ≡ record { state = getD ws 5 0; count = getD ws 6 0 }
@@ -108,12 +109,12 @@ module _ (ws : List ℕ) where
 
     pub put-flow : (x : Flow) (r : ℕ) → r ≡ x .reliable .0 → x .reliable .0 < 65536 → whole (sets ws 39 (x .mtu ∷ x .window ∷ x .transit ∷ r ∷ [])) ≡ withFlow (whole ws) x
     unfolding made parts numbers sizes place
-    put-flow x r e h = numbers-put ws 0 43 39 39 (x .mtu ∷ x .window ∷ x .transit ∷ r ∷ []) l (omega arith) refl refl (omega arith) (omega arith) ∙ rw (e, low (x .reliable .0) h)
+    put-flow x r e h = numbers-put ws 0 43 39 39 (x .mtu ∷ x .window ∷ x .transit ∷ r ∷ []) l (omega arith) refl refl (omega arith) (omega arith) ∙ rw (low r (x .reliable .0) e h)
 
     pub put-flags : (x r : ℕ) → r ≡ x → x < 65536 → whole (sets ws 155 (r ∷ [])) ≡ withGroups (whole ws) (withFlags (whole ws .groups) x)
     unfolding made parts numbers sizes place
-    put-flags x r e h = numbers-put ws 5 4 0 155 (r ∷ []) l (omega arith) refl refl (omega arith) (omega arith) ∙ rw (e, low x h)
+    put-flags x r e h = numbers-put ws 5 4 0 155 (r ∷ []) l (omega arith) refl refl (omega arith) (omega arith) ∙ rw (low r x e h)
 
     pub put-outgoing-group : (x : Group) (r : ℕ) → r ≡ x .0 → x .0 < 65536 → whole (sets ws 158 (r ∷ [])) ≡ withGroups (whole ws) (withOutgoingGroup (whole ws .groups) x)
     unfolding made parts numbers sizes place
-    put-outgoing-group x r e h = numbers-put ws 5 4 3 158 (r ∷ []) l (omega arith) refl refl (omega arith) (omega arith) ∙ rw (e, low (x .0) h)
+    put-outgoing-group x r e h = numbers-put ws 5 4 3 158 (r ∷ []) l (omega arith) refl refl (omega arith) (omega arith) ∙ rw (low r (x .0) e h)

@@ -2,3 +2,5 @@ pub mod Sections
 pub mod Written
 pub mod GroupLaws
 pub mod ChannelLaws
+pub mod PoolLaws
+pub mod WindowLaws

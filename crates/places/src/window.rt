@@ -1,6 +1,7 @@
 // The unsequenced window's words, with the flags and groups beside them.
 ghost use mathlib.Core.Path.{_≡_};
 ghost use lib.ListN.{length};
+ghost use Rattle.parts.specs.Updates.{withWindow};
 ghost use Rattle.peer.specs.Updates.{withGroups};
 ghost use Rattle.places.specs.Whole.{whole, recordLength};
 use crate::WORDS;
@@ -28,6 +29,13 @@ pub fn groups(words: &[u32]) -> Groups
     }
 }
 
+fn put_words(words: &mut [u32], window: [u32; UNSEQUENCED_WORDS])
+    requires { ⌜ length (now words) ≡ recordLength ⌝ }
+    ensures { λ _. ⌜ whole (now (words .exit)) ≡ withGroups (whole (now (words .entry))) (withWindow (whole (now (words .entry)) .groups) (whole (now (words .entry)) .groups .incoming) window) ⌝ }
+{
+    pool::copy(words, WORDS, &window, 0, UNSEQUENCED_WORDS);
+}
+
 pub fn put_groups(words: &mut [u32], x: Groups)
     requires { ⌜ length (now words) ≡ recordLength ⌝ }
     ensures { λ _. ⌜ whole (now (words .exit)) ≡ withGroups (whole (now (words .entry))) x ⌝ }
@@ -35,7 +43,6 @@ pub fn put_groups(words: &mut [u32], x: Groups)
     let a = x.incoming;
     let b = x.outgoing;
     let window = x.words;
-    pool::copy(words, WORDS, &window, 0, UNSEQUENCED_WORDS);
     let flags = wide16(x.flags);
     let reserved = wide16(x.reserved);
     let incoming = wide16(a.0);
@@ -44,4 +51,5 @@ pub fn put_groups(words: &mut [u32], x: Groups)
     words[156] = reserved;
     words[157] = incoming;
     words[158] = outgoing;
+    put_words(words, window);
 }

@@ -1,0 +1,90 @@
+-- The four numbers, to their places, then the words.
+use mathlib.Core.Path.{_∙_}
+use mathlib.Core.List.{[], _∷_}
+use lib.Seq.{length-sets}
+use Rattle.places.specs.Whole.{whole}
+use Rattle.places.proofs.WindowLaws.{put-groups}
+use borrow.Author.Needs.{needs}
+use Rattle.places.proofs.window.put_groups.Statement.{statement}
+use Rattle.places.proofs.window.put_groups.Tie as tie
+use Rattle.places.proofs.groups.wide16.Reads as wide16-reads
+use Rattle.places.proofs.window.put_words.Reads as put-words-reads
+
+wide16-requires : tie.Need-wide16-requires
+wide16-requires c κs = search needs
+
+wide16-requires-2 : tie.Need-wide16-requires-2
+wide16-requires-2 c κs = search needs
+
+wide16-requires-3 : tie.Need-wide16-requires-3
+wide16-requires-3 c κs = search needs
+
+wide16-requires-4 : tie.Need-wide16-requires-4
+wide16-requires-4 c κs = search needs
+
+slice-write-words : tie.Need-slice-write-words
+slice-write-words c = search needs
+
+slice-write-words-2 : tie.Need-slice-write-words-2
+slice-write-words-2 c = search needs
+
+slice-write-words-3 : tie.Need-slice-write-words-3
+slice-write-words-3 c = search needs
+
+slice-write-words-4 : tie.Need-slice-write-words-4
+slice-write-words-4 c = search needs
+
+put-words-requires : tie.Need-put-words-requires
+put-words-requires c κs = search needs
+
+same-length : tie.Need-same-length
+same-length c =
+    let o = c .before .before .before .before in
+    let i = o .before in
+    let v = i .before in
+    let f = v .before in
+    let ws = f .before .before .before .before .before .args .words .now in
+    c .before .words .given ∙ length-sets ws 155 (f .wide16 .result ∷ v .wide162 .result ∷ i .wide163 .result ∷ o .wide164 .result ∷ [])
+
+returns : tie.Need-returns
+returns c =
+    let w = c .before .before in
+    let o = w .before .before in
+    let i = o .before in
+    let v = i .before in
+    let f = v .before in
+    let b = f .before .before .before .before .before in
+    put-groups
+    (b .args .words .now)
+    (b .pre)
+    (b .args .x)
+    (f .wide16 .result)
+    (v .wide162 .result)
+    (i .wide163 .result)
+    (o .wide164 .result)
+    (f .wide16 .ensures .0)
+    (f .wide16 .ensures .1)
+    (v .wide162 .ensures .0)
+    (v .wide162 .ensures .1)
+    (i .wide163 .ensures .0)
+    (i .wide163 .ensures .1)
+    (o .wide164 .ensures .0)
+    (o .wide164 .ensures .1)
+    (whole (w .put-words .last .0))
+    (w .put-words .ensures)
+
+pub put-groups-spec : {M : Type 1} → statement M
+put-groups-spec =
+    tie.close
+    (tie.spec
+    wide16-requires
+    wide16-requires-2
+    wide16-requires-3
+    wide16-requires-4
+    slice-write-words
+    slice-write-words-2
+    slice-write-words-3
+    slice-write-words-4
+    put-words-requires
+    same-length
+    returns)
