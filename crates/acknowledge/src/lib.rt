@@ -16,6 +16,8 @@ use peer::gate::pass;
 use peer::record::Peer;
 use peer::settings::Settings;
 
+pub mod lent;
+
 pub enum Reply {
     Passed,
     Done,
