@@ -1,7 +1,7 @@
 -- What an acknowledgement on the lent record makes of it: each part is the rule's, and the parts one after the other are the rule's record and answer.
 -- The argument: what was read is the record's own and what was written its update, so each part is one equation; a slot in brief says all that is asked of it.
 use Prim.Native.Nat.{ℕ}
-use mathlib.Core.Path.{_≡_, refl, ap, sym, _∙_}
+use mathlib.Core.Path.{_≡_, refl, ap, _∙_}
 use mathlib.Core.Bool.{Bool}
 use lib.Dec.{eqb}
 use Rattle.numbers.specs.declared.clock.Trip.{Trip}

@@ -1,7 +1,7 @@
 -- What the searches and the removal on the lent record are: by looks at the pool, and by what the slots hold.
 -- The argument: a slot of the pool in brief says all that a look asks of it; past the pool there is nothing to look at.
 use Prim.Native.Nat.{ℕ, _+_, _≤_, _<_}
-use mathlib.Core.Path.{_≡_, refl, ap, sym, _∙_}
+use mathlib.Core.Path.{_≡_, ap, sym, _∙_}
 use mathlib.Core.Bool.{Bool}
 use mathlib.Core.List.{List, map}
 use native.Mathlib.Omega.{arith}
