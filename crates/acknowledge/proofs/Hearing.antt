@@ -68,6 +68,10 @@ module _ (s : Settings) (channel number sent clock : ℕ) (p : Peer) (ws : List 
     placed : Placed w (p .lists)
     placed = rw wq (spot-placed (at looked) (at queued) (p .lists))
 
+    -- what it comes to at that spot
+    pub heard-by : (reply : Reply) (y : Peer) → Came answerOf (heardAt w sample clock p) reply y → Came answerOf (acknowledges s channel number sent clock p) reply y
+    heard-by reply y c = came reply y (rw z (rw spot-is at c))
+
     -- the command is removed: each part that the code makes, by its equation
     module _ (m : Measured) (k : Taken) (now times : Times) (flow : Flow) (command : ℕ) (reply : Reply)
         (mq : m ≡ measured (eqb (p .times .«last_receive») 0) sample clock (p .throttling) (p .trips))
@@ -95,4 +99,4 @@ module _ (s : Settings) (channel number sent clock : ℕ) (p : Peer) (ws : List 
       heard-at = record { answer = rw (rq, command-is, kq); after = rw (times-is, flow-is, mq, kq) }
 
       pub heard : Came answerOf (acknowledges s channel number sent clock p) reply (withHeard p times (m .throttling) (m .trips) flow (k .lists))
-      heard = came reply (withHeard p times (m .throttling) (m .trips) flow (k .lists)) (rw z (rw spot-is at heard-at))
+      heard = heard-by reply (withHeard p times (m .throttling) (m .trips) flow (k .lists)) heard-at

@@ -1,2 +1,4 @@
 pub mod Hearing
 pub mod Settled
+pub mod Counted
+pub mod Changes

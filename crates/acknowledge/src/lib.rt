@@ -10,11 +10,13 @@ use numbers::counters::Reliable;
 use numbers::refusals::Refusal;
 use parts::groups::Lists;
 use parts::groups::Times;
-use peer::gate::pass;
 use peer::gate::Gate;
 use peer::gate::Lent;
+use peer::gate::pass;
 use peer::record::Peer;
 use peer::settings::Settings;
+
+pub mod lent;
 
 pub enum Reply {
     Passed,

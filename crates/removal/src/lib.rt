@@ -16,6 +16,8 @@ use slots::OUTGOING;
 use slots::outgoing::OutList;
 use stamps::counting;
 
+pub mod lent;
+
 // Where the command stands: in which list, and at which place.
 pub enum Spot {
     Sent(usize),
@@ -193,7 +195,7 @@ fn slot_at(spot: Spot, lists: Lists) -> First
     }
 }
 
-fn is_some(f: First) -> bool
+pub fn is_some(f: First) -> bool
     ensures { λ r. ⌜ r ≡ isSome f ⌝ }
 {
     match f {

@@ -1,29 +1,9 @@
 -- `carry` meets its contract, by cases on the spot and the packet: the wrapping difference is the difference modulo 2^32.
-use mathlib.Core.Path.{_≡_, refl}
-use mathlib.Core.List.{List, [], _∷_}
-use Prim.Native.Nat.{ℕ}
-use denote.Enum.Declared.{tagOf}
-use types.Run.{OneOf, miss}
 use borrow.Author.Needs.{needs}
 use Rattle.numbers.proofs.ModuloLaws.{minus-of}
-use Rattle.parts.specs.declared.groups.Flow.{Flow}
-use Rattle.parts.specs.declared.groups.Outgoing.{Outgoing}
-use Rattle.removal.specs.Removal.{flowWithout}
-use Rattle.removal.specs.declared.Spot.{Spot}
-use Rattle.removal.specs.declared.Spot.the-variants as spot
-use Rattle.removal.proofs.Spot.{the-type}
+use Rattle.removal.proofs.Kept.{flow-kept}
 use Rattle.removal.proofs.carry.Statement.{statement}
 use Rattle.removal.proofs.carry.Tie as tie
-
--- the spots that are not in sent, by their places in the enum
-abbrev others : List ℕ
-others = 1 ∷ 2 ∷ 3 ∷ []
-
-kept : (w : Spot) → OneOf others (tagOf the-type w) → (o : Outgoing) (f : Flow) → f ≡ flowWithout w o f
-kept (spot.Sent k) t o f = absurd (miss others 0 tt t)
-kept (spot.Outgoing k) t o f = refl
-kept (spot.Reliable k) t o f = refl
-kept spot.Nowhere t o f = refl
 
 enum-told : tie.Need-enum-told
 enum-told c = search needs
@@ -50,7 +30,7 @@ returns-2 : tie.Need-returns-2
 returns-2 c = rw (c .before .enum-told .given .1, c .if1 .left)
 
 returns-3 : tie.Need-returns-3
-returns-3 c = let a = c .before .args in kept (a .spot) (c .match .keys2) (a .slot) (a .flow)
+returns-3 c = let a = c .before .args in flow-kept (a .spot) (c .match .keys2) (a .slot) (a .flow)
 
 pub carry-spec : {M : Type 1} → statement M
 carry-spec =

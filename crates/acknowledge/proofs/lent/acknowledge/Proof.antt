@@ -1,0 +1,94 @@
+-- `acknowledge` goes by the gate, then asks for the sample; what follows is `heard`'s.
+use mathlib.Core.Path.{refl, _∙_}
+use mathlib.Core.Bool.{true, false}
+use mathlib.Core.List.{map}
+use lib.ListN.{length-map}
+use Rattle.peer.specs.declared.gate.Lent.the-variants.{Nothing}
+use Rattle.peer.proofs.Gates.{worthsOf}
+use Rattle.places.specs.Whole.{whole}
+use Rattle.gate.proofs.Asked.{Asked, asked-shut, by-worths}
+use Rattle.removal.specs.Searches.{lookOf, spotIn}
+use Rattle.removal.proofs.Changes.{pool-size}
+use Rattle.acknowledge.specs.Calls.{answerOf, acknowledgesSound}
+use Rattle.acknowledge.specs.declared.Reply.the-variants as vr
+use Rattle.acknowledge.proofs.Hearing.{passed-over, heard-by}
+use Rattle.acknowledge.proofs.Changes.{trip-is}
+use borrow.Author.Needs.{needs}
+use Rattle.acknowledge.proofs.lent.acknowledge.Statement.{statement}
+use Rattle.acknowledge.proofs.lent.acknowledge.Tie as tie
+
+ask-requires : tie.Need-ask-requires
+ask-requires c κs = search needs
+
+enum-known-gate : tie.Need-enum-known-gate
+enum-known-gate c = search needs
+
+returns : tie.Need-returns
+returns c =
+    let k = c .before .before .before .ask in
+    let a = c .before .before .before .before .before .before .args in
+    let p = whole (a .words .now) in
+    let q : Asked = record { settings = a .settings; lent = Nothing; peer = p; gate = k .result; is = k .ensures } in
+    let s = c .before .gate .given in
+    asked-shut q p (acknowledgesSound (a .channel) (a .number .0) (a .sent) (a .clock) p) answerOf (vr.Refused (s .0 .0)) (s .0 .0) refl (s .1)
+
+enum-told : tie.Need-enum-told
+enum-told c = search needs
+
+standing-requires : tie.Need-standing-requires
+standing-requires c κs = search needs
+
+hear-requires : tie.Need-hear-requires
+hear-requires c κs = search needs
+
+enum-known-trip : tie.Need-enum-known-trip
+enum-known-trip c = search needs
+
+enum-told-2 : tie.Need-enum-told-2
+enum-told-2 c = search needs
+
+returns-2 : tie.Need-returns-2
+returns-2 c =
+    let k = c .before .before .before .before .before .before .before .before .ask in
+    let a = c .before .before .before .before .before .before .before .before .before .before .before .args in
+    let p = whole (a .words .now) in
+    let q : Asked = record { settings = a .settings; lent = Nothing; peer = p; gate = k .result; is = k .ensures } in
+    let s = c .before .before .before .standing in
+    let t = c .before .before .hear in
+    passed-over (a .settings) (a .channel) (a .number .0) (a .sent) (a .clock) p (worthsOf p) refl (k .result) (by-worths q) (c .before .before .before .before .before .before .enum-told .given .1)
+    (t .result) (trip-is p (s .result) (s .ensures) (a .clock) (a .sent) (t .result) (t .ensures)) (c .enum-told2 .given .1)
+
+heard-requires : tie.Need-heard-requires
+heard-requires c κs = search needs
+
+returns-3 : tie.Need-returns-3
+returns-3 c =
+    let k = c .before .before .before .before .before .before .before .before .before .before .before .ask in
+    let a = c .before .before .before .before .before .before .before .before .before .before .before .before .before .before .args in
+    let p = whole (a .words .now) in
+    let q : Asked = record { settings = a .settings; lent = Nothing; peer = p; gate = k .result; is = k .ensures } in
+    let s = c .before .before .before .before .before .before .standing in
+    let t = c .before .before .before .before .before .hear in
+    let z = c .before .before .before .trip .given in
+    let sent = lookOf true (a .number .0) (a .channel) in
+    let queued = lookOf false (a .number .0) (a .channel) in
+    heard-by (a .settings) (a .channel) (a .number .0) (a .sent) (a .clock) p (worthsOf p) refl (k .result) (by-worths q) (c .before .before .before .before .before .before .before .before .before .enum-told .given .1)
+    (t .result) (trip-is p (s .result) (s .ensures) (a .clock) (a .sent) (t .result) (t .ensures)) (z .0 .0) (z .1) (map sent (p .outgoing))
+    (map queued (p .outgoing)) (length-map (p .outgoing) sent ∙ pool-size (a .words .now)) (spotIn (p .outgoing) (a .number .0) (a .channel) (p .lists)) refl refl refl
+    (c .heard .result) (whole (c .heard .last .0)) (c .heard .ensures)
+
+pub acknowledge-spec : {M : Type 1} → statement M
+acknowledge-spec =
+    tie.close
+    (tie.spec
+    ask-requires
+    enum-known-gate
+    returns
+    enum-told
+    standing-requires
+    hear-requires
+    enum-known-trip
+    enum-told-2
+    returns-2
+    heard-requires
+    returns-3)
