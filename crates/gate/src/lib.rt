@@ -1,14 +1,33 @@
 // The gate of every call on the lent record: settings and store (11), then the record (13). Nothing is copied: a slot is asked where a list names it.
+mod incoming;
+mod outgoing;
+
 ghost use mathlib.Core.Path.{_≡_};
 ghost use lib.ListN.{length};
+ghost use Rattle.lists.specs.Rows.{low};
+ghost use Rattle.parts.specs.Damage.{ranged};
 ghost use Rattle.peer.specs.Damage.{sound};
 ghost use Rattle.peer.specs.Gate.{fits, gateOf};
 ghost use Rattle.places.specs.Whole.{whole, recordLength};
+use numbers::consts;
 use numbers::refusals::Refusal;
+use parts::groups::CHANNELS;
 use parts::groups::STORE;
 use peer::gate::Gate;
 use peer::gate::Lent;
 use peer::settings::Settings;
+
+// Where the record has its channel count and its MTU.
+const COUNT: usize = 6;
+
+const MTU: usize = 39;
+
+// A length or a cell of a list as it is read.
+fn narrow(x: u32) -> usize
+    ensures { λ r. ⌜ r ≡ low x ⌝ }
+{
+    (x % 65536) as usize
+}
 
 fn is_fit(settings: Settings, lent: Lent) -> bool
     ensures { λ r. ⌜ r ≡ fits settings lent ⌝ }
@@ -38,10 +57,30 @@ pub fn ask(words: &[u32], settings: Settings, lent: Lent) -> Gate
     Gate::Open
 }
 
+// "MTU or channel count (0 to 8) out of range"
+fn is_ranged(mtu: u32, count: u32) -> bool
+    ensures { λ r. ⌜ r ≡ ranged mtu count ⌝ }
+{
+    if mtu < consts::PROTOCOL_MINIMUM_MTU {
+        return false;
+    }
+    if consts::PROTOCOL_MAXIMUM_MTU < mtu {
+        return false;
+    }
+    count as usize <= CHANNELS
+}
+
 // Document 01's "damaged", turned round.
 pub fn is_sound(words: &[u32]) -> bool
     requires { ⌜ length (now words) ≡ recordLength ⌝ }
     ensures { λ r. ⌜ r ≡ sound (whole (now (words .entry))) ⌝ }
 {
-    true
+    let count = words[COUNT];
+    if !is_ranged(words[MTU], count) {
+        return false;
+    }
+    if !outgoing::is_sound(words, count) {
+        return false;
+    }
+    incoming::is_sound(words, count)
 }

@@ -1,0 +1,12 @@
+-- `is_enough` asks for the list: the answer picks the bound.
+use Rattle.gate.proofs.outgoing.is_enough.Statement.{statement}
+use Rattle.gate.proofs.outgoing.is_enough.Tie as tie
+
+returns : tie.Need-returns
+returns c = rw (c .if1 .taken)
+
+returns-2 : tie.Need-returns-2
+returns-2 c = rw (c .if1 .left)
+
+pub is-enough-spec : {M : Type 1} → statement M
+is-enough-spec = tie.close (tie.spec returns returns-2)

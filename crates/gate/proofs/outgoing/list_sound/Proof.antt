@@ -1,0 +1,196 @@
+-- A turn of the walk at a time: each return is where the list, the cell or the slot says so.
+use Prim.Native.Nat.{ℕ, _-_, _≤_}
+use mathlib.Core.Path.{_≡_, sym, ap, _∙_}
+use mathlib.Core.Bool.{true, false}
+use mathlib.Core.List.{List, map}
+use native.Mathlib.Omega.{arith}
+use lib.ListN.{length, length-set}
+use borrow.Author.Needs.{needs}
+use borrow.Author.Tests.{not-true, not-false}
+use Rattle.lists.specs.Rows.{rowAt, itemsOf}
+use Rattle.damage.specs.Walks.{worthOf, worthPasses, enough}
+use Rattle.parts.specs.declared.groups.Outgoing.{Outgoing}
+use Rattle.places.specs.Whole.{whole}
+use Rattle.gate.proofs.Turns.{Listed, Left, long, end, past, twice, unfit, turn}
+use Rattle.places.proofs.PoolLaws.{pool-is}
+use Rattle.gate.proofs.outgoing.list_sound.Statement.{statement}
+use Rattle.gate.proofs.outgoing.list_sound.Tie as tie
+
+abbrev Inv-loop : tie.InvT-loop
+Inv-loop words at count sent marks₀ n from j₀ marks j =
+    (j ≤ n) × (length marks ≡ 32) × Left (worthPasses (map (worthOf count) (whole words .outgoing)) sent) marks₀ (itemsOf (rowAt at 32 words)) marks j
+
+abbrev μ-loop : tie.MeasureT-loop
+μ-loop words at count sent marks₀ n from j₀ marks j = n - j
+
+mul-narrow : tie.Need-mul-narrow Inv-loop μ-loop
+mul-narrow c = search needs
+
+shared-slice-read-narrow : tie.Need-shared-slice-read-narrow Inv-loop μ-loop
+shared-slice-read-narrow c = search needs
+
+narrow-requires : tie.Need-narrow-requires Inv-loop μ-loop
+narrow-requires c κs = search needs
+
+returns : tie.Need-returns Inv-loop μ-loop
+returns c =
+    let b = c .before .before .before .before .before in
+    let a = b .args in
+    let ws = a .words .now in
+    let v = c .before .narrow in
+    let f = worthPasses (map (worthOf (a .count)) (whole ws .outgoing)) (a .sent) in
+    let i : Listed ws (a .at) 32 (v .result) = record { room = omega (arith, b .pre .0, b .pre .1 .0); is = v .ensures } in
+    long f ws (a .at) 32 (v .result) i (a .marks .now) (a .marks .now) (c .if1 .taken)
+
+add-from : tie.Need-add-from Inv-loop μ-loop
+add-from c = search needs
+
+loop-holds : tie.Need-loop-holds Inv-loop μ-loop
+loop-holds c = search needs
+
+add-narrow : tie.Need-add-narrow Inv-loop μ-loop
+add-narrow c = search needs
+
+mul-narrow-2 : tie.Need-mul-narrow-2 Inv-loop μ-loop
+mul-narrow-2 c = search needs
+
+shared-slice-read-narrow-2 : tie.Need-shared-slice-read-narrow-2 Inv-loop μ-loop
+shared-slice-read-narrow-2 c = search needs
+
+narrow-requires-2 : tie.Need-narrow-requires-2 Inv-loop μ-loop
+narrow-requires-2 c κs = search needs
+
+same-length : tie.Need-same-length Inv-loop μ-loop
+same-length c = search needs
+
+returns-2 : tie.Need-returns-2 Inv-loop μ-loop
+returns-2 c =
+    let b = c .before .before .before .before .before .before .before .before .before .before in
+    let a = b .args in
+    let ws = a .words .now in
+    let v = c .before .before .before .before .before .before .narrow in
+    let f = worthPasses (map (worthOf (a .count)) (whole ws .outgoing)) (a .sent) in
+    let i : Listed ws (a .at) 32 (v .result) = record { room = omega (arith, b .pre .0, b .pre .1 .0); is = v .ensures } in
+    let m = c .before .before .before .before .loop in
+    let s = c .before .narrow2 in
+    past f ws (a .at) 32 (v .result) i (omega arith) (a .marks .now) (m .marks) (m .j) (m .inv .2) (omega arith) (s .result) (s .ensures) (omega arith)
+
+slice-read-if3 : tie.Need-slice-read-if3 Inv-loop μ-loop
+slice-read-if3 c = search needs
+
+same-length-2 : tie.Need-same-length-2 Inv-loop μ-loop
+same-length-2 c = search needs
+
+returns-3 : tie.Need-returns-3 Inv-loop μ-loop
+returns-3 c =
+    let b = c .before .before .before .before .before .before .before .before .before .before .before .before in
+    let a = b .args in
+    let ws = a .words .now in
+    let v = c .before .before .before .before .before .before .before .before .narrow in
+    let f = worthPasses (map (worthOf (a .count)) (whole ws .outgoing)) (a .sent) in
+    let i : Listed ws (a .at) 32 (v .result) = record { room = omega (arith, b .pre .0, b .pre .1 .0); is = v .ensures } in
+    let m = c .before .before .before .before .before .before .loop in
+    let s = c .before .before .before .narrow2 in
+    twice f ws (a .at) 32 (v .result) i (omega arith) (a .marks .now) (m .marks) (m .j) (m .inv .2) (omega arith) (s .result) (s .ensures) (omega arith) (c .if3 .taken)
+
+sub-grade-at : tie.Need-sub-grade-at Inv-loop μ-loop
+sub-grade-at c = search needs
+
+part-grade-at-start : tie.Need-part-grade-at-start Inv-loop μ-loop
+part-grade-at-start c = search needs
+
+part-grade-at-end : tie.Need-part-grade-at-end Inv-loop μ-loop
+part-grade-at-end c = search needs
+
+grade-at-requires : tie.Need-grade-at-requires Inv-loop μ-loop
+grade-at-requires c κs = search needs
+
+is-enough-requires : tie.Need-is-enough-requires Inv-loop μ-loop
+is-enough-requires c κs = search needs
+
+same-length-3 : tie.Need-same-length-3 Inv-loop μ-loop
+same-length-3 c = search needs
+
+returns-4 : tie.Need-returns-4 Inv-loop μ-loop
+returns-4 c =
+    let b = c .before .before .before .before .before .before .before .before .before .before .before .before .before .before .before .before in
+    let a = b .args in
+    let ws = a .words .now in
+    let v = c .before .before .before .before .before .before .before .before .before .before .before .before .narrow in
+    let f = worthPasses (map (worthOf (a .count)) (whole ws .outgoing)) (a .sent) in
+    let i : Listed ws (a .at) 32 (v .result) = record { room = omega (arith, b .pre .0, b .pre .1 .0); is = v .ensures } in
+    let m = c .before .before .before .before .before .before .before .before .before .before .loop in
+    let s = c .before .before .before .before .before .before .before .narrow2 in
+    let bad : f (s .result) ≡ false = ap (λ (o : List Outgoing). worthPasses (map (worthOf (a .count)) o) (a .sent) (s .result)) (pool-is ws) ∙ ap (λ (w : ℕ). enough w (a .sent)) (sym (c .before .before .grade-at .ensures)) ∙ sym (c .before .is-enough .ensures) ∙ not-true (c .before .is-enough .result) (c .if4 .taken) in
+    unfit f ws (a .at) 32 (v .result) i (omega arith) (a .marks .now) (m .marks) (m .j) (m .inv .2) (omega arith) (s .result) (s .ensures) (omega arith) (c .before .before .before .before .if3 .left) bad
+
+slice-write-marks : tie.Need-slice-write-marks Inv-loop μ-loop
+slice-write-marks c = search needs
+
+add-j : tie.Need-add-j Inv-loop μ-loop
+add-j c = search needs
+
+loop-less : tie.Need-loop-less Inv-loop μ-loop
+loop-less c = search needs
+
+loop-again : tie.Need-loop-again Inv-loop μ-loop
+loop-again c =
+    let b = c .before .before .before .before .before .before .before .before .before .before .before .before .before .before .before .before in
+    let a = b .args in
+    let ws = a .words .now in
+    let v = c .before .before .before .before .before .before .before .before .before .before .before .before .narrow in
+    let f = worthPasses (map (worthOf (a .count)) (whole ws .outgoing)) (a .sent) in
+    let i : Listed ws (a .at) 32 (v .result) = record { room = omega (arith, b .pre .0, b .pre .1 .0); is = v .ensures } in
+    let m = c .before .before .before .before .before .before .before .before .before .before .loop in
+    let s = c .before .before .before .before .before .before .before .narrow2 in
+    let good : f (s .result) ≡ true = ap (λ (o : List Outgoing). worthPasses (map (worthOf (a .count)) o) (a .sent) (s .result)) (pool-is ws) ∙ ap (λ (w : ℕ). enough w (a .sent)) (sym (c .before .before .grade-at .ensures)) ∙ sym (c .before .is-enough .ensures) ∙ not-false (c .before .is-enough .result) (c .if4 .left) in
+    (omega arith, simp length-set (m .inv .1), turn f ws (a .at) 32 (v .result) i (omega arith) (a .marks .now) (m .marks) (m .j) (m .inv .2) (omega arith) (s .result) (s .ensures) (omega arith) (c .before .before .before .before .if3 .left) good)
+
+same-length-4 : tie.Need-same-length-4 Inv-loop μ-loop
+same-length-4 c = search needs
+
+returns-5 : tie.Need-returns-5 Inv-loop μ-loop
+returns-5 c =
+    let b = c .before .before .before .before .before .before .before in
+    let a = b .args in
+    let ws = a .words .now in
+    let v = c .before .before .before .narrow in
+    let f = worthPasses (map (worthOf (a .count)) (whole ws .outgoing)) (a .sent) in
+    let i : Listed ws (a .at) 32 (v .result) = record { room = omega (arith, b .pre .0, b .pre .1 .0); is = v .ensures } in
+    let m = c .before .loop in
+    end f ws (a .at) 32 (v .result) i (omega arith) (a .marks .now) (m .marks) (m .j) (m .inv .2) (omega arith)
+
+pub list-sound-spec : {M : Type 1} → statement M
+list-sound-spec =
+    tie.close
+    (tie.spec
+    Inv-loop
+    μ-loop
+    mul-narrow
+    shared-slice-read-narrow
+    narrow-requires
+    returns
+    add-from
+    loop-holds
+    add-narrow
+    mul-narrow-2
+    shared-slice-read-narrow-2
+    narrow-requires-2
+    same-length
+    returns-2
+    slice-read-if3
+    same-length-2
+    returns-3
+    sub-grade-at
+    part-grade-at-start
+    part-grade-at-end
+    grade-at-requires
+    is-enough-requires
+    same-length-3
+    returns-4
+    slice-write-marks
+    add-j
+    loop-less
+    loop-again
+    same-length-4
+    returns-5)
