@@ -1,6 +1,5 @@
 -- The lists of the record by name, and where they stand among the lent numbers.
 use Prim.Native.Nat.{ℕ, _+_, _*_}
-use mathlib.Core.List.{List}
 use lib.ListN.{set}
 use Rattle.slots.specs.declared.outgoing.OutList.{OutList}
 use Rattle.slots.specs.declared.incoming.InList.{InList}

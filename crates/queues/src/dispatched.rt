@@ -1,8 +1,8 @@
 // The packets that receive will hand out, oldest first.
 ghost use mathlib.Core.Path.{_≡_};
 ghost use mathlib.Core.List.{map};
-ghost use lib.ListN.{length, take};
-ghost use Rattle.runs.specs.Runs.{first, without, movedTo};
+ghost use lib.ListN.{length};
+ghost use Rattle.runs.specs.Runs.{first, movedTo};
 ghost use Rattle.runs.specs.Free.{markedAll};
 ghost use Rattle.slots.specs.Lists.{incoming, inItems, inKeep};
 ghost use Rattle.lists.specs.Rows.{low};

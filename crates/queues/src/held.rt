@@ -10,8 +10,8 @@ ghost use Rattle.lists.specs.Rows.{low};
 ghost use Rattle.parts.specs.Sizes.{channels};
 ghost use Rattle.places.specs.Whole.{whole, recordLength};
 ghost use Rattle.queues.specs.Queues.{heldOf, heldPlace, putHeld};
-use places::CHANNELS;
 use places::CHANNEL_WIDTH;
+use places::CHANNELS;
 use places::HELD;
 use slots::INCOMING;
 

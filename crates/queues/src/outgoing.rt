@@ -3,7 +3,7 @@ ghost use mathlib.Core.Path.{_≡_};
 ghost use mathlib.Core.List.{map};
 ghost use Prim.Native.Nat.{_≤_};
 ghost use lib.ListN.{length, getD, take};
-ghost use Rattle.runs.specs.Runs.{first, pushed, without, prepended};
+ghost use Rattle.runs.specs.Runs.{first, without, prepended};
 ghost use Rattle.runs.specs.Free.{markedAll};
 ghost use Rattle.slots.specs.Lists.{outgoing, outItems, outKeep};
 ghost use Rattle.lists.specs.Rows.{low};
