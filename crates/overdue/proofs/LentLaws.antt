@@ -1,6 +1,6 @@
 -- The lent record: a turn's numbers and slot are the rule's; the sent list fits its cells and is read as it is; the slots that bear a mark, gathered into a
 -- run of their own; the three lists put one after the other are the rule's. The argument: each step's own equation, in the order of the steps.
-use Prim.Native.Nat.{ℕ, _≤_, _<_, _%_}
+use Prim.Native.Nat.{ℕ, _≤_, _%_}
 use mathlib.Core.Path.{_≡_, refl, ap, sym, _∙_}
 use mathlib.Core.Bool.{Bool, true, false}
 use mathlib.Core.List.{List, [], _∷_, map}
@@ -14,7 +14,6 @@ use Rattle.slots.specs.Lists.{outgoing, outItems, outKeep}
 use Rattle.slots.proofs.Views.{view-over}
 use Rattle.lists.specs.Rows.{low, section, lenOf, cellsOf}
 use Rattle.lists.proofs.Mapped.{map-take}
-use Rattle.parts.specs.Fresh.{noOutgoing}
 use Rattle.parts.specs.Updates.{withAttempt, withTimeout}
 use Rattle.parts.specs.declared.groups.Limits.{Limits}
 use Rattle.parts.specs.declared.groups.Outgoing.{Outgoing}

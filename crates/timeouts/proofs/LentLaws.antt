@@ -2,13 +2,18 @@
 -- The argument: each step's own equation, in the order of the steps; behind the gate the record is the rule's.
 use Prim.Native.Nat.{ℕ, _+_, _≤_, _<_}
 use mathlib.Core.Path.{_≡_, refl, ap, sym, subst, _∙_}
-use mathlib.Core.List.{List, [], _∷_}
+use mathlib.Core.Bool.{Bool, true, false}
+use mathlib.Core.List.{List, _∷_}
 use native.Mathlib.Numerals.{add-one}
 use native.Mathlib.Omega.{arith}
-use lib.ListN.{length, take, drop, getD, set, drop-of-length-le}
+use lib.Dec.{leb}
+use lib.ListN.{length, take, drop, getD, set, length-take, length-drop, length-map, drop-of-length-le}
 use lib.Seq.{drop-cons}
+use borrow.Author.Tests.{leb-true}
+use Rattle.numbers.specs.Pick.{pick, both}
 use Rattle.numbers.specs.declared.refusals.Refusal.{Refusal}
-use Rattle.slots.specs.Lists.{outgoing, outItems}
+use Rattle.numbers.proofs.BoolLaws.{both-left, both-right}
+use Rattle.slots.specs.Lists.{outgoing, incoming, outItems}
 use Rattle.parts.specs.Fresh.{noOutgoing}
 use Rattle.parts.specs.Updates.{withTimeouts, withPacketsLost, withTransit}
 use Rattle.parts.specs.declared.groups.Times.{Times}
@@ -16,7 +21,6 @@ use Rattle.parts.specs.declared.groups.Loss.{Loss}
 use Rattle.parts.specs.declared.groups.Flow.{Flow}
 use Rattle.parts.specs.declared.groups.Limits.{Limits}
 use Rattle.parts.specs.declared.groups.Lists.{Lists}
-use Rattle.parts.specs.declared.groups.Outgoing.{Outgoing}
 use Rattle.peer.specs.Damage.{sound}
 use Rattle.peer.specs.Gate.{fits, gateOf}
 use Rattle.peer.specs.Outcome.{Came}
@@ -26,12 +30,14 @@ use Rattle.peer.specs.declared.record.Peer.{Peer}
 use Rattle.peer.specs.declared.gate.Gate.{Gate}
 use Rattle.peer.specs.declared.gate.Gate.the-variants.{Open, Shut}
 use Rattle.peer.specs.declared.gate.Lent.the-variants.{Nothing}
-use Rattle.gate.proofs.Asked.{Asked, asked-shut, asked-open}
+use Rattle.peer.proofs.Clauses.{sound-clauses}
+use Rattle.places.specs.Whole.{whole, recordLength, made, parts, sizes}
+use Rattle.gate.proofs.Asked.{Asked, asked-shut, asked-sound, asked-open}
 use Rattle.overdue.specs.Walking.{Walked, walked, turnBy, atEntry, listsBy}
 use Rattle.overdue.proofs.Laws.{lists-within}
+use Rattle.overdue.proofs.Staying.{walked-stays, lists-stay}
 use Rattle.overdue.specs.declared.step.Walk.{Walk}
-use Rattle.overdue.specs.declared.turn.Turned.{Turned}
-use Rattle.timeouts.specs.Calls.{answerOf, replyBy, walkOf, walkedOn, checksSound, checks}
+use Rattle.timeouts.specs.Calls.{answerOf, replyBy, walkOf, checksSound, checks}
 use Rattle.timeouts.specs.declared.Reply.{Reply}
 use Rattle.timeouts.specs.declared.Reply.the-variants as vr
 use Rattle.timeouts.proofs.Walk.{Going, going-turn, going-end}
@@ -92,8 +98,42 @@ settle-is p x y z w t l f te le fe a b c =
     ∙ ap (λ (g : Loss). withLoss x (withPacketsLost g (w .lost))) le
     ∙ ap (λ (q : Peer). withLoss q (withPacketsLost (p .loss) (w .lost))) (a ∙ ap (λ (g : Times). withTimes p (withTimeouts g (w .next) (w .earliest))) te))
 
+-- ---- a walk that sent none back: the lists of a sound record are as they were
+module _ (ws : List ℕ) (long : length ws ≡ recordLength) (clock : ℕ) where
+  sent-cells : length (whole ws .lists .sent .slots) ≡ outgoing
+  unfolding made parts sizes
+  sent-cells = simp (length-map, length-drop, length-take) (omega arith)
+
+  reliable-cells : length (whole ws .lists .reliable .slots) ≡ outgoing
+  unfolding made parts sizes
+  reliable-cells = simp (length-map, length-drop, length-take) (omega arith)
+
+  outgoing-cells : length (whole ws .lists .outgoing .slots) ≡ outgoing
+  unfolding made parts sizes
+  outgoing-cells = simp (length-map, length-drop, length-take) (omega arith)
+
+  pub none-back : sound (whole ws) ≡ true → walkOf clock (whole ws) .walk .back ≡ false → listsBy (walkOf clock (whole ws) .marks) (whole ws .lists) ≡ whole ws .lists
+  none-back h b =
+      let p = whole ws in
+      let l = p .lists in
+      let s = leb (l .sent .len) outgoing in
+      let r = leb (l .reliable .len) outgoing in
+      let o = leb (l .outgoing .len) outgoing in
+      let d = leb (l .dispatched .len) incoming in
+      let fit = sound-clauses p h .lists in
+      let rest = both-right s (both r (both o d)) fit in
+      let sent = leb-true (l .sent .len) outgoing (both-left s (both r (both o d)) fit) in
+      let reliable = leb-true (l .reliable .len) outgoing (both-left r (both o d) rest) in
+      let out = leb-true (l .outgoing .len) outgoing (both-left o d (both-right r (both o d) rest)) in
+      lists-stay (walkOf clock p .marks) l
+      (walked-stays (p .limits) clock (outItems (l .sent)) (atEntry (p .times) (p .loss) (p .flow)) (p .outgoing) b .1)
+      (omega (arith, sent, sent-cells)) (omega (arith, reliable, reliable-cells)) (omega (arith, out, outgoing-cells))
+
 -- ---- the whole check: g is what the gate answered, w and marks what the walk gave, x, y and z the records after walk, lists and numbers
-module _ (s : Settings) (clock : ℕ) (p : Peer) (g : Gate) (is : g ≡ gateOf (fits s Nothing) (sound p)) where
+module _ (s : Settings) (clock : ℕ) (ws : List ℕ) (g : Gate) (is : g ≡ gateOf (fits s Nothing) (sound (whole ws))) where
+  abbrev p : Peer
+  p = whole ws
+
   abbrev asked : Asked
   asked = record { settings = s; lent = Nothing; peer = p; gate = g; is = is }
 
@@ -103,19 +143,35 @@ module _ (s : Settings) (clock : ℕ) (p : Peer) (g : Gate) (is : g ≡ gateOf (
   pub check-shut : (why : Refusal) → g ≡ Shut why → Came answerOf (checks s clock p) (vr.Refused why) p
   check-shut why q = asked-shut asked p (checksSound clock p) answerOf (vr.Refused why) why refl q
 
-  pub check-went : g ≡ Open → (w : Walk) (marks : List ℕ) (x y z : Peer) (reply : Reply) → w ≡ walkOf clock p .walk → take n marks ≡ walkOf clock p .marks
-      → x ≡ withOutgoing p (walkOf clock p .slots) → y ≡ withLists x (listsBy marks (x .lists)) → z ≡ settled y w → reply ≡ replyBy (w .over)
-      → Came answerOf (checks s clock p) reply z
-  check-went opens w marks x y z reply we me xe ye ze re =
-      let v = walkOf clock p in
-      let lists : listsBy marks (p .lists) ≡ listsBy (v .marks) (p .lists) =
-      sym (lists-within n marks (p .lists) (omega arith)) ∙ ap (λ (ms : List ℕ). listsBy ms (p .lists)) me in
-      asked-open asked p (checksSound clock p) answerOf reply z opens
-      (record {
-        answer = ap answerOf re ∙ ap (λ (u : Walk). answerOf (replyBy (u .over))) we;
-        after =
-            ze
-            ∙ ap (λ (q : Peer). settled q w) (ye ∙ ap (λ (q : Peer). withLists q (listsBy marks (q .lists))) xe)
-            ∙ ap (λ (l : Lists). settled (withLists (withOutgoing p (v .slots)) l) w) lists
-            ∙ ap (λ (u : Walk). settled (withLists (withOutgoing p (v .slots)) (listsBy (v .marks) (p .lists))) u) we;
-      })
+  module _ (opens : g ≡ Open) (w : Walk) (marks : List ℕ) (we : w ≡ walkOf clock p .walk) (me : take n marks ≡ walkOf clock p .marks)
+      (x : Peer) (xe : x ≡ withOutgoing p (walkOf clock p .slots)) where
+    abbrev v : Walked
+    v = walkOf clock p
+
+    lists : listsBy marks (p .lists) ≡ listsBy (v .marks) (p .lists)
+    lists = sym (lists-within n marks (p .lists) (omega arith)) ∙ ap (λ (ms : List ℕ). listsBy ms (p .lists)) me
+
+    -- the lists are divided, where one went back
+    divided : length ws ≡ recordLength → pick (w .back) (withLists x (listsBy marks (x .lists))) x ≡ withLists x (listsBy marks (x .lists))
+    divided long = go (w .back) refl
+      where
+        go : (b : Bool) → w .back ≡ b → pick b (withLists x (listsBy marks (x .lists))) x ≡ withLists x (listsBy marks (x .lists))
+        go true e = refl
+        go false e =
+            let none = none-back ws long clock (asked-sound asked opens) (ap (λ (u : Walk). u .back) (sym we) ∙ e) in
+            let same : listsBy marks (x .lists) ≡ x .lists =
+            ap (λ (q : Peer). listsBy marks (q .lists)) xe ∙ lists ∙ none ∙ ap (λ (q : Peer). q .lists) (sym xe) in
+            ap (withLists x) (sym same)
+
+    pub check-went : length ws ≡ recordLength → (y z : Peer) (reply : Reply) → y ≡ pick (w .back) (withLists x (listsBy marks (x .lists))) x
+        → z ≡ settled y w → reply ≡ replyBy (w .over) → Came answerOf (checks s clock p) reply z
+    check-went long y z reply ye ze re =
+        asked-open asked p (checksSound clock p) answerOf reply z opens
+        (record {
+          answer = ap answerOf re ∙ ap (λ (u : Walk). answerOf (replyBy (u .over))) we;
+          after =
+              ze
+              ∙ ap (λ (q : Peer). settled q w) (ye ∙ divided long ∙ ap (λ (q : Peer). withLists q (listsBy marks (q .lists))) xe)
+              ∙ ap (λ (l : Lists). settled (withLists (withOutgoing p (v .slots)) l) w) lists
+              ∙ ap (λ (u : Walk). settled (withLists (withOutgoing p (v .slots)) (listsBy (v .marks) (p .lists))) u) we;
+        })

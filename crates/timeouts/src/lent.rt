@@ -1,12 +1,13 @@
 // The timeout check on the record that the caller lends.
 ghost use mathlib.Core.Path.{_≡_};
 ghost use lib.ListN.{length, take};
+ghost use Rattle.numbers.specs.Pick.{pick};
 ghost use Rattle.slots.specs.Lists.{outItems};
 ghost use Rattle.parts.specs.Updates.{withTimeouts, withPacketsLost, withTransit};
 ghost use Rattle.peer.specs.Outcome.{Came};
-ghost use Rattle.peer.specs.Updates.{withChecked, withOutgoing};
+ghost use Rattle.peer.specs.Updates.{withChecked, withLists, withOutgoing};
 ghost use Rattle.places.specs.Whole.{whole, recordLength};
-ghost use Rattle.overdue.specs.Walking.{atEntry};
+ghost use Rattle.overdue.specs.Walking.{atEntry, listsBy};
 ghost use Rattle.timeouts.specs.Calls.{answerOf, walkOf, checks};
 use crate::Reply;
 use crate::reply_of;
@@ -62,6 +63,16 @@ fn walk(words: &mut [u32], clock: u32) -> Marked
     Marked { walk: w, marks }
 }
 
+// Where one went back: what stays is sent, the others go before what stood in their list.
+fn divide(words: &mut [u32], back: bool, marks: [u8; OUTGOING])
+    requires { ⌜ length (now words) ≡ recordLength ⌝ }
+    ensures { λ _. ⌜ whole (now (words .exit)) ≡ pick back (withLists (whole (now (words .entry))) (listsBy marks (whole (now (words .entry)) .lists))) (whole (now (words .entry))) ⌝ }
+{
+    if back {
+        send_back(words, marks);
+    }
+}
+
 // Times, loss and flow get the walk's numbers.
 fn settle(words: &mut [u32], w: Walk)
     requires { ⌜ length (now words) ≡ recordLength ⌝ }
@@ -90,7 +101,7 @@ pub fn check(words: &mut [u32; RECORD], settings: Settings, clock: u32) -> Reply
     let m = walk(words, clock);
     let w = m.walk;
     let marks = m.marks;
-    send_back(words, marks);
+    divide(words, w.back, marks);
     settle(words, w);
     reply_of(w.over)
 }

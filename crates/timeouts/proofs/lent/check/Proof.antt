@@ -1,6 +1,9 @@
--- `check` meets its contract: it passes the gate; then walk, lists and numbers one after the other leave the rule's record.
+-- `check` meets its contract: it passes the gate; then walk, lists and numbers one after the other leave the rule's record. Lists that the walk does not divide
+-- are the rule's too, since the record is sound.
+use mathlib.Core.Path.{_≡_}
+use lib.ListN.{length}
 use borrow.Author.Needs.{needs}
-use Rattle.places.specs.Whole.{whole}
+use Rattle.places.specs.Whole.{whole, recordLength}
 use Rattle.timeouts.proofs.LentLaws.{check-shut, check-went}
 use Rattle.timeouts.proofs.lent.check.Statement.{statement}
 use Rattle.timeouts.proofs.lent.check.Tie as tie
@@ -16,7 +19,7 @@ returns c =
     let g = c .before .before .before in
     let a = g .before .before .before .args in
     let k = c .before .gate .given in
-    check-shut (a .settings) (a .clock) (whole (a .words .now)) (g .ask .result) (g .ask .ensures) (k .0 .0) (k .1)
+    check-shut (a .settings) (a .clock) (a .words .now) (g .ask .result) (g .ask .ensures) (k .0 .0) (k .1)
 
 enum-told : tie.Need-enum-told
 enum-told c = search needs
@@ -24,8 +27,8 @@ enum-told c = search needs
 walk-requires : tie.Need-walk-requires
 walk-requires c κs = search needs
 
-send-back-requires : tie.Need-send-back-requires
-send-back-requires c κs = search needs
+divide-requires : tie.Need-divide-requires
+divide-requires c κs = search needs
 
 settle-requires : tie.Need-settle-requires
 settle-requires c κs = search needs
@@ -42,9 +45,10 @@ returns-2 c =
     let g = o .before .before in
     let a = g .before .before .before .args in
     let w = x .walk .result in
-    check-went (a .settings) (a .clock) (whole (a .words .now)) (g .ask .result) (g .ask .ensures) (o .enum-told .given .1) (w .walk) (w .marks)
-    (whole (x .walk .last .0)) (whole (y .send-back .last .0)) (whole (z .settle .last .0)) (c .reply-of .result)
-    (x .walk .ensures .0) (x .walk .ensures .1 .0) (x .walk .ensures .1 .1) (y .send-back .ensures) (z .settle .ensures) (c .reply-of .ensures)
+    let long : length (a .words .now) ≡ recordLength = search needs in
+    check-went (a .settings) (a .clock) (a .words .now) (g .ask .result) (g .ask .ensures) (o .enum-told .given .1) (w .walk) (w .marks)
+    (x .walk .ensures .0) (x .walk .ensures .1 .0) (whole (x .walk .last .0)) (x .walk .ensures .1 .1) long
+    (whole (y .divide .last .0)) (whole (z .settle .last .0)) (c .reply-of .result) (y .divide .ensures) (z .settle .ensures) (c .reply-of .ensures)
 
 pub check-spec : {M : Type 1} → statement M
 check-spec =
@@ -55,7 +59,7 @@ check-spec =
     returns
     enum-told
     walk-requires
-    send-back-requires
+    divide-requires
     settle-requires
     reply-of-requires
     returns-2)
