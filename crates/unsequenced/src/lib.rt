@@ -1,4 +1,6 @@
 // The unsequenced arrival.
+pub mod lent;
+
 ghost use mathlib.Core.Path.{_≡_};
 ghost use Rattle.peer.specs.Outcome.{Came};
 ghost use Rattle.arriving.specs.Arrivals.{answerOf};
