@@ -31,7 +31,8 @@ fn judge(words: &mut [u32], settings: Settings, group: Group) -> Fate
     let standing = groups::standing(words);
     let waiting = groups::waiting(words);
     let room = arriving::room(settings, standing.state, waiting.total, free);
-    let judged = arriving::judge(window::groups(words), group, room);
+    let own = window::groups(words);
+    let judged = arriving::judge(own, group, room);
     let after = judged.groups;
     window::put_groups(words, after);
     judged.fate
@@ -43,7 +44,8 @@ fn deliver(words: &mut [u32], store: &mut [u8], s: u16, datagram: &[u8], a: Arri
     ensures { λ _. ⌜ whole (now (words .exit)) ≡ withArrival (whole (now (words .entry))) (delivered (whole (now (words .entry)) .lists) s) (whole (now (words .entry)) .groups) (awaiting (whole (now (words .entry)) .waiting) (a .length)) (whole (now (words .entry)) .channels) (set (whole (now (words .entry)) .incoming) s (arrivedSlot a)) ⌝ }
     ensures { λ _. ⌜ now (store .exit) ≡ filled (now (store .entry)) s (now (datagram .entry)) (a .place) (a .length) ⌝ }
 {
-    let kept = arriving::keep(store, s, datagram, a, groups::waiting(words));
+    let old = groups::waiting(words);
+    let kept = arriving::keep(store, s, datagram, a, old);
     let slot = kept.slot;
     let waiting = kept.waiting;
     dispatched::push(words, s);

@@ -32,8 +32,8 @@ returns c =
     let v = z .before .before .before .before in
     let u = v .before .before .before .before in
     let k = u .before .before .before .before .before .before in
-    let w = k .before in
-    let a = w .before .before .before .before .before .before .args in (
+    let w = k .before .before in
+    let a = w .before .before .before .before .before .args in (
       delivered-lent (whole (a .words .now)) (whole (u .push .last .0)) (whole (v .put-incoming .last .0)) (whole (z .put-waiting .last .0)) (a .a) (a .s)
           (w .waiting .result) (k .keep .result .waiting) (k .keep .result .slot)
           (w .waiting .ensures) (k .keep .ensures .0) (k .keep .ensures .1 .0) (u .push .ensures) (v .put-incoming .ensures) (z .put-waiting .ensures),
