@@ -1,4 +1,6 @@
 // The unsequenced arrival.
+pub mod lent;
+
 ghost use mathlib.Core.Path.{_≡_};
 ghost use Rattle.peer.specs.Outcome.{Came};
 ghost use Rattle.arriving.specs.Arrivals.{answerOf};
@@ -8,9 +10,9 @@ use arriving::Arrived;
 use arriving::Fate;
 use arriving::Reply;
 use numbers::counters::Group;
-use peer::gate::pass;
 use peer::gate::Gate;
 use peer::gate::Lent;
+use peer::gate::pass;
 use peer::record::Peer;
 use peer::settings::Settings;
 
