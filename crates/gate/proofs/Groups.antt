@@ -1,11 +1,20 @@
 -- What the test reads of the record is where the numbers have it. The argument: the parts computed.
-use Prim.Native.Nat.{ℕ}
-use mathlib.Core.Path.{_≡_, refl}
+use Prim.Native.Nat.{ℕ, _+_, _*_, _%_, _<_}
+use mathlib.Core.Path.{_≡_, refl, ap, sym, _∙_}
 use mathlib.Core.List.{List}
-use lib.ListN.{getD}
+use native.Mathlib.Omega.{arith}
+use lib.ListN.{length, getD}
 use Rattle.lists.specs.Rows.{section, rowAt}
-use Rattle.pool.specs.Slots.{slotsOf}
-use Rattle.places.specs.Whole.{made, parts, numbers, sizes, whole, outListFrom, inListFrom}
+use Rattle.parts.specs.Fresh.{noIncoming}
+use Rattle.parts.specs.declared.groups.Lists.{Lists}
+use Rattle.parts.specs.declared.groups.Incoming.{Incoming}
+use Rattle.pool.specs.Rows.{rowAt as row}
+use Rattle.pool.specs.Slots.{inSlotFrom}
+use Rattle.pool.proofs.Rows.{rows-length, rows-at, row-at}
+use Rattle.places.specs.Whole.{made, parts, numbers, sizes, whole, outListFrom, inListFrom, channelFrom}
+use Rattle.places.proofs.Sections.{section-number}
+use Rattle.places.proofs.ChannelLaws.{channels-is}
+use Rattle.places.proofs.PoolLaws.{in-pool-is}
 
 module _ (ws : List ℕ) where
   pub mtu-is : whole ws .flow .mtu ≡ getD ws 39 0
@@ -16,11 +25,36 @@ module _ (ws : List ℕ) where
   unfolding made parts numbers sizes
   count-is = refl
 
-  pub outgoing-is : whole ws .outgoing ≡ slotsOf (section 330 832 ws)
-  unfolding made parts numbers sizes
-  outgoing-is = refl
-
   -- the outgoing half, by the rows of its lists
   pub lists-are : whole ws .lists ≡ record { sent = outListFrom (rowAt 43 32 ws); reliable = outListFrom (rowAt 76 32 ws); outgoing = outListFrom (rowAt 109 32 ws); dispatched = inListFrom (rowAt 142 12 ws) }
   unfolding made parts numbers sizes
   lists-are = refl
+
+  pub dispatched-is : whole ws .lists .dispatched ≡ inListFrom (rowAt 142 12 ws)
+  dispatched-is = ap (λ (l : Lists). l .dispatched) lists-are
+
+  pub total-is : whole ws .waiting .total ≡ getD ws 192 0
+  unfolding made parts numbers sizes
+  total-is = refl
+
+  pub channels-length : length (whole ws .channels) ≡ 8
+  channels-length = ap length (channels-is ws) ∙ rows-length channelFrom 17 8 (section 194 136 ws)
+
+  -- incoming slot s, and its number j
+  module _ (s : ℕ) (h : s < 12) where
+    slot-is : getD (whole ws .incoming) s noIncoming ≡ inSlotFrom (row 6 (section 1162 72 ws) s)
+    slot-is = ap (λ (l : List Incoming). getD l s noIncoming) (in-pool-is ws) ∙ rows-at inSlotFrom 6 12 (section 1162 72 ws) s noIncoming h
+
+    number-is : (j : ℕ) → j < 6 → getD (row 6 (section 1162 72 ws) s) j 0 ≡ getD ws (1162 + s * 6 + j) 0
+    number-is j b =
+        row-at 6 (section 1162 72 ws) s j b
+        ∙ section-number 1162 72 (s * 6 + j) ws (omega arith)
+        ∙ ap (λ (k : ℕ). getD ws k 0) (omega arith)
+
+    pub length-is : getD ws (1162 + s * 6 + 5) 0 ≡ getD (whole ws .incoming) s noIncoming .length
+    unfolding inSlotFrom
+    length-is = sym (ap (λ (i : Incoming). i .length) slot-is ∙ number-is 5 (omega arith))
+
+    pub channel-is : getD ws (1162 + s * 6 + 1) 0 % 256 ≡ getD (whole ws .incoming) s noIncoming .channel
+    unfolding inSlotFrom
+    channel-is = sym (ap (λ (i : Incoming). i .channel) slot-is ∙ ap (λ (x : ℕ). x % 256) (number-is 1 (omega arith)))

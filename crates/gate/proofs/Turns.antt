@@ -13,6 +13,9 @@ use Rattle.runs.specs.Free.{markedAll}
 use Rattle.runs.proofs.Views.{rest-step, rest-end}
 use Rattle.lists.specs.Rows.{low, lenOf, itemsOf, rowAt}
 use Rattle.lists.proofs.Placed.{row-is, items-length, item-at}
+use Rattle.parts.specs.Fresh.{noIncoming}
+use Rattle.parts.specs.Damage.{lengths}
+use Rattle.parts.specs.declared.groups.Incoming.{Incoming}
 use Rattle.held.specs.Walks.{passes}
 use Rattle.gate.specs.Halves.{Passes}
 
@@ -60,6 +63,10 @@ module _ (f : ℕ → Bool) (ws : List ℕ) (at n v : ℕ) (i : Listed ws at n v
           marks = λ q. sym (l .marks ∙ ap (markedAll m) e);
         }
 
+    pub summed-end : (slots : List Incoming) → v ≤ k → lengths slots (drop k items) ≡ 0
+    unfolding lengths
+    summed-end slots h = ap (lengths slots) (rest-end items k (omega (arith, length-is)))
+
     -- the slot s at place k
     module _ (h : k < v) (s : ℕ) (q : s ≡ low (getD ws (at + 1 + k) 0)) where
       there : k < length items
@@ -95,3 +102,7 @@ module _ (f : ℕ → Bool) (ws : List ℕ) (at n v : ℕ) (i : Listed ws at n v
               is = l .is ∙ rw (rest-step items k 0 there, slot-is, lt-ltb s (length m) p, ne-eqb (getD m s 0) 1 t, e);
               marks = l .marks ∙ rw (rest-step items k 0 there, slot-is);
             }
+
+      pub summed : (slots : List Incoming) → lengths slots (drop k items) ≡ getD slots s noIncoming .length + lengths slots (drop (k + 1) items)
+      unfolding lengths
+      summed slots = rw (rest-step items k 0 there, slot-is)

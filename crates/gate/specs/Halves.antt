@@ -1,17 +1,20 @@
 -- For functions inside the house alone: the damage test in the order in which the code asks, a list at a time, the outgoing half, then the incoming one.
 -- Nothing here need be believed: the contract of `is_sound` is the rule's own.
-use Prim.Native.Nat.{ℕ}
+use Prim.Native.Nat.{ℕ, _+_, _≤_}
 use mathlib.Core.Path.{_≡_}
 use mathlib.Core.Bool.{Bool, true}
-use mathlib.Core.List.{List, map}
+use mathlib.Core.List.{List, [], _∷_, map}
 use lib.Dec.{leb}
 use lib.ListN.{replicate}
 use Rattle.numbers.specs.Pick.{both}
 use Rattle.runs.specs.Free.{markedAll}
 use Rattle.lists.specs.Rows.{lenOf, itemsOf}
-use Rattle.slots.specs.Lists.{outgoing}
+use Rattle.slots.specs.Lists.{outgoing, incoming, inItems}
 use Rattle.parts.specs.declared.groups.Lists.{Lists}
-use Rattle.held.specs.Walks.{passes}
+use Rattle.parts.specs.declared.groups.Channel.{Channel}
+use Rattle.parts.specs.declared.groups.Incoming.{Incoming}
+use Rattle.parts.specs.Damage.{below, heldFit, lengths, inSound}
+use Rattle.held.specs.Walks.{passes, inPasses}
 use Rattle.damage.specs.Walks.{outPass, worthOf, worthPasses}
 use Rattle.peer.specs.declared.record.Peer.{Peer}
 
@@ -26,3 +29,21 @@ outFits l = both (leb (l .sent .len) outgoing) (both (leb (l .reliable .len) out
 -- the outgoing lists, and what they name
 abbrev pub outSide : ℕ → Peer → Bool
 outSide count p = both (outFits (p .lists)) (outPass (worthPasses (map (worthOf count) (p .outgoing))) (p .lists) 3 0 (replicate outgoing 0))
+
+-- the lengths that a walk sums on its way, where it got to its end
+pub record Sums (slots : List Incoming) (xs : List ℕ) (from : ℕ) (ok : Bool) (total : ℕ) : Type 0 where
+  pub is : ok ≡ true → total ≡ from + lengths slots xs
+  pub low : ok ≡ true → total ≤ from + 49152
+
+-- the lists of the channels from k on, each from the marks of those before it
+unfoldable pub heldSound : List Incoming → ℕ → ℕ → List ℕ → List Channel → Bool
+heldSound slots count k m [] = true
+heldSound slots count k m (c ∷ cs) =
+    both (both (leb (c .held .len) incoming) (passes (inPasses slots count true k) m (inItems (c .held))))
+    (heldSound slots count (k + 1) (markedAll m (inItems (c .held))) cs)
+
+-- the incoming lists, what they name, and the waiting total
+abbrev pub inSide : ℕ → Peer → Bool
+inSide count p =
+    let now = below (p .channels) count in
+    both (both (leb (p .lists .dispatched .len) incoming) (heldFit now)) (inSound (p .incoming) (p .lists) now count (p .waiting .total))

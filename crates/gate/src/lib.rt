@@ -1,4 +1,5 @@
 // The gate of every call on the lent record: settings and store (11), then the record (13). Nothing is copied: a slot is asked where a list names it.
+pub mod incoming;
 pub mod outgoing;
 
 ghost use mathlib.Core.Path.{_≡_};
@@ -73,5 +74,8 @@ pub fn is_sound(words: &[u32]) -> bool
     if !is_ranged(words[39], count) {
         return false;
     }
-    outgoing::is_sound(words, count)
+    if !outgoing::is_sound(words, count) {
+        return false;
+    }
+    incoming::is_sound(words, count)
 }

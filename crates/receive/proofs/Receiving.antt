@@ -1,7 +1,7 @@
 -- Receive comes out as the rule says, where the gate is open: the parts that the code makes are the rule's, whatever made them.
 -- The argument: each part is given by its equation, so the record made of them is the rule's record; the head exists in a sound record.
 use Prim.Native.Nat.{ℕ, _<_}
-use mathlib.Core.Path.{_≡_, refl, sym, _∙_}
+use mathlib.Core.Path.{_≡_, refl, ap, sym, _∙_}
 use mathlib.Core.List.{List}
 use lib.ListN.{drop, getD}
 use Rattle.slots.specs.Lists.{incoming, inItems}
@@ -12,16 +12,19 @@ use Rattle.parts.specs.Fresh.{noIncoming}
 use Rattle.parts.specs.Damage.{below}
 use Rattle.parts.specs.declared.groups.Lists.{Lists}
 use Rattle.parts.specs.declared.groups.Waiting.{Waiting}
+use Rattle.parts.specs.declared.groups.Incoming.{Incoming}
+use Rattle.parts.specs.Updates.{inShorter}
 use Rattle.peer.specs.Outcome.{Came}
 use Rattle.peer.specs.Gate.{fits, gateOf}
-use Rattle.peer.specs.Updates.{renewed}
+use Rattle.peer.specs.Updates.{renewed, withLists, withWaiting}
 use Rattle.peer.specs.declared.settings.Settings.{Settings}
 use Rattle.peer.specs.declared.record.Peer.{Peer}
 use Rattle.peer.specs.declared.gate.Lent.the-variants as lent
 use Rattle.peer.specs.declared.gate.Gate.{Gate}
 use Rattle.peer.specs.declared.gate.Gate.the-variants.{Open}
 use Rattle.peer.proofs.Gates.{worthsOf, soundBy, came-open, open-sound}
-use Rattle.receive.specs.Calls.{answerOf, withoutFirst, lowered, receivesFrom, receivesSound, receives}
+use Rattle.queues.specs.Queues.{putDispatched}
+use Rattle.receive.specs.Calls.{answerOf, packet, withoutFirst, lowered, receivesFrom, receivesSound, receives}
 use Rattle.receive.specs.declared.Reply.{Reply}
 use Rattle.receive.specs.declared.Reply.the-variants as vr
 use Rattle.runs.proofs.Views.{first-cons}
@@ -51,3 +54,18 @@ module _ (s : Settings) (p : Peer) (ws : List ℕ) (v : ws ≡ worthsOf p)
     receive-slot lists waiting l w =
         came (vr.Packet (getD (p .incoming) n noIncoming .channel) n (getD (p .incoming) n noIncoming .length)) _
         (rw z (record { answer = refl; after = rw (l, w) }))
+
+    -- on the lent record: dispatched loses its head (q), then the waiting total is written (r)
+    pub receive-lent : (q r : Peer) (slot : Incoming) (w x : Waiting)
+        → slot ≡ getD (p .incoming) n noIncoming → q ≡ putDispatched p (inShorter (p .lists .dispatched)) → w ≡ q .waiting → x ≡ lowered w (slot .length)
+        → r ≡ withWaiting q x → Came answerOf (receives s p) (vr.Packet (slot .channel) n (slot .length)) r
+    receive-lent q r slot w x i a b d k =
+        came (vr.Packet (slot .channel) n (slot .length)) r
+        (rw z (record {
+          answer = ap (λ (y : Incoming). packet (y .channel) n (y .length)) i;
+          after =
+              k
+              ∙ ap (withWaiting q) (d ∙ ap (λ (y : Waiting). lowered y (slot .length)) b)
+              ∙ ap (λ (y : Peer). withWaiting y (lowered (y .waiting) (slot .length))) a
+              ∙ ap (λ (y : Incoming). withWaiting (withLists p (withoutFirst (p .lists))) (lowered (p .waiting) (y .length))) i;
+        }))

@@ -7,9 +7,9 @@ ghost use Rattle.receive.specs.Calls.{answerOf, withoutFirst, lowered, r
 use numbers::refusals::Refusal;
 use parts::groups::Lists;
 use parts::groups::Waiting;
-use peer::gate::pass;
 use peer::gate::Gate;
 use peer::gate::Lent;
+use peer::gate::pass;
 use peer::record::Peer;
 use peer::settings::Settings;
 use runs::First;

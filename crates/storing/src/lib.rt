@@ -1,4 +1,6 @@
 // What "stored" means, on what it changes: the lowest free incoming slot, its cell of the store, the waiting total.
+pub mod lent;
+
 ghost use mathlib.Core.Path.{_≡_};
 ghost use Prim.Native.Nat.{_+_, _≤_};
 ghost use lib.ListN.{length, drop, replicate};

@@ -8,9 +8,9 @@ use arriving::Arrived;
 use arriving::Fate;
 use arriving::Reply;
 use numbers::counters::Group;
-use peer::gate::pass;
 use peer::gate::Gate;
 use peer::gate::Lent;
+use peer::gate::pass;
 use peer::record::Peer;
 use peer::settings::Settings;
 

@@ -1,6 +1,7 @@
 -- A turn of the walk at a time: each return is where the list, the cell or the slot says so.
 use Prim.Native.Nat.{ℕ, _-_, _≤_}
 use mathlib.Core.Path.{_≡_, sym, ap, _∙_}
+use mathlib.Core.Bool.{true, false}
 use mathlib.Core.List.{List, map}
 use native.Mathlib.Omega.{arith}
 use lib.ListN.{length, length-set}
@@ -11,7 +12,7 @@ use Rattle.damage.specs.Walks.{worthOf, worthPasses, enough}
 use Rattle.parts.specs.declared.groups.Outgoing.{Outgoing}
 use Rattle.places.specs.Whole.{whole}
 use Rattle.gate.proofs.Turns.{Listed, Left, left-all, long, end, past, twice, unfit, turn}
-use Rattle.gate.proofs.Groups.{outgoing-is}
+use Rattle.places.proofs.PoolLaws.{pool-is}
 use Rattle.gate.proofs.outgoing.list_sound.Statement.{statement}
 use Rattle.gate.proofs.outgoing.list_sound.Tie as tie
 
@@ -120,7 +121,7 @@ returns-4 c =
     let i : Listed ws (a .at) 32 (v .result) = record { room = omega (arith, b .pre .0, b .pre .1 .0); is = v .ensures } in
     let m = c .before .before .before .before .before .before .before .before .before .before .loop in
     let s = c .before .before .before .before .before .before .before .narrow2 in
-    let bad = ap (λ (o : List Outgoing). worthPasses (map (worthOf (a .count)) o) (a .sent) (s .result)) (outgoing-is ws) ∙ ap (λ (w : ℕ). enough w (a .sent)) (sym (c .before .before .grade-at .ensures)) ∙ sym (c .before .is-enough .ensures) ∙ not-true (c .before .is-enough .result) (c .if4 .taken) in
+    let bad : f (s .result) ≡ false = ap (λ (o : List Outgoing). worthPasses (map (worthOf (a .count)) o) (a .sent) (s .result)) (pool-is ws) ∙ ap (λ (w : ℕ). enough w (a .sent)) (sym (c .before .before .grade-at .ensures)) ∙ sym (c .before .is-enough .ensures) ∙ not-true (c .before .is-enough .result) (c .if4 .taken) in
     unfit f ws (a .at) 32 (v .result) i (omega arith) (a .marks .now) (m .marks) (m .j) (m .inv .2) (omega arith) (s .result) (s .ensures) (omega arith) (c .before .before .before .before .if3 .left) bad
 
 slice-write-marks : tie.Need-slice-write-marks Inv-loop μ-loop
@@ -142,7 +143,7 @@ loop-again c =
     let i : Listed ws (a .at) 32 (v .result) = record { room = omega (arith, b .pre .0, b .pre .1 .0); is = v .ensures } in
     let m = c .before .before .before .before .before .before .before .before .before .before .loop in
     let s = c .before .before .before .before .before .before .before .narrow2 in
-    let good = ap (λ (o : List Outgoing). worthPasses (map (worthOf (a .count)) o) (a .sent) (s .result)) (outgoing-is ws) ∙ ap (λ (w : ℕ). enough w (a .sent)) (sym (c .before .before .grade-at .ensures)) ∙ sym (c .before .is-enough .ensures) ∙ not-false (c .before .is-enough .result) (c .if4 .left) in
+    let good : f (s .result) ≡ true = ap (λ (o : List Outgoing). worthPasses (map (worthOf (a .count)) o) (a .sent) (s .result)) (pool-is ws) ∙ ap (λ (w : ℕ). enough w (a .sent)) (sym (c .before .before .grade-at .ensures)) ∙ sym (c .before .is-enough .ensures) ∙ not-false (c .before .is-enough .result) (c .if4 .left) in
     (omega arith, simp length-set (m .inv .1), turn f ws (a .at) 32 (v .result) i (omega arith) (a .marks .now) (m .marks) (m .j) (m .inv .2) (omega arith) (s .result) (s .ensures) (omega arith) (c .before .before .before .before .if3 .left) good)
 
 same-length-4 : tie.Need-same-length-4 Inv-loop μ-loop

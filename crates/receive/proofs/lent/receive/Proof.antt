@@ -1,74 +1,86 @@
+-- `receive` on the lent record passes the gate, then asks for the head: each change of the record is what its helper ensures, and one after the other they are the rule's.
+use mathlib.Core.Path.{refl}
 use borrow.Author.Needs.{needs}
+use Rattle.peer.specs.declared.gate.Lent.the-variants.{Nothing}
+use Rattle.peer.proofs.Gates.{worthsOf}
+use Rattle.gate.proofs.Asked.{Asked, asked-shut, by-worths}
+use Rattle.places.specs.Whole.{whole}
+use Rattle.receive.specs.Calls.{answerOf, receivesSound}
+use Rattle.receive.proofs.Receiving.{receive-empty, receive-lent}
 use Rattle.receive.proofs.lent.receive.Statement.{statement}
 use Rattle.receive.proofs.lent.receive.Tie as tie
-use Rattle.receive.proofs.lent.receive.Reads as reads
-use Rattle.receive.proofs.lent.receive.Lts as lts
-use Rattle.gate.proofs.ask.Reads as ask-reads
-use Rattle.places.proofs.groups.put_waiting.Reads as put-waiting-reads
-use Rattle.places.proofs.groups.waiting.Reads as waiting-reads
-use Rattle.places.proofs.pools.incoming_at.Reads as incoming-at-reads
-use Rattle.queues.proofs.dispatched.head.Reads as head-reads
-use Rattle.queues.proofs.dispatched.leave.Reads as leave-reads
-use Rattle.receive.proofs.lower.Reads as lower-reads
 
--- src/lent.rt:21:9
 ask-requires : tie.Need-ask-requires
 ask-requires c κs = search needs
 
--- src/lent.rt:22:23
 enum-known-asked : tie.Need-enum-known-asked
 enum-known-asked c = search needs
 
--- src/lent.rt:23:9
 returns : tie.Need-returns
-returns c = ?
+returns c =
+    let g = c .before .before .before in
+    let b = g .before .before .before in
+    let p = whole (b .args .words .now) in
+    let a : Asked = record { settings = b .args .settings; lent = Nothing; peer = p; gate = g .ask .result; is = g .ask .ensures } in
+    let k = c .before .asked .given in
+    asked-shut a p (receivesSound p) answerOf _ (k .0 .0) refl (k .1)
 
 enum-told : tie.Need-enum-told
 enum-told c = search needs
 
--- src/lent.rt:25:9
 head-requires : tie.Need-head-requires
 head-requires c κs = search needs
 
--- src/lent.rt:26:21
 enum-known-first : tie.Need-enum-known-first
 enum-known-first c = search needs
 
--- src/lent.rt:27:9
 enum-told-2 : tie.Need-enum-told-2
 enum-told-2 c = search needs
 
--- src/lent.rt:27:9
 returns-2 : tie.Need-returns-2
-returns-2 c = ?
+returns-2 c =
+    let h = c .before .before in
+    let o = h .before .before .before in
+    let g = o .before .before in
+    let b = g .before .before .before in
+    let p = whole (b .args .words .now) in
+    let a : Asked = record { settings = b .args .settings; lent = Nothing; peer = p; gate = g .ask .result; is = g .ask .ensures } in
+    receive-empty (b .args .settings) p (worthsOf p) refl (g .ask .result) (by-worths a) (o .enum-told .given .1) (h .head .result) (h .head .ensures) (c .enum-told2 .given .1)
 
--- src/lent.rt:29:42
 cast-incoming-at : tie.Need-cast-incoming-at
 cast-incoming-at c = search needs
 
--- src/lent.rt:29:9
 incoming-at-requires : tie.Need-incoming-at-requires
 incoming-at-requires c κs = search needs
 
--- src/lent.rt:30:5
 leave-requires : tie.Need-leave-requires
 leave-requires c κs = search needs
 
--- src/lent.rt:31:25
 waiting-requires : tie.Need-waiting-requires
 waiting-requires c κs = search needs
 
--- src/lent.rt:31:9
 lower-requires : tie.Need-lower-requires
 lower-requires c κs = search needs
 
--- src/lent.rt:32:5
 put-waiting-requires : tie.Need-put-waiting-requires
 put-waiting-requires c κs = search needs
 
--- src/lent.rt:18:1
 returns-3 : tie.Need-returns-3
-returns-3 c = ?
+returns-3 c =
+    let w = c .before .before in
+    let t = w .before in
+    let l = t .before .before .before in
+    let i = l .before .before in
+    let x = i .before .before .before .before in
+    let h = x .before .before in
+    let o = h .before .before .before in
+    let g = o .before .before in
+    let b = g .before .before .before in
+    let p = whole (b .args .words .now) in
+    let a : Asked = record { settings = b .args .settings; lent = Nothing; peer = p; gate = g .ask .result; is = g .ask .ensures } in
+    receive-lent (b .args .settings) p (worthsOf p) refl (g .ask .result) (by-worths a) (o .enum-told .given .1) (h .head .result) (h .head .ensures) (x .first .given .0 .0) (x .first .given .1)
+    (whole (l .leave .last .0)) (whole (c .put-waiting .last .0)) (i .incoming-at .result) (t .waiting .result) (w .lower .result)
+    (i .incoming-at .ensures) (l .leave .ensures) (t .waiting .ensures) (w .lower .ensures) (c .put-waiting .ensures)
 
 pub receive-spec : {M : Type 1} → statement M
 receive-spec =

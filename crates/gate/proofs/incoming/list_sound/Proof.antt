@@ -1,0 +1,219 @@
+-- A turn of the walk at a time, as of an outgoing list, with the lengths summed on the way.
+use Prim.Native.Nat.{_+_, _*_, _-_, _≤_}
+use mathlib.Core.Path.{_≡_, refl, sym, _∙_}
+use mathlib.Core.Bool.{true, false}
+use native.Mathlib.Omega.{arith}
+use lib.ListN.{length, getD, drop, length-set}
+use borrow.Author.Needs.{needs}
+use borrow.Author.Tests.{not-true, not-false}
+use Rattle.lists.specs.Rows.{rowAt, itemsOf}
+use Rattle.parts.specs.Fresh.{noIncoming}
+use Rattle.parts.specs.Damage.{lengths}
+use Rattle.held.specs.Walks.{inPasses}
+use Rattle.held.proofs.SumLaws.{pass-short}
+use Rattle.places.specs.Whole.{whole}
+use Rattle.gate.proofs.Turns.{Listed, Left, left-all, long, end, past, twice, unfit, turn, summed, summed-end}
+use Rattle.gate.proofs.Sums.{sums-stop}
+use Rattle.gate.proofs.incoming.list_sound.Statement.{statement}
+use Rattle.gate.proofs.incoming.list_sound.Tie as tie
+
+abbrev Inv-loop : tie.InvT-loop
+Inv-loop words at count own k marks₀ from total₀ n first j₀ marks total j =
+    (j ≤ n) × (length marks ≡ 12)
+    × Left (inPasses (whole words .incoming) count own k) marks₀ (itemsOf (rowAt at 12 words)) marks j
+    × (from + lengths (whole words .incoming) (itemsOf (rowAt at 12 words)) ≡ total + lengths (whole words .incoming) (drop j (itemsOf (rowAt at 12 words))))
+    × (total ≤ from + 4096 * j)
+
+abbrev μ-loop : tie.MeasureT-loop
+μ-loop words at count own k marks₀ from total₀ n first j₀ marks total j = n - j
+
+mul-narrow : tie.Need-mul-narrow Inv-loop μ-loop
+mul-narrow c = search needs
+
+shared-slice-read-narrow : tie.Need-shared-slice-read-narrow Inv-loop μ-loop
+shared-slice-read-narrow c = search needs
+
+narrow-requires : tie.Need-narrow-requires Inv-loop μ-loop
+narrow-requires c κs = search needs
+
+returns : tie.Need-returns Inv-loop μ-loop
+returns c =
+    let b = c .before .before .before .before .before in
+    let a = b .args in
+    let ws = a .words .now in
+    let v = c .before .narrow in
+    let slots = whole ws .incoming in
+    let f = inPasses slots (a .count) (a .own) (a .k) in
+    let i : Listed ws (a .at) 12 (v .result) = record { room = omega (arith, b .pre .0, b .pre .1 .0); is = v .ensures } in
+    (long f ws (a .at) 12 (v .result) i (a .marks .now) (a .marks .now) (c .if1 .taken), sums-stop slots (itemsOf (rowAt (a .at) 12 ws)) (a .from) (a .from))
+
+add-first : tie.Need-add-first Inv-loop μ-loop
+add-first c = search needs
+
+loop-holds : tie.Need-loop-holds Inv-loop μ-loop
+loop-holds c = (search needs, search needs, left-all _ _ _, refl, search needs)
+
+add-narrow : tie.Need-add-narrow Inv-loop μ-loop
+add-narrow c = search needs
+
+mul-narrow-2 : tie.Need-mul-narrow-2 Inv-loop μ-loop
+mul-narrow-2 c = search needs
+
+shared-slice-read-narrow-2 : tie.Need-shared-slice-read-narrow-2 Inv-loop μ-loop
+shared-slice-read-narrow-2 c = search needs
+
+narrow-requires-2 : tie.Need-narrow-requires-2 Inv-loop μ-loop
+narrow-requires-2 c κs = search needs
+
+same-length : tie.Need-same-length Inv-loop μ-loop
+same-length c = search needs
+
+returns-2 : tie.Need-returns-2 Inv-loop μ-loop
+returns-2 c =
+    let b = c .before .before .before .before .before .before .before .before .before .before in
+    let a = b .args in
+    let ws = a .words .now in
+    let v = c .before .before .before .before .before .before .narrow in
+    let slots = whole ws .incoming in
+    let f = inPasses slots (a .count) (a .own) (a .k) in
+    let i : Listed ws (a .at) 12 (v .result) = record { room = omega (arith, b .pre .0, b .pre .1 .0); is = v .ensures } in
+    let m = c .before .before .before .before .loop in
+    let s = c .before .narrow2 in
+    (past f ws (a .at) 12 (v .result) i (omega arith) (a .marks .now) (m .marks) (m .j) (m .inv .2) (omega arith) (s .result) (s .ensures) (omega arith), sums-stop slots (itemsOf (rowAt (a .at) 12 ws)) (a .from) (m .total))
+
+slice-read-if3 : tie.Need-slice-read-if3 Inv-loop μ-loop
+slice-read-if3 c = search needs
+
+same-length-2 : tie.Need-same-length-2 Inv-loop μ-loop
+same-length-2 c = search needs
+
+returns-3 : tie.Need-returns-3 Inv-loop μ-loop
+returns-3 c =
+    let b = c .before .before .before .before .before .before .before .before .before .before .before .before in
+    let a = b .args in
+    let ws = a .words .now in
+    let v = c .before .before .before .before .before .before .before .before .narrow in
+    let slots = whole ws .incoming in
+    let f = inPasses slots (a .count) (a .own) (a .k) in
+    let i : Listed ws (a .at) 12 (v .result) = record { room = omega (arith, b .pre .0, b .pre .1 .0); is = v .ensures } in
+    let m = c .before .before .before .before .before .before .loop in
+    let s = c .before .before .before .narrow2 in
+    (twice f ws (a .at) 12 (v .result) i (omega arith) (a .marks .now) (m .marks) (m .j) (m .inv .2) (omega arith) (s .result) (s .ensures) (omega arith) (c .if3 .taken), sums-stop slots (itemsOf (rowAt (a .at) 12 ws)) (a .from) (m .total))
+
+slot-passes-requires : tie.Need-slot-passes-requires Inv-loop μ-loop
+slot-passes-requires c κs = search needs
+
+same-length-3 : tie.Need-same-length-3 Inv-loop μ-loop
+same-length-3 c = search needs
+
+returns-4 : tie.Need-returns-4 Inv-loop μ-loop
+returns-4 c =
+    let b = c .before .before .before .before .before .before .before .before .before .before .before .before .before .before in
+    let a = b .args in
+    let ws = a .words .now in
+    let v = c .before .before .before .before .before .before .before .before .before .before .narrow in
+    let slots = whole ws .incoming in
+    let f = inPasses slots (a .count) (a .own) (a .k) in
+    let i : Listed ws (a .at) 12 (v .result) = record { room = omega (arith, b .pre .0, b .pre .1 .0); is = v .ensures } in
+    let m = c .before .before .before .before .before .before .before .before .loop in
+    let s = c .before .before .before .before .before .narrow2 in
+    let bad : f (s .result) ≡ false = sym (c .before .slot-passes .ensures) ∙ not-true (c .before .slot-passes .result) (c .if4 .taken) in
+    (unfit f ws (a .at) 12 (v .result) i (omega arith) (a .marks .now) (m .marks) (m .j) (m .inv .2) (omega arith) (s .result) (s .ensures) (omega arith) (c .before .before .if3 .left) bad, sums-stop slots (itemsOf (rowAt (a .at) 12 ws)) (a .from) (m .total))
+
+length-at-requires : tie.Need-length-at-requires Inv-loop μ-loop
+length-at-requires c κs = search needs
+
+add-total : tie.Need-add-total Inv-loop μ-loop
+add-total c =
+    let b = c .before .before .before .before .before .before .before .before .before .before .before .before .before .before .before in
+    let a = b .args in
+    let ws = a .words .now in
+    let v = c .before .before .before .before .before .before .before .before .before .before .before .narrow in
+    let slots = whole ws .incoming in
+    let f = inPasses slots (a .count) (a .own) (a .k) in
+    let i : Listed ws (a .at) 12 (v .result) = record { room = omega (arith, b .pre .0, b .pre .1 .0); is = v .ensures } in
+    let m = c .before .before .before .before .before .before .before .before .before .loop in
+    let s = c .before .before .before .before .before .before .narrow2 in
+    let good : f (s .result) ≡ true = sym (c .before .before .slot-passes .ensures) ∙ not-false (c .before .before .slot-passes .result) (c .before .if4 .left) in
+    let short = pass-short (a .count) (a .own) (a .k) (getD slots (s .result) noIncoming) good in
+    omega (arith, c .length-at .ensures)
+
+slice-write-marks : tie.Need-slice-write-marks Inv-loop μ-loop
+slice-write-marks c = search needs
+
+add-j : tie.Need-add-j Inv-loop μ-loop
+add-j c = search needs
+
+loop-less : tie.Need-loop-less Inv-loop μ-loop
+loop-less c = search needs
+
+loop-again : tie.Need-loop-again Inv-loop μ-loop
+loop-again c =
+    let b = c .before .before .before .before .before .before .before .before .before .before .before .before .before .before .before in
+    let a = b .args in
+    let ws = a .words .now in
+    let v = c .before .before .before .before .before .before .before .before .before .before .before .narrow in
+    let slots = whole ws .incoming in
+    let f = inPasses slots (a .count) (a .own) (a .k) in
+    let i : Listed ws (a .at) 12 (v .result) = record { room = omega (arith, b .pre .0, b .pre .1 .0); is = v .ensures } in
+    let m = c .before .before .before .before .before .before .before .before .before .loop in
+    let s = c .before .before .before .before .before .before .narrow2 in
+    let good : f (s .result) ≡ true = sym (c .before .before .slot-passes .ensures) ∙ not-false (c .before .before .slot-passes .result) (c .before .if4 .left) in
+    let short = pass-short (a .count) (a .own) (a .k) (getD slots (s .result) noIncoming) good in
+    let sum = summed f ws (a .at) 12 (v .result) i (omega arith) (a .marks .now) (m .marks) (m .j) (m .inv .2) (omega arith) (s .result) (s .ensures) slots in
+    let length-is = c .length-at .ensures in (
+      omega arith,
+      simp length-set (m .inv .1),
+      turn f ws (a .at) 12 (v .result) i (omega arith) (a .marks .now) (m .marks) (m .j) (m .inv .2) (omega arith) (s .result) (s .ensures) (omega arith) (c .before .before .before .if3 .left) good,
+      omega arith,
+      omega arith,
+    )
+
+same-length-4 : tie.Need-same-length-4 Inv-loop μ-loop
+same-length-4 c = search needs
+
+returns-5 : tie.Need-returns-5 Inv-loop μ-loop
+returns-5 c =
+    let b = c .before .before .before .before .before .before .before in
+    let a = b .args in
+    let ws = a .words .now in
+    let v = c .before .before .before .narrow in
+    let slots = whole ws .incoming in
+    let f = inPasses slots (a .count) (a .own) (a .k) in
+    let i : Listed ws (a .at) 12 (v .result) = record { room = omega (arith, b .pre .0, b .pre .1 .0); is = v .ensures } in
+    let m = c .before .loop in
+    let sum = summed-end f ws (a .at) 12 (v .result) i (omega arith) (a .marks .now) (m .marks) (m .j) (m .inv .2) slots (omega arith) in
+    (end f ws (a .at) 12 (v .result) i (omega arith) (a .marks .now) (m .marks) (m .j) (m .inv .2) (omega arith), record { is = λ q. omega arith; low = λ q. omega arith })
+
+pub list-sound-spec : {M : Type 1} → statement M
+list-sound-spec =
+    tie.close
+    (tie.spec
+    Inv-loop
+    μ-loop
+    mul-narrow
+    shared-slice-read-narrow
+    narrow-requires
+    returns
+    add-first
+    loop-holds
+    add-narrow
+    mul-narrow-2
+    shared-slice-read-narrow-2
+    narrow-requires-2
+    same-length
+    returns-2
+    slice-read-if3
+    same-length-2
+    returns-3
+    slot-passes-requires
+    same-length-3
+    returns-4
+    length-at-requires
+    add-total
+    slice-write-marks
+    add-j
+    loop-less
+    loop-again
+    same-length-4
+    returns-5)
