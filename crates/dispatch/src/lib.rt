@@ -1,4 +1,6 @@
 // Dispatch: what of a channel's list is ready joins dispatched.
+pub mod lent;
+
 ghost use mathlib.Core.Path.{_≡_};
 ghost use Rattle.peer.specs.Outcome.{Came};
 ghost use Rattle.peer.specs.Calls.{answerOf};
@@ -6,9 +8,9 @@ ghost use Rattle.dispatch.specs.Calls.{dispatches};
 use numbers::refusals::Refusal;
 use peer::calls::Called;
 use peer::calls::Reply;
-use peer::gate::pass;
 use peer::gate::Gate;
 use peer::gate::Lent;
+use peer::gate::pass;
 use peer::record::Peer;
 use peer::settings::Settings;
 

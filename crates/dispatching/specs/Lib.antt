@@ -1,1 +1,2 @@
 pub mod Dispatching
+pub mod Lent

@@ -1,4 +1,6 @@
 // What moves from a channel's list to dispatched, on the groups that it changes.
+pub mod lent;
+
 ghost use mathlib.Core.Path.{_≡_};
 ghost use lib.ListN.{getD};
 ghost use Rattle.slots.specs.Lists.{inItems};

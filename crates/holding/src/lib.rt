@@ -1,4 +1,6 @@
 // Where a reliable arrival stands on its channel.
+pub mod lent;
+
 ghost use mathlib.Core.Path.{_≡_};
 ghost use Rattle.slots.specs.Lists.{inItems};
 ghost use Rattle.holding.specs.Holding.{ahead, holds, isPassed, nearer, heldWith};

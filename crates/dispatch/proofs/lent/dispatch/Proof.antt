@@ -1,0 +1,89 @@
+-- `dispatch` passes the gate and its own refusal; a sound record has the channel then, and `dispatching` makes the rule's record.
+use Prim.Native.Nat.{_≤_, _<_}
+use mathlib.Core.Path.{_≡_, refl, ap, sym, subst, _∙_}
+use native.Mathlib.Omega.{arith}
+use borrow.Author.Needs.{needs}
+use Rattle.parts.specs.declared.groups.Standing.{Standing}
+use Rattle.peer.specs.Outcome.{Came}
+use Rattle.peer.specs.Calls.{answerOf}
+use Rattle.peer.specs.declared.calls.Reply.the-variants.{Done, Refused}
+use Rattle.peer.specs.declared.gate.Lent.the-variants.{Nothing}
+use Rattle.peer.specs.declared.record.Peer.{Peer}
+use Rattle.peer.proofs.Gates.{worthsOf}
+use Rattle.places.specs.Whole.{whole}
+use Rattle.places.specs.Updates.{channelAt}
+use Rattle.gate.proofs.Asked.{Asked, asked-shut, by-worths}
+use Rattle.dispatching.specs.Dispatching.{dispatchedBy}
+use Rattle.dispatch.specs.Calls.{dispatches, dispatchesSound}
+use Rattle.dispatch.proofs.Calling.{dispatch-refused, channel-exists, dispatch-done}
+use Rattle.dispatch.proofs.lent.dispatch.Statement.{statement}
+use Rattle.dispatch.proofs.lent.dispatch.Tie as tie
+
+ask-requires : tie.Need-ask-requires
+ask-requires c κs = search needs
+
+enum-known-asked : tie.Need-enum-known-asked
+enum-known-asked c = search needs
+
+returns : tie.Need-returns
+returns c =
+    let k = c .before .before .before .ask in
+    let a = c .before .before .before .before .before .before .args in
+    let p = whole (a .words .now) in
+    let q : Asked = record { settings = a .settings; lent = Nothing; peer = p; gate = k .result; is = k .ensures } in
+    let s = c .before .asked .given in
+    asked-shut q p (dispatchesSound (a .channel) p) answerOf (Refused (s .0 .0)) (s .0 .0) refl (s .1)
+
+enum-told : tie.Need-enum-told
+enum-told c = search needs
+
+standing-requires : tie.Need-standing-requires
+standing-requires c κs = search needs
+
+returns-2 : tie.Need-returns-2
+returns-2 c =
+    let t = c .before .before .standing in
+    let o = c .before .before .before .before .before in
+    let k = o .before .before .ask in
+    let a = o .before .before .before .before .before .args in
+    let p = whole (a .words .now) in
+    let q : Asked = record { settings = a .settings; lent = Nothing; peer = p; gate = k .result; is = k .ensures } in
+    let h : p .standing .count ≤ a .channel = omega (arith, ap (λ (x : Standing). x .count) (t .ensures), c .if1 .taken) in
+    dispatch-refused (a .settings) (a .channel) p (worthsOf p) refl (k .result) (by-worths q) (o .enum-told .given .1) h
+
+dispatch-requires : tie.Need-dispatch-requires
+dispatch-requires c κs =
+    let t = c .before .before .before .standing in
+    let o = c .before .before .before .before .before .before in
+    let k = o .before .before .ask in
+    let a = o .before .before .before .before .before .args in
+    let p = whole (a .words .now) in
+    let q : Asked = record { settings = a .settings; lent = Nothing; peer = p; gate = k .result; is = k .ensures } in
+    let h : a .channel < p .standing .count = omega (arith, ap (λ (x : Standing). x .count) (t .ensures), c .before .if1 .left) in
+    (search needs, channel-exists (a .settings) (a .channel) p (worthsOf p) refl (k .result) (by-worths q) (o .enum-told .given .1) h)
+
+returns-3 : tie.Need-returns-3
+returns-3 c =
+    let t = c .before .before .before .before .standing in
+    let o = c .before .before .before .before .before .before .before in
+    let k = o .before .before .ask in
+    let a = o .before .before .before .before .before .args in
+    let p = whole (a .words .now) in
+    let q : Asked = record { settings = a .settings; lent = Nothing; peer = p; gate = k .result; is = k .ensures } in
+    let h : a .channel < p .standing .count = omega (arith, ap (λ (x : Standing). x .count) (t .ensures), c .before .before .if1 .left) in
+    subst (λ (y : Peer). Came answerOf (dispatches (a .settings) (a .channel) p) Done y) (sym (c .dispatch .ensures))
+    (dispatch-done (a .settings) (a .channel) p (worthsOf p) refl (k .result) (by-worths q) (o .enum-told .given .1) h (channelAt p (a .channel))
+    (dispatchedBy (p .incoming) (channelAt p (a .channel)) (p .lists) (p .groups)) refl refl)
+
+pub dispatch-spec : {M : Type 1} → statement M
+dispatch-spec =
+    tie.close
+    (tie.spec
+    ask-requires
+    enum-known-asked
+    returns
+    enum-told
+    standing-requires
+    returns-2
+    dispatch-requires
+    returns-3)
