@@ -37,14 +37,7 @@ fn fate_of(words: &[u32], settings: Settings, a: Arrival) -> Fate
 }
 
 // Slot s joins channel i's list in the place of its number, and what is ready then joins dispatched.
-fn settle(
-    words: &mut [u32],
-    i: usize,
-    number: Reliable,
-    s: u16,
-    slot: Incoming,
-    waiting: Waiting,
-)
+fn settle(words: &mut [u32], i: usize, number: Reliable, s: u16, slot: Incoming, waiting: Waiting)
     requires { ⌜ length (now words) ≡ recordLength ⌝ }
     requires { ⌜ i < channels ⌝ }
     ensures { λ _. ⌜ whole (now (words .exit)) ≡ settledOn i (number .0) s slot waiting (whole (now (words .entry))) ⌝ }
@@ -78,7 +71,8 @@ pub fn arrive(
     let Fate::Stored(s) = fate else {
         return arriving::reply_of(fate);
     };
-    let kept = arriving::keep(store, s, datagram, a, groups::waiting(words));
+    let before = groups::waiting(words);
+    let kept = arriving::keep(store, s, datagram, a, before);
     let slot = kept.slot;
     let waiting = kept.waiting;
     settle(words, a.channel as usize, a.number, s, slot, waiting);

@@ -103,7 +103,7 @@ returns-4 c =
     let k = c .before .before .before .before .before .before .before .before .before .before .before .before .before .before .before .before .before .before .before .before .before .before .before .before .before .before .ask in
     let a = c .before .before .before .before .before .before .before .before .before .before .before .before .before .before .before .before .before .before .before .before .before .before .before .before .before .before .before .before .before .before .before .args in
     let n = c .before .before .before .before .before .before .before .before .before .before .before .before .before .fate .given in
-    let w = c .before .before .before .before .before .before .before .before .waiting in
+    let w = c .before .before .before .before .before .before .before .before .before .waiting in
     let z = c .before .before .before .before .before .before .before .keep in
     lent-stored (a .settings) (a .a) (a .datagram .now) (whole (a .words .now)) (a .store .now) (k .result) (k .ensures) o (t .result) (t .ensures) (m .result) (m .ensures) y (f .result) (f .ensures) (n .0 .0) (n .1)
     (z .result .slot) (w .result) (z .result .waiting) (z .last .0) (whole (c .settle .last .0)) (z .ensures .0) (w .ensures) (z .ensures .1 .0) (z .ensures .1 .1) (c .settle .ensures)
