@@ -1,4 +1,6 @@
 // The arrival of a whole reliable packet, added by the port.
+pub mod lent;
+
 ghost use mathlib.Core.Path.{_≡_};
 ghost use Rattle.peer.specs.Outcome.{Came};
 ghost use Rattle.arriving.specs.Arrivals.{answerOf};
@@ -7,9 +9,9 @@ use arriving::Arrival;
 use arriving::Arrived;
 use arriving::Fate;
 use arriving::Reply;
-use peer::gate::pass;
 use peer::gate::Gate;
 use peer::gate::Lent;
+use peer::gate::pass;
 use peer::record::Peer;
 use peer::settings::Settings;
 
