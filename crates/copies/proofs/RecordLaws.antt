@@ -1,6 +1,6 @@
 -- The whole record, read group by group and written group by group.
 -- The argument: groups of numbers are `numbers-put`; every group is the record's own, or is replaced, and the record computes.
-use Prim.Native.Nat.{ℕ, _+_, _%_, _<_}
+use Prim.Native.Nat.{ℕ, _%_, _<_}
 use mathlib.Core.Path.{_≡_, refl, ap, _∙_}
 use mathlib.Core.List.{List, [], _∷_}
 use native.Mathlib.Omega.{arith}

@@ -179,18 +179,8 @@ fn put_channel(words: &mut [u32], i: usize, x: Channel)
     requires { ⌜ i < channels ⌝ }
     ensures { λ _. ⌜ whole (now (words .exit)) ≡ withChannels (whole (now (words .entry))) (set (whole (now (words .entry)) .channels) i x) ⌝ }
 {
-    channels::put_outgoing(
-        words,
-        i,
-        x.outgoing_reliable,
-        x.outgoing_unreliable,
-    );
-    channels::put_incoming(
-        words,
-        i,
-        x.incoming_reliable,
-        x.incoming_unreliable,
-    );
+    channels::put_outgoing(words, i, x.outgoing_reliable, x.outgoing_unreliable);
+    channels::put_incoming(words, i, x.incoming_reliable, x.incoming_unreliable);
     let at = places::CHANNELS + i * places::CHANNEL_WIDTH + places::HELD;
     put_in(words, at, x.held);
 }

@@ -61,7 +61,7 @@ loop-again c =
       omega arith,
       search needs,
       put-turn (λ (p : Peer). p .channels) withChannels (λ (p : Peer) (x y : List Channel). refl) (λ (p : Peer) (x : List Channel). refl)
-      (whole (a .words .now)) (whole (l .words)) (whole (r .put-channel .last .0)) (a .t2) 8 (l .i) zeros (getD (a .t2) (l .i) zeros) (channels-length (a .words .now)) m (omega arith) (l .inv .2) (r .put-channel .ensures) refl,
+          (whole (a .words .now)) (whole (l .words)) (whole (r .put-channel .last .0)) (a .t2) 8 (l .i) zeros (getD (a .t2) (l .i) zeros) (channels-length (a .words .now)) m (omega arith) (l .inv .2) (r .put-channel .ensures) refl,
     )
 
 same-length : tie.Need-same-length Inv-loop μ-loop

@@ -52,7 +52,7 @@ loop-again c =
       omega arith,
       search needs,
       put-turn (λ (p : Peer). p .incoming) withIncoming (λ (p : Peer) (x y : List Incoming). refl) (λ (p : Peer) (x : List Incoming). refl)
-      (whole (a .words .now)) (whole (l .words)) (whole (r .put-incoming .last .0)) (a .t2) 12 (l .i) noIncoming (getD (a .t2) (l .i) noIncoming) (incoming-length (a .words .now)) m (omega arith) (l .inv .2) (r .put-incoming .ensures) refl,
+          (whole (a .words .now)) (whole (l .words)) (whole (r .put-incoming .last .0)) (a .t2) 12 (l .i) noIncoming (getD (a .t2) (l .i) noIncoming) (incoming-length (a .words .now)) m (omega arith) (l .inv .2) (r .put-incoming .ensures) refl,
     )
 
 same-length : tie.Need-same-length Inv-loop μ-loop

@@ -52,7 +52,7 @@ loop-again c =
       omega arith,
       search needs,
       put-turn (λ (p : Peer). p .outgoing) withOutgoing (λ (p : Peer) (x y : List Outgoing). refl) (λ (p : Peer) (x : List Outgoing). refl)
-      (whole (a .words .now)) (whole (l .words)) (whole (r .put-outgoing .last .0)) (a .t2) 32 (l .i) noOutgoing (getD (a .t2) (l .i) noOutgoing) (outgoing-length (a .words .now)) m (omega arith) (l .inv .2) (r .put-outgoing .ensures) refl,
+          (whole (a .words .now)) (whole (l .words)) (whole (r .put-outgoing .last .0)) (a .t2) 32 (l .i) noOutgoing (getD (a .t2) (l .i) noOutgoing) (outgoing-length (a .words .now)) m (omega arith) (l .inv .2) (r .put-outgoing .ensures) refl,
     )
 
 same-length : tie.Need-same-length Inv-loop μ-loop
