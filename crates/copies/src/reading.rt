@@ -1,13 +1,12 @@
 // The record that the numbers mean, by value.
 ghost use mathlib.Core.Path.{_≡_};
+ghost use mathlib.Core.List.{map};
 ghost use Prim.Native.Nat.{_+_, _≤_, _<_, _%_};
 ghost use lib.ListN.{length};
-ghost use Rattle.lists.specs.Rows.{rowAt};
+ghost use Rattle.lists.specs.Rows.{low, section, rowAt};
 ghost use Rattle.parts.specs.Sizes.{channels};
 ghost use Rattle.places.specs.Updates.{channelAt};
 ghost use Rattle.places.specs.Whole.{whole, recordLength, outListFrom, inListFrom};
-use numbers::counters::Reliable;
-use numbers::counters::Unreliable;
 use parts::groups::Bandwidth;
 use parts::groups::CHANNELS;
 use parts::groups::Channel;
@@ -15,7 +14,6 @@ use parts::groups::Ids;
 use parts::groups::Incoming;
 use parts::groups::Lists;
 use parts::groups::Outgoing;
-use peer::defaults::NO_CHANNEL;
 use peer::record::Peer;
 use places::channels;
 use places::groups;
@@ -63,48 +61,54 @@ fn bandwidth(words: &[u32]) -> Bandwidth
     }
 }
 
+// As many cells as there is room for, from a place on.
+fn cells(words: &[u32], at: usize, slots: &mut [u16])
+    requires { ⌜ at + length (now slots) ≤ length (now words) ⌝ }
+    ensures { λ _. ⌜ now (slots .exit) ≡ map low (section at (length (now (slots .entry))) (now (words .entry))) ⌝ }
+{
+    let mut k: usize = 0;
+    while k < slots.len() {
+        let s = low16(words[at + k]);
+        slots[k] = s;
+        k = k + 1;
+    }
+}
+
 // A list of the outgoing pool, from its place.
 fn out_list(words: &[u32], at: usize) -> OutList
     requires { ⌜ at + 32 + 1 ≤ length (now words) ⌝ }
     ensures { λ r. ⌜ r ≡ outListFrom (rowAt at 32 (now (words .entry))) ⌝ }
 {
     let mut slots = [0u16; OUTGOING];
-    let mut k: usize = 0;
-    while k < OUTGOING {
-        slots[k] = low16(words[at + 1 + k]);
-        k = k + 1;
-    }
-    OutList {
-        len: low16(words[at]),
-        slots,
-    }
+    cells(words, at + 1, &mut slots);
+    let len = low16(words[at]);
+    OutList { len, slots }
 }
 
+// And of the incoming pool.
 fn in_list(words: &[u32], at: usize) -> InList
     requires { ⌜ at + 12 + 1 ≤ length (now words) ⌝ }
     ensures { λ r. ⌜ r ≡ inListFrom (rowAt at 12 (now (words .entry))) ⌝ }
 {
     let mut slots = [0u16; INCOMING];
-    let mut k: usize = 0;
-    while k < INCOMING {
-        slots[k] = low16(words[at + 1 + k]);
-        k = k + 1;
-    }
-    InList {
-        len: low16(words[at]),
-        slots,
-    }
+    cells(words, at + 1, &mut slots);
+    let len = low16(words[at]);
+    InList { len, slots }
 }
 
 fn lists(words: &[u32]) -> Lists
     requires { ⌜ length (now words) ≡ recordLength ⌝ }
     ensures { λ r. ⌜ r ≡ whole (now (words .entry)) .lists ⌝ }
 {
+    let sent = out_list(words, places::SENT);
+    let reliable = out_list(words, places::RELIABLE);
+    let outgoing = out_list(words, places::OUTGOING);
+    let dispatched = in_list(words, places::DISPATCHED);
     Lists {
-        sent: out_list(words, places::SENT),
-        reliable: out_list(words, places::RELIABLE),
-        outgoing: out_list(words, places::OUTGOING),
-        dispatched: in_list(words, places::DISPATCHED),
+        sent,
+        reliable,
+        outgoing,
+        dispatched,
     }
 }
 
@@ -114,15 +118,17 @@ fn channel(words: &[u32], i: usize) -> Channel
     ensures { λ r. ⌜ r ≡ channelAt (whole (now (words .entry))) i ⌝ }
 {
     let n = channels::numbers_of(words, i);
-    let held = in_list(
-        words,
-        places::CHANNELS + i * places::CHANNEL_WIDTH + places::HELD,
-    );
+    let at = places::CHANNELS + i * places::CHANNEL_WIDTH + places::HELD;
+    let held = in_list(words, at);
+    let outgoing_reliable = n.outgoing_reliable;
+    let outgoing_unreliable = n.outgoing_unreliable;
+    let incoming_reliable = n.incoming_reliable;
+    let incoming_unreliable = n.incoming_unreliable;
     Channel {
-        outgoing_reliable: n.outgoing_reliable,
-        outgoing_unreliable: n.outgoing_unreliable,
-        incoming_reliable: n.incoming_reliable,
-        incoming_unreliable: n.incoming_unreliable,
+        outgoing_reliable,
+        outgoing_unreliable,
+        incoming_reliable,
+        incoming_unreliable,
         held,
     }
 }
@@ -131,10 +137,12 @@ fn all_channels(words: &[u32]) -> [Channel; CHANNELS]
     requires { ⌜ length (now words) ≡ recordLength ⌝ }
     ensures { λ r. ⌜ r ≡ whole (now (words .entry)) .channels ⌝ }
 {
-    let mut all = [NO_CHANNEL; CHANNELS];
+    let first = channel(words, 0);
+    let mut all = [first; CHANNELS];
     let mut i: usize = 0;
     while i < CHANNELS {
-        all[i] = channel(words, i);
+        let c = channel(words, i);
+        all[i] = c;
         i = i + 1;
     }
     all
@@ -144,10 +152,12 @@ fn outgoing(words: &[u32]) -> [Outgoing; OUTGOING]
     requires { ⌜ length (now words) ≡ recordLength ⌝ }
     ensures { λ r. ⌜ r ≡ whole (now (words .entry)) .outgoing ⌝ }
 {
-    let mut all = [pools::outgoing_at(words, OUTGOING); OUTGOING];
+    let first = pools::outgoing_at(words, 0);
+    let mut all = [first; OUTGOING];
     let mut i: usize = 0;
     while i < OUTGOING {
-        all[i] = pools::outgoing_at(words, i);
+        let slot = pools::outgoing_at(words, i);
+        all[i] = slot;
         i = i + 1;
     }
     all
@@ -157,10 +167,12 @@ fn incoming(words: &[u32]) -> [Incoming; INCOMING]
     requires { ⌜ length (now words) ≡ recordLength ⌝ }
     ensures { λ r. ⌜ r ≡ whole (now (words .entry)) .incoming ⌝ }
 {
-    let mut all = [pools::incoming_at(words, INCOMING); INCOMING];
+    let first = pools::incoming_at(words, 0);
+    let mut all = [first; INCOMING];
     let mut i: usize = 0;
     while i < INCOMING {
-        all[i] = pools::incoming_at(words, i);
+        let slot = pools::incoming_at(words, i);
+        all[i] = slot;
         i = i + 1;
     }
     all
@@ -170,22 +182,38 @@ pub fn read(words: &[u32]) -> Peer
     requires { ⌜ length (now words) ≡ recordLength ⌝ }
     ensures { λ r. ⌜ r ≡ whole (now (words .entry)) ⌝ }
 {
+    let ids = ids(words);
+    let standing = groups::standing(words);
+    let bandwidth = bandwidth(words);
+    let totals = groups::totals(words);
+    let times = groups::times(words);
+    let loss = groups::loss(words);
+    let throttling = groups::throttling(words);
+    let limits = groups::limits(words);
+    let trips = groups::trips(words);
+    let flow = groups::flow(words);
+    let lists = lists(words);
+    let groups = window::groups(words);
+    let waiting = groups::waiting(words);
+    let channels = all_channels(words);
+    let outgoing = outgoing(words);
+    let incoming = incoming(words);
     Peer {
-        ids: ids(words),
-        standing: groups::standing(words),
-        bandwidth: bandwidth(words),
-        totals: groups::totals(words),
-        times: groups::times(words),
-        loss: groups::loss(words),
-        throttling: groups::throttling(words),
-        limits: groups::limits(words),
-        trips: groups::trips(words),
-        flow: groups::flow(words),
-        lists: lists(words),
-        groups: window::groups(words),
-        waiting: groups::waiting(words),
-        channels: all_channels(words),
-        outgoing: outgoing(words),
-        incoming: incoming(words),
+        ids,
+        standing,
+        bandwidth,
+        totals,
+        times,
+        loss,
+        throttling,
+        limits,
+        trips,
+        flow,
+        lists,
+        groups,
+        waiting,
+        channels,
+        outgoing,
+        incoming,
     }
 }

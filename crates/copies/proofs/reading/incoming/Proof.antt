@@ -1,50 +1,58 @@
+-- After i turns the first i are read; a turn is one more, the measure is what is left.
+use Prim.Native.Nat.{_-_, _≤_}
+use mathlib.Core.Path.{_≡_, refl}
+use native.Mathlib.Omega.{arith}
+use lib.ListN.{length, take, length-set}
+use Rattle.parts.specs.Fresh.{noIncoming}
+use Rattle.places.specs.Whole.{whole}
+use Rattle.copies.proofs.Filling.{take-turn, take-end}
+use Rattle.copies.proofs.RecordLaws.{incoming-length}
+use borrow.Author.Needs.{needs}
 use Rattle.copies.proofs.reading.incoming.Statement.{statement}
 use Rattle.copies.proofs.reading.incoming.Tie as tie
-use Rattle.copies.proofs.reading.incoming.Reads as reads
-use Rattle.copies.proofs.reading.incoming.Lts as lts
-use Rattle.places.proofs.pools.incoming_at.Reads as incoming-at-reads
 
 abbrev Inv-loop : tie.InvT-loop
-Inv-loop words all₀ i₀ all i = ?
+Inv-loop words all₀ i₀ all i = (i ≤ 12) × (length all ≡ 12) × (take i all ≡ take i (whole words .incoming))
 
 abbrev μ-loop : tie.MeasureT-loop
-μ-loop words all₀ i₀ all i = ?
+μ-loop words all₀ i₀ all i = 12 - i
 
--- src/reading.rt:160:20
 incoming-at-requires : tie.Need-incoming-at-requires Inv-loop μ-loop
-incoming-at-requires c κs = ?
+incoming-at-requires c κs = search needs
 
--- src/reading.rt:162:5
 loop-holds : tie.Need-loop-holds Inv-loop μ-loop
-loop-holds c = ?
+loop-holds c = (omega arith, refl, refl)
 
--- src/reading.rt:163:18
 incoming-at-requires-2 : tie.Need-incoming-at-requires-2 Inv-loop μ-loop
-incoming-at-requires-2 c κs = ?
+incoming-at-requires-2 c κs = search needs
 
--- src/reading.rt:163:9
 mul-all : tie.Need-mul-all Inv-loop μ-loop
-mul-all c = ?
+mul-all c = search needs
 
--- src/reading.rt:163:9
 array-set-from-all : tie.Need-array-set-from-all Inv-loop μ-loop
-array-set-from-all c = ?
+array-set-from-all c = search needs
 
--- src/reading.rt:164:13
 add-i : tie.Need-add-i Inv-loop μ-loop
-add-i c = ?
+add-i c = search needs
 
--- src/reading.rt:162:5
 loop-less : tie.Need-loop-less Inv-loop μ-loop
-loop-less c = ?
+loop-less c = search needs
 
--- src/reading.rt:162:5
 loop-again : tie.Need-loop-again Inv-loop μ-loop
-loop-again c = ?
+loop-again c =
+    let l = c .before .before .loop in
+    let ws = c .before .before .before .before .before .args .words .now in
+    let m : length (whole ws .incoming) ≡ 12 = incoming-length ws in (
+      omega arith,
+      rw length-set (l .inv .1),
+      take-turn (l .all) (whole ws .incoming) (l .i) noIncoming (c .incoming-at2 .result) (omega (arith, l .inv .1)) (omega (arith, m)) (l .inv .2) (c .incoming-at2 .ensures),
+    )
 
--- src/reading.rt:156:1
 returns : tie.Need-returns Inv-loop μ-loop
-returns c = ?
+returns c =
+    let l = c .before .loop in
+    let ws = c .before .before .before .before .args .words .now in
+    take-end (l .all) (whole ws .incoming) 12 (l .i) (l .inv .1) (incoming-length ws) (omega arith) (l .inv .2)
 
 pub incoming-spec : {M : Type 1} → statement M
 incoming-spec =

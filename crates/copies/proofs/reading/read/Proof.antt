@@ -1,0 +1,128 @@
+-- Every group is the record's own.
+use Rattle.places.specs.Whole.{whole}
+use Rattle.copies.proofs.RecordLaws.{peer-made}
+use borrow.Author.Needs.{needs}
+use Rattle.copies.proofs.reading.read.Statement.{statement}
+use Rattle.copies.proofs.reading.read.Tie as tie
+
+ids-requires : tie.Need-ids-requires
+ids-requires c κs = search needs
+
+standing-requires : tie.Need-standing-requires
+standing-requires c κs = search needs
+
+bandwidth-requires : tie.Need-bandwidth-requires
+bandwidth-requires c κs = search needs
+
+totals-requires : tie.Need-totals-requires
+totals-requires c κs = search needs
+
+times-requires : tie.Need-times-requires
+times-requires c κs = search needs
+
+loss-requires : tie.Need-loss-requires
+loss-requires c κs = search needs
+
+throttling-requires : tie.Need-throttling-requires
+throttling-requires c κs = search needs
+
+limits-requires : tie.Need-limits-requires
+limits-requires c κs = search needs
+
+trips-requires : tie.Need-trips-requires
+trips-requires c κs = search needs
+
+flow-requires : tie.Need-flow-requires
+flow-requires c κs = search needs
+
+lists-requires : tie.Need-lists-requires
+lists-requires c κs = c .before .before .before .before .before .before .before .before .before .before .before .pre
+
+groups-requires : tie.Need-groups-requires
+groups-requires c κs = c .before .before .before .before .before .before .before .before .before .before .before .before .pre
+
+waiting-requires : tie.Need-waiting-requires
+waiting-requires c κs = c .before .before .before .before .before .before .before .before .before .before .before .before .before .pre
+
+all-channels-requires : tie.Need-all-channels-requires
+all-channels-requires c κs = c .before .before .before .before .before .before .before .before .before .before .before .before .before .before .pre
+
+outgoing-requires : tie.Need-outgoing-requires
+outgoing-requires c κs = c .before .before .before .before .before .before .before .before .before .before .before .before .before .before .before .pre
+
+incoming-requires : tie.Need-incoming-requires
+incoming-requires c κs = c .before .before .before .before .before .before .before .before .before .before .before .before .before .before .before .before .pre
+
+returns : tie.Need-returns
+returns c =
+    let o = c .before in
+    let k = o .before in
+    let w = k .before in
+    let g = w .before in
+    let q = g .before in
+    let f = q .before in
+    let r = f .before in
+    let z = r .before in
+    let h = z .before in
+    let l = h .before in
+    let m = l .before in
+    let t = m .before in
+    let b = t .before in
+    let s = b .before in
+    let i = s .before in
+    peer-made
+    (whole (i .before .before .args .words .now))
+    (i .ids .result)
+    (s .standing .result)
+    (b .bandwidth .result)
+    (t .totals .result)
+    (m .times .result)
+    (l .loss .result)
+    (h .throttling .result)
+    (z .limits .result)
+    (r .trips .result)
+    (f .flow .result)
+    (q .lists .result)
+    (g .groups .result)
+    (w .waiting .result)
+    (k .all-channels .result)
+    (o .outgoing .result)
+    (c .incoming .result)
+    (i .ids .ensures)
+    (s .standing .ensures)
+    (b .bandwidth .ensures)
+    (t .totals .ensures)
+    (m .times .ensures)
+    (l .loss .ensures)
+    (h .throttling .ensures)
+    (z .limits .ensures)
+    (r .trips .ensures)
+    (f .flow .ensures)
+    (q .lists .ensures)
+    (g .groups .ensures)
+    (w .waiting .ensures)
+    (k .all-channels .ensures)
+    (o .outgoing .ensures)
+    (c .incoming .ensures)
+
+pub read-spec : {M : Type 1} → statement M
+read-spec =
+    tie.close
+    (tie.spec
+    ids-requires
+    standing-requires
+    bandwidth-requires
+    totals-requires
+    times-requires
+    loss-requires
+    throttling-requires
+    limits-requires
+    trips-requires
+    flow-requires
+    lists-requires
+    groups-requires
+    waiting-requires
+    all-channels-requires
+    outgoing-requires
+    incoming-requires
+    returns)

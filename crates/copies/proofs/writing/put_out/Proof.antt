@@ -1,0 +1,30 @@
+-- The list's length and cells, to their places.
+use mathlib.Core.Path.{_≡_}
+use lib.ListN.{length}
+use Rattle.copies.proofs.ListLaws.{row-long, out-back}
+use borrow.Author.Needs.{needs}
+use Rattle.copies.proofs.writing.put_out.Statement.{statement}
+use Rattle.copies.proofs.writing.put_out.Tie as tie
+
+slice-aggregate-put-list : tie.Need-slice-aggregate-put-list
+slice-aggregate-put-list c = search needs
+
+put-list-requires : tie.Need-put-list-requires
+put-list-requires c κs =
+    let b = c .before .before .before .before in
+    let m : length (b .args .x .slots) ≡ 32 = search needs in
+    search needs
+
+same-length : tie.Need-same-length
+same-length c = search needs
+
+returns : tie.Need-returns
+returns c =
+    let l = c .before .before in
+    let b = l .before .before .before .before .before in
+    let a = b .args in
+    let m : length (a .x .slots) ≡ 32 = search needs in
+    (row-long (a .words .now) (l .put-list .last .0) (a .x .slots) (a .at) (a .x .len) 32 m (l .put-list .ensures .0), (m, out-back (a .x) (l .put-list .ensures .1)))
+
+pub put-out-spec : {M : Type 1} → statement M
+put-out-spec = tie.close (tie.spec slice-aggregate-put-list put-list-requires same-length returns)
