@@ -93,7 +93,7 @@ pub fn count_of(packet: Packet) -> u32
 }
 
 // Command j of a packet, at its offset.
-fn piece_at(packet: Packet, j: u32, offset: u32) -> Piece
+pub fn piece_at(packet: Packet, j: u32, offset: u32) -> Piece
     ensures { λ r. ⌜ r ≡ pieceAt packet j offset ⌝ }
 {
     match packet {

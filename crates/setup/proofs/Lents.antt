@@ -50,8 +50,8 @@ module _ (s : Settings) (x : Piece) (p : Peer) (g : Gate) (e : g ≡ gateOf (fit
   -- y is the record with the piece, z with the numbers back
   pub lent-left : may ≡ Open → (r : lent.Outbox) (y z : Peer) → Sets p o x r y → z ≡ closed y (x .command .channel) r
       → Came answerOf (onRecord s p rest) Done z
-  lent-left opened r y z set ze =
+  lent-left opened r y z made ze =
       let q = queueing (inLists o (p .lists)) x in
-      subst (λ (z : Peer). Came answerOf (onRecord s p rest) Done z) (sym (left-is p y z (x .command .channel) r q (set .0) (set .1) ze))
+      subst (λ (z : Peer). Came answerOf (onRecord s p rest) Done z) (sym (left-is p y z (x .command .channel) r q (made .0) (made .1) ze))
       (one-left s x p (worthsOf p) refl g (by-worths asked) passed (inLists o (p .lists)) oe rule may me some opened q refl
       (numbered (p .channels) (x .command .channel) (q .outbox .counters)) refl)

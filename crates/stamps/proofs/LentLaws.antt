@@ -4,7 +4,7 @@ use Prim.Native.Nat.{ℕ, _≤_}
 use mathlib.Core.Path.{_≡_, refl, ap, sym, subst, _∙_}
 use mathlib.Core.List.{List}
 use native.Mathlib.Omega.{arith}
-use lib.ListN.{length, set, List·getD-eq-default}
+use lib.ListN.{set, List·getD-eq-default}
 use lib.Seq.{set-out}
 use Rattle.numbers.specs.Modulo.{sum}
 use Rattle.runs.specs.Free.{isMarked, firstFrom}

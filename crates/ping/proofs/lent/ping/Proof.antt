@@ -1,5 +1,5 @@
 -- `ping` passes the gate and its own refusals, then the lowest free slot takes the ping in place, and the numbers go back.
-use mathlib.Core.Path.{_≡_, refl, ap, _∙_}
+use mathlib.Core.Path.{refl, ap, _∙_}
 use borrow.Author.Needs.{needs}
 use Rattle.parts.specs.declared.groups.Standing.{Standing}
 use Rattle.peer.specs.Calls.{answerOf}
