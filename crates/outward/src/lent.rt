@@ -39,7 +39,14 @@ pub fn call(words: &mut [u32; RECORD], settings: Settings, call: Call) -> Reply
             sent,
             clock,
         } => {
-            let reply = acknowledge::lent::acknowledge(words, settings, channel, number, sent, clock);
+            let reply = acknowledge::lent::acknowledge(
+                words,
+                settings,
+                channel,
+                number,
+                sent,
+                clock,
+            );
             return Reply::Acknowledged(reply);
         }
         Call::TimeoutCheck { clock } => {

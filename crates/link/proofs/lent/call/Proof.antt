@@ -43,20 +43,17 @@ enum-known-call-4 c = search needs
 call-requires-2 : tie.Need-call-requires-2
 call-requires-2 c κs = search needs
 
-
 returns : tie.Need-returns
 returns c =
     let a = c .before .before .before .before .before .before .args in
     let x : State = record { peer = whole (a .words .now); store = a .store .now } in
     promised (a .settings) (a .call) (a .datagram .now) x calls.answerOf vr.Called _ (c .before .before .enum-told .given .1) _ refl refl tt _ refl _ (came-beside x _ (c .before .reset .ensures))
 
-
 returns-2 : tie.Need-returns-2
 returns-2 c =
     let a = c .before .before .before .before .before .before .before .args in
     let x : State = record { peer = whole (a .words .now); store = a .store .now } in
     promised (a .settings) (a .call) (a .datagram .now) x calls.answerOf vr.Called _ (c .before .before .before .call .given .1) _ refl refl tt _ refl _ (came-beside x _ (c .before .begin .ensures))
-
 
 returns-3 : tie.Need-returns-3
 returns-3 c =

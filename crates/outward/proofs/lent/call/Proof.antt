@@ -54,18 +54,15 @@ enum-known-call-6 c = search needs
 throttle-requires : tie.Need-throttle-requires
 throttle-requires c κs = search needs
 
-
 returns : tie.Need-returns
 returns c =
     let a = c .before .before .before .before .args in
     promised (a .settings) (a .call) (whole (a .words .now)) calls.answerOf vr.Called _ (c .before .before .enum-told .given .1) _ refl refl tt _ (c .before .ping .ensures)
 
-
 returns-2 : tie.Need-returns-2
 returns-2 c =
     let a = c .before .before .before .before .before .args in
     promised (a .settings) (a .call) (whole (a .words .now)) calls.answerOf vr.Called _ (c .before .before .before .call .given .1) _ refl refl tt _ (c .before .send .ensures)
-
 
 returns-3 : tie.Need-returns-3
 returns-3 c =
