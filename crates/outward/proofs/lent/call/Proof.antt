@@ -57,37 +57,37 @@ throttle-requires c κs = search needs
 returns : tie.Need-returns
 returns c =
     let a = c .before .before .before .before .args in
-    promised (a .settings) (a .call) (whole (a .words .now)) calls.answerOf vr.Called _ (c .before .before .enum-told .given .1) _ refl refl tt _ (c .before .ping .ensures)
+    promised (a .settings) (a .call) (whole (a .words .now)) calls.answerOf vr.Called _ (c .before .before .enum-told .given .1) _ refl refl tt _ (c .ping .ensures)
 
 returns-2 : tie.Need-returns-2
 returns-2 c =
     let a = c .before .before .before .before .before .args in
-    promised (a .settings) (a .call) (whole (a .words .now)) calls.answerOf vr.Called _ (c .before .before .before .call .given .1) _ refl refl tt _ (c .before .send .ensures)
+    promised (a .settings) (a .call) (whole (a .words .now)) calls.answerOf vr.Called _ (c .before .before .before .call .given .1) _ refl refl tt _ (c .send .ensures)
 
 returns-3 : tie.Need-returns-3
 returns-3 c =
     let a = c .before .before .before .before .before .args in
-    promised (a .settings) (a .call) (whole (a .words .now)) calls.answerOf vr.Called _ (c .before .before .before .call2 .given .1) _ refl refl tt _ (c .before .setup .ensures)
+    promised (a .settings) (a .call) (whole (a .words .now)) calls.answerOf vr.Called _ (c .before .before .before .call2 .given .1) _ refl refl tt _ (c .setup .ensures)
 
 returns-4 : tie.Need-returns-4
 returns-4 c =
     let a = c .before .before .before .before .before .args in
-    promised (a .settings) (a .call) (whole (a .words .now)) stepping.answerOf vr.Stepped _ (c .before .before .before .call3 .given .1) _ refl refl (c .before .step .ensures .1) _ (c .before .step .ensures .0)
+    promised (a .settings) (a .call) (whole (a .words .now)) stepping.answerOf vr.Stepped _ (c .before .before .before .call3 .given .1) _ refl refl (c .step .ensures .1) _ (c .step .ensures .0)
 
 returns-5 : tie.Need-returns-5
 returns-5 c =
     let a = c .before .before .before .before .before .args in
-    promised (a .settings) (a .call) (whole (a .words .now)) acknowledging.answerOf vr.Acknowledged _ (c .before .before .before .call4 .given .1) _ refl refl tt _ (c .before .acknowledge .ensures)
+    promised (a .settings) (a .call) (whole (a .words .now)) acknowledging.answerOf vr.Acknowledged _ (c .before .before .before .call4 .given .1) _ refl refl tt _ (c .acknowledge .ensures)
 
 returns-6 : tie.Need-returns-6
 returns-6 c =
     let a = c .before .before .before .before .before .args in
-    promised (a .settings) (a .call) (whole (a .words .now)) checking.answerOf vr.Checked _ (c .before .before .before .call5 .given .1) _ refl refl tt _ (c .before .check .ensures)
+    promised (a .settings) (a .call) (whole (a .words .now)) checking.answerOf vr.Checked _ (c .before .before .before .call5 .given .1) _ refl refl tt _ (c .check .ensures)
 
 returns-7 : tie.Need-returns-7
 returns-7 c =
     let a = c .before .before .before .before .before .args in
-    promised (a .settings) (a .call) (whole (a .words .now)) throttling.answerOf vr.Throttled _ (c .before .before .before .call6 .given .1) _ refl refl tt _ (c .before .throttle .ensures)
+    promised (a .settings) (a .call) (whole (a .words .now)) throttling.answerOf vr.Throttled _ (c .before .before .before .call6 .given .1) _ refl refl tt _ (c .throttle .ensures)
 
 pub call-spec : {M : Type 1} → statement M
 call-spec =
