@@ -1,111 +1,47 @@
--- `call` makes each call by its own function, so what that function ensures is carried over, one arm of the match after another.
-use mathlib.Core.Path.{refl, ap}
-use Prim.Native.Nat.{ℕ, _+_, _*_}
-use Rattle.peer.specs.Outcome.{State}
+-- The record is written down, the lent link is called on its numbers, and what they mean then is the record that comes back.
+use mathlib.Core.Path.{_≡_, sym, subst}
+use Rattle.peer.specs.Outcome.{State, Came}
+use Rattle.peer.specs.declared.record.Peer.{Peer}
+use Rattle.places.specs.Whole.{whole}
+use Rattle.link.specs.Steps.{answerOf, step}
 use borrow.Author.Needs.{needs}
-use Rattle.peer.specs.Calls as calls
-use Rattle.outward.specs.Steps as outward
-use Rattle.inward.specs.Steps as inward
-use Rattle.inward.proofs.Calling.{came-beside}
-use Rattle.link.specs.declared.calls.Reply.the-variants as vr
-use Rattle.link.proofs.Calling.{promised}
 use Rattle.link.proofs.call.Statement.{statement}
 use Rattle.link.proofs.call.Tie as tie
 
-enum-told : tie.Need-enum-told
-enum-told c = search needs
+slice-aggregate-write : tie.Need-slice-aggregate-write
+slice-aggregate-write c = search needs
 
-reset-requires : tie.Need-reset-requires
-reset-requires c κs = search needs
-
-enum-known-call : tie.Need-enum-known-call
-enum-known-call c = search needs
-
-begin-requires : tie.Need-begin-requires
-begin-requires c κs = search needs
-
-enum-known-call-2 : tie.Need-enum-known-call-2
-enum-known-call-2 c = search needs
-
-set-state-requires : tie.Need-set-state-requires
-set-state-requires c κs = search needs
-
-enum-known-call-3 : tie.Need-enum-known-call-3
-enum-known-call-3 c = search needs
+write-requires : tie.Need-write-requires
+write-requires c κs = search needs
 
 call-requires : tie.Need-call-requires
 call-requires c κs = search needs
 
-enum-known-call-4 : tie.Need-enum-known-call-4
-enum-known-call-4 c = search needs
-
-call-requires-2 : tie.Need-call-requires-2
-call-requires-2 c κs = search needs
-
-plain-requires : tie.Need-plain-requires
-plain-requires c κs = search needs
-
-returns : tie.Need-returns
-returns c =
-    let a = c .before .before .before .before .before .before .args in
-    let x : State = record { peer = a .peer; store = a .store .now } in
-    rw (c .plain .ensures) (promised (a .settings) (a .call) (a .datagram .now) x calls.answerOf vr.Called _ (c .before .before .enum-told .given .1) _ refl refl tt _ refl _ (came-beside x _ (c .before .reset .ensures)))
-
-plain-requires-2 : tie.Need-plain-requires-2
-plain-requires-2 c κs = search needs
-
-returns-2 : tie.Need-returns-2
-returns-2 c =
-    let a = c .before .before .before .before .before .before .before .args in
-    let x : State = record { peer = a .peer; store = a .store .now } in
-    rw (c .plain2 .ensures) (promised (a .settings) (a .call) (a .datagram .now) x calls.answerOf vr.Called _ (c .before .before .before .call .given .1) _ refl refl tt _ refl _ (came-beside x _ (c .before .begin .ensures)))
-
-plain-requires-3 : tie.Need-plain-requires-3
-plain-requires-3 c κs = search needs
-
-returns-3 : tie.Need-returns-3
-returns-3 c =
-    let a = c .before .before .before .before .before .before .before .args in
-    let x : State = record { peer = a .peer; store = a .store .now } in
-    rw (c .plain3 .ensures) (promised (a .settings) (a .call) (a .datagram .now) x calls.answerOf vr.Called _ (c .before .before .before .call2 .given .1) _ refl refl tt _ refl _ (came-beside x _ (c .before .set-state .ensures)))
-
-returns-4 : tie.Need-returns-4
-returns-4 c =
-    let a = c .before .before .before .before .before .before .before .args in
-    let x : State = record { peer = a .peer; store = a .store .now } in
-    let own = c .before .call4 .ensures .1 in
-    promised (a .settings) (a .call) (a .datagram .now) x outward.answerOf vr.Outward _ (c .before .before .before .call3 .given .1) _ refl (ap (λ (n : ℕ). 2 * n + 1) (own .kind)) (own .named) _ refl _ (came-beside x _ (c .before .call4 .ensures .0))
+meant-requires : tie.Need-meant-requires
+meant-requires c κs = search needs
 
 same-length : tie.Need-same-length
 same-length c = search needs
 
-returns-5 : tie.Need-returns-5
-returns-5 c =
-    let a = c .before .before .before .before .before .before .before .before .before .before .args in
-    let x : State = record { peer = a .peer; store = a .store .now } in
-    let own = c .before .before .before .call6 .ensures .1 in
-    promised (a .settings) (a .call) (a .datagram .now) x inward.answerOf vr.Inward _ (c .before .before .before .before .before .before .call5 .given .1) _ refl (ap (λ (n : ℕ). 2 * n + 2) (own .kind)) tt _ refl _ (c .before .before .before .call6 .ensures .0)
+returns : tie.Need-returns
+returns c =
+    let k = c .before .before .before .before in
+    let w = k .before .before .before .before in
+    let a = w .before .before .before .before .args in
+    let after = k .call .last .0 in
+    let before : whole (w .write .last .0) ≡ a .peer = w .write .ensures in
+    let came = subst (λ (p : Peer). Came answerOf (step (a .settings) (a .call) (a .datagram .now) (record { peer = p; store = a .store .now })) (k .call .result) (record { peer = whole after; store = k .call .last .1 .1 .1 .0 })) before (k .call .ensures .0) in (
+      subst (λ (p : Peer). Came answerOf (step (a .settings) (a .call) (a .datagram .now) (record { peer = a .peer; store = a .store .now })) (k .call .result) (record { peer = p; store = k .call .last .1 .1 .1 .0 })) (sym (c .meant .ensures)) came,
+      k .call .ensures .1,
+    )
 
 pub call-spec : {M : Type 1} → statement M
 call-spec =
     tie.close
     (tie.spec
-    enum-told
-    reset-requires
-    plain-requires
-    returns
-    enum-known-call
-    begin-requires
-    plain-requires-2
-    returns-2
-    enum-known-call-2
-    set-state-requires
-    plain-requires-3
-    returns-3
-    enum-known-call-3
+    slice-aggregate-write
+    write-requires
     call-requires
-    returns-4
-    enum-known-call-4
-    call-requires-2
+    meant-requires
     same-length
-    returns-5)
+    returns)
