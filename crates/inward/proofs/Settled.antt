@@ -13,7 +13,6 @@ use Rattle.inward.specs.Steps.{answerOf, comes, kindIn, Own}
 use Rattle.inward.specs.declared.calls.Call.{Call}
 use Rattle.inward.specs.declared.calls.Reply.{Reply}
 use Rattle.inward.specs.declared.calls.Reply.the-variants as vr
-use Rattle.inward.specs.declared.Taken.{Taken}
 
 pub replies-apart : (a b : Reply) → kindIn a ≡ kindIn b → answerOf a ≡ answerOf b → a ≡ b
 replies-apart (vr.Arrived r) (vr.Arrived q) k e = ap vr.Arrived (arriving.replies-apart r q e)
@@ -26,17 +25,11 @@ replies-apart (vr.Received r) (vr.Arrived q) k e = absurd (omega (arith, k))
 replies-apart (vr.Received r) (vr.Called q) k e = absurd (omega (arith, k))
 replies-apart (vr.Received r) (vr.Received q) k e = ap vr.Received (receiving.replies-apart r q e)
 
-module _ (s : Settings) (k : Call) (datagram : List ℕ) (x : State) (a b : Taken) (t u : List ℕ)
-    (c : Came answerOf (comes s k datagram x) (a .reply) (record { peer = a .peer; store = t })) (m : Own k (a .reply))
-    (d : Came answerOf (comes s k datagram x) (b .reply) (record { peer = b .peer; store = u })) (n : Own k (b .reply)) where
-  states : _≡_ {A = State} (record { peer = a .peer; store = t }) (record { peer = b .peer; store = u })
-  states = c .after ∙ sym (d .after)
+module _ (s : Settings) (k : Call) (datagram : List ℕ) (x : State) (r q : Reply) (y z : State)
+    (c : Came answerOf (comes s k datagram x) r y) (m : Own k r) (d : Came answerOf (comes s k datagram x) q z) (n : Own k q) where
+  pub inward-settled : r ≡ q
+  inward-settled = replies-apart r q (m .kind ∙ sym (n .kind)) (c .answer ∙ sym (d .answer))
 
-  pub inward-settled : a ≡ b
-  inward-settled =
-      ap (λ (r : Reply). record { peer = a .peer; reply = r })
-      (replies-apart (a .reply) (b .reply) (m .kind ∙ sym (n .kind)) (c .answer ∙ sym (d .answer)))
-      ∙ ap (λ (y : State). record { peer = y .peer; reply = b .reply }) states
-
-  pub store-settled : t ≡ u
-  store-settled = ap (λ (y : State). y .store) states
+  -- the record, and the store that is lent
+  pub left-settled : y ≡ z
+  left-settled = c .after ∙ sym (d .after)

@@ -14,7 +14,6 @@ use Rattle.outward.specs.Steps.{answerOf, goes, kindIn, NamedIn, Own}
 use Rattle.outward.specs.declared.calls.Call.{Call}
 use Rattle.outward.specs.declared.calls.Reply.{Reply}
 use Rattle.outward.specs.declared.calls.Reply.the-variants as vr
-use Rattle.outward.specs.declared.Went.{Went}
 
 pub replies-apart : (a b : Reply) → kindIn a ≡ kindIn b → NamedIn a → NamedIn b → answerOf a ≡ answerOf b → a ≡ b
 replies-apart (vr.Called r) (vr.Called q) k m n e = ap vr.Called (calls.replies-apart r q e)
@@ -43,10 +42,10 @@ replies-apart (vr.Throttled r) (vr.Acknowledged q) k m n e = absurd (omega arith
 replies-apart (vr.Throttled r) (vr.Checked q) k m n e = absurd (omega arith)
 replies-apart (vr.Throttled r) (vr.Throttled q) k m n e = ap vr.Throttled (throttling.replies-apart r q e)
 
-module _ (s : Settings) (k : Call) (p : Peer) (a b : Went) where
-  pub outward-settled : Came answerOf (goes s k p) (a .reply) (a .peer) → Own k (a .reply) → Came answerOf (goes s k p) (b .reply) (b .peer) → Own k (b .reply)
-      → a ≡ b
-  outward-settled c m d n =
-      ap (λ (r : Reply). record { peer = a .peer; reply = r })
-      (replies-apart (a .reply) (b .reply) (m .kind ∙ sym (n .kind)) (m .named) (n .named) (c .answer ∙ sym (d .answer)))
-      ∙ ap (λ (q : Peer). record { peer = q; reply = b .reply }) (c .after ∙ sym (d .after))
+module _ (s : Settings) (k : Call) (p : Peer) (r q : Reply) (y z : Peer)
+    (c : Came answerOf (goes s k p) r y) (m : Own k r) (d : Came answerOf (goes s k p) q z) (n : Own k q) where
+  pub outward-settled : r ≡ q
+  outward-settled = replies-apart r q (m .kind ∙ sym (n .kind)) (m .named) (n .named) (c .answer ∙ sym (d .answer))
+
+  pub left-settled : y ≡ z
+  left-settled = c .after ∙ sym (d .after)
