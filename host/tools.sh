@@ -1,5 +1,5 @@
 # shellcheck shell=bash
-# Sourced by host/run and host/weigh: where results go, and the compiler, linker and emulator for x86-64.
+# Sourced by host/run, host/weigh and host/stack: where results go, and the compiler, linker and emulator for x86-64.
 top=$(cd "$(dirname "${BASH_SOURCE[0]}")/.." && pwd)
 out=$top/target/host
 target=x86_64-unknown-linux-gnu
@@ -48,6 +48,17 @@ need_tools() {
     mkdir -p "$out"
     find_tools || install >"$out/install.log" 2>&1 || true
     find_tools || { say "no rustc with $target, or no $linker; what was tried is in target/host/install.log"; exit 2; }
+}
+
+# a disassembler for x86-64
+# shellcheck disable=SC2034 # host/stack asks for it
+need_objdump() {
+    local package=binutils-x86-64-linux-gnu
+    objdump=x86_64-linux-gnu-objdump
+    if [ "$machine" = x86_64 ]; then package=binutils objdump=objdump; fi
+    mkdir -p "$out"
+    command -v "$objdump" >/dev/null || { apt-get update -qq && apt-get install -yqq --no-install-recommends "$package"; } >"$out/install.log" 2>&1 || true
+    command -v "$objdump" >/dev/null || { say "no $objdump; what was tried is in target/host/install.log"; exit 2; }
 }
 
 # need_library CRATE: its static library, proved anew

@@ -3,7 +3,7 @@
 
 use enet::{Arrival, Datagram, Receiver};
 
-use crate::{clock, least, lent::DATAGRAM, TURNS};
+use crate::{calls::DATAGRAM, clock, clock::least, TURNS};
 
 const UNSEQUENCED: u8 = 73;
 const RELIABLE: u8 = 134;

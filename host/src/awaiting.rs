@@ -3,12 +3,7 @@
 
 use enet::Awaiting;
 
-use crate::{clock, least, TURNS};
-
-/// So many peers have their turn at a time, between two looks at the clock: more would not stay in the nearest cache.
-const PEERS: usize = 4;
-
-const PLACES: [usize; PEERS] = [0, 1, 2, 3];
+use crate::{clock, few, few::PLACES};
 
 /// Of the first of so many that are sent.
 pub fn acknowledge(count: u16) -> (f64, u32) {
@@ -33,8 +28,7 @@ pub fn check(count: u16, due: bool) -> (f64, u32) {
     }
 }
 
-/// A call that answers 0 and leaves so many sent and waiting. The clock is looked at after every few calls: its own time
-/// is taken off.
+/// A call that answers 0 and leaves so many sent and waiting.
 fn timed(
     count: u16,
     call: impl Fn(&mut Awaiting) -> i32,
@@ -42,7 +36,7 @@ fn timed(
     left: [usize; 2],
 ) -> (f64, u32) {
     let (mut peers, mut wrong) = (PLACES.map(|_| Awaiting::new(count, true)), 0);
-    let time = turns(|| {
+    let time = few::timed(|| {
         let time = clock::time(&PLACES, |place| wrong += u32::from(call(&mut peers[*place]) != 0));
         for peer in &mut peers {
             wrong += u32::from(peer.counts() != left);
@@ -50,11 +44,5 @@ fn timed(
         }
         time
     });
-    (time - turns(|| clock::time(&PLACES, |_| ())), wrong)
-}
-
-/// Nanoseconds of a turn, a few of which are timed at once.
-fn turns(mut few: impl FnMut() -> f64) -> f64 {
-    let times = TURNS / PEERS;
-    least(|| (0..times).map(|_| few()).sum::<f64>() / times as f64)
+    (time, wrong)
 }

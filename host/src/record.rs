@@ -1,108 +1,65 @@
-//! The record field by field, laid out as C does: its size is held to the bytes that the compiled calls copy.
+//! The records that are lent, made by our own calls; single numbers are written at their places.
 
-const OUTGOING: usize = 32;
-const INCOMING: usize = 12;
-const CHANNELS: usize = 8;
+use crate::{calls, WHOLE};
 
-#[repr(C)]
-struct Ids {
-    peers: [u16; 2],
-    connect: u32,
-    sessions: [u8; 2],
+/// How many numbers a record has.
+const NUMBERS: usize = 1_234;
+
+pub type Record = [u32; NUMBERS];
+
+/// When something came last, and the last reliable number that came on channel 0.
+const LAST_RECEIVE: usize = 14;
+const LAST_RELIABLE: usize = 196;
+
+/// As a reset leaves it.
+pub fn fresh() -> Record {
+    let mut words = [0; NUMBERS];
+    made(calls::reset(&mut words));
+    words
 }
 
-#[repr(C)]
-struct Flow {
-    numbers: [u32; 3],
-    reliable: u16,
+/// Connected, with one channel; something came before, so that no sample is the first.
+pub fn connected() -> Record {
+    let mut words = fresh();
+    made(calls::begin(&mut words));
+    made(calls::state(&mut words, calls::MTU));
+    words[LAST_RECEIVE] = 1;
+    words
 }
 
-#[repr(C)]
-struct OutList {
-    len: u16,
-    slots: [u16; OUTGOING],
+/// So many packets wait to be sent.
+pub fn waiting(count: usize) -> Record {
+    let mut words = connected();
+    for _ in 0..count {
+        made(calls::send(&mut words, calls::MTU, WHOLE));
+    }
+    words
 }
 
-#[repr(C)]
-struct InList {
-    len: u16,
-    slots: [u16; INCOMING],
+/// So many packets were sent, numbered from 1, and await acknowledgements.
+pub fn sent(count: usize) -> Record {
+    let mut words = waiting(count);
+    for _ in 0..count {
+        assert_eq!(calls::step(&mut words), 1);
+    }
+    words
 }
 
-#[repr(C)]
-struct Lists {
-    out: [OutList; 3],
-    dispatched: InList,
+/// Packet 2 is held; with this number before it.
+pub fn holding(last: u32) -> Record {
+    let mut words = connected();
+    assert_eq!(calls::reliable(&mut words, 2), 1);
+    words[LAST_RELIABLE] = last;
+    words
 }
 
-#[repr(C)]
-struct Groups {
-    numbers: [u16; 4],
-    words: [u32; 32],
+/// One packet is there to be received.
+pub fn delivered() -> Record {
+    let mut words = connected();
+    assert_eq!(calls::unsequenced(&mut words, 0), 1);
+    words
 }
 
-#[repr(C)]
-struct Channel {
-    counters: [u16; 4],
-    held: InList,
-}
-
-/// The largest of the twelve is Connect, with its data.
-#[repr(C)]
-struct Fields {
-    tag: u8,
-    peer: u16,
-    sessions: [u8; 2],
-    numbers: [u32; 9],
-    data: u32,
-}
-
-#[repr(C)]
-struct Command {
-    byte: u8,
-    channel: u8,
-    number: u16,
-    fields: Fields,
-}
-
-#[repr(C)]
-struct Outgoing {
-    counters: [u16; 2],
-    numbers: [u32; 4],
-    length: u16,
-    attempts: u16,
-    packet: bool,
-    command: Command,
-}
-
-#[repr(C)]
-struct Incoming {
-    byte: u8,
-    channel: u8,
-    number: u16,
-    numbers: [u32; 3],
-}
-
-/// Standing 2, bandwidth 4, totals 2, times 4, loss 5, throttling 7, limits 4, trips 6.
-#[repr(C)]
-struct Peer {
-    ids: Ids,
-    numbers: [u32; 34],
-    flow: Flow,
-    lists: Lists,
-    groups: Groups,
-    waiting: [u32; 3],
-    channels: [Channel; CHANNELS],
-    outgoing: [Outgoing; OUTGOING],
-    incoming: [Incoming; INCOMING],
-}
-
-pub fn print_sizes() {
-    use std::mem::size_of;
-    println!("record: {} bytes", size_of::<Peer>());
-    println!("  outgoing pool: {} x {} bytes", OUTGOING, size_of::<Outgoing>());
-    println!("  incoming pool: {} x {} bytes", INCOMING, size_of::<Incoming>());
-    println!("  channels: {} x {} bytes", CHANNELS, size_of::<Channel>());
-    println!("  lists: {} bytes", size_of::<Lists>());
-    println!("  groups: {} bytes", size_of::<Groups>());
+fn made(answer: u32) {
+    assert_eq!(answer, 0, "a record is not made");
 }

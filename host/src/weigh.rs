@@ -1,213 +1,231 @@
-//! The calls on a peer's record: the deepest stack of each by a painted stack, and the time, beside the source's own.
+//! The calls on a lent record: the deepest stack of each by a painted stack, and the time, beside the source's own.
 
 #![no_main] // the ordinary runtime may crash at exit under the emulator
 
 mod arrivals;
 mod awaiting;
+mod calls;
 mod clock;
-mod lent;
+mod few;
 mod paint;
-#[allow(dead_code)] // its structs are there for their sizes, and no field is read
 mod record;
 mod run;
 mod sends;
 mod sent;
 
-use clock::least;
+use std::mem::size_of;
 
-extern "C" {
-    fn weigh_sound(state: u32) -> u32;
-    fn weigh_reset(mtu: u32) -> u32;
-    fn weigh_state(mtu: u32, state: u32) -> u32;
-    fn weigh_ping(mtu: u32) -> u32;
-    fn weigh_send(mtu: u32, length: u32, flags: u32) -> u32;
-    fn weigh_step(length: u32, time: u32) -> u32;
-    fn weigh_dispatch(number: u16, length: u32) -> u32;
-    fn weigh_sent(count: u16) -> u32;
-    fn weigh_acknowledge(count: u16, number: u16, clock: u32) -> u32;
-    fn weigh_check(count: u16, clock: u32) -> u32;
-}
-
-const MTU: u32 = 1_392;
-const CONNECTED: u32 = 5;
-const RELIABLE: u32 = 1;
-const TIME: u32 = 1_000;
+use calls::Kind;
+use record::{connected, delivered, fresh, holding, sent as having_sent, waiting, Record};
 
 /// A packet that goes out whole, and one of 32 pieces.
 const WHOLE: u32 = 100;
 const PIECES: u32 = 32 * 1_364;
 
-/// A group and a number that are taken, those that are passed over, and a number that has to wait.
+/// A group and a number that are taken, and those that are passed over.
 const GROUP: u16 = 0;
 const DISTANT: u16 = 32_768;
 const NEXT: u16 = 1;
 const LAST: u16 = 0;
-const LATER: u16 = 2;
 
-/// All that can be sent, the number of those that are, and of none of them; when an acknowledgement comes, and when those
-/// sent at 1,000 are not due yet and are.
+/// All that can be sent, and when those are not due yet and are.
 const ALL: u16 = 32;
-const SENT: u16 = 1;
-const UNSENT: u16 = 2;
-const HEARD: u32 = 1_250;
-const EARLY: u32 = 1_100;
-const LATE: u32 = 1_600;
+const EARLY: u32 = 1_499;
+const LATE: u32 = 1_500;
 
-struct Weighed {
-    name: &'static str,
-    call: fn() -> u32,
-    answer: u32,
-    /// The export whose time is taken off: what stands in this one beside the call.
-    less: usize,
-    /// The source's call of this name stands beside it.
-    beside: &'static str,
-}
-
-/// A call of the source: its time, and how many of its answers are wrong.
-struct Source {
-    name: &'static str,
-    timed: fn() -> (f64, u32),
-}
-
-const SOUND: usize = 0;
-const SEND: usize = 1;
-const SEND_PIECES: usize = 2;
-const UNSEQUENCED: usize = 10;
-const SENT_ONE: usize = 17;
-const SENT_ALL: usize = 18;
-const BY_VALUE: [usize; 2] = [22, 23];
-const RUN: usize = 24;
-const LENT: [usize; 2] = [25, 26];
-
-const CALLS: [Weighed; 27] = [
-    weighed("sound", || unsafe { weigh_sound(CONNECTED) }, 1),
-    weighed("send, 100 bytes", || unsafe { send(WHOLE) }, 0),
-    weighed("send, 32 pieces", || unsafe { send(PIECES) }, 0),
-    weighed("step, 1 waits", || unsafe { step(WHOLE) }, 1).less(SEND),
-    weighed("step, 32 wait", || unsafe { step(PIECES) }, 1).less(SEND_PIECES),
-    weighed("ping", || unsafe { weigh_ping(MTU) }, 0),
-    weighed("set state", || unsafe { weigh_state(MTU, CONNECTED) }, 0),
-    weighed("reset", || unsafe { weigh_reset(MTU) }, 0),
-    weighed("set state, 11", || unsafe { weigh_state(0, CONNECTED) }, 11),
-    weighed("send, 11", || unsafe { weigh_send(0, WHOLE, RELIABLE) }, 11),
-    weighed("unsequenced arrival", || lent::unsequenced(GROUP), 1),
-    weighed("unsequenced arrival, passed over", || lent::unsequenced(DISTANT), 0),
-    weighed("reliable arrival", || lent::reliable(NEXT), 1),
-    weighed("reliable arrival, passed over", || lent::reliable(LAST), 0),
-    weighed("dispatch, 1 ready", || unsafe { weigh_dispatch(NEXT, WHOLE) }, 0),
-    weighed("dispatch, 1 waits", || unsafe { weigh_dispatch(LATER, WHOLE) }, 0),
-    weighed("receive", lent::receive, 1).less(UNSEQUENCED),
-    weighed("sound, 1 sent", || unsafe { weigh_sent(1) }, 1).less(SENT_ONE),
-    weighed("sound, 32 sent", || unsafe { weigh_sent(ALL) }, 1).less(SENT_ALL),
-    weighed("acknowledgement, 1 sent", || unsafe { weigh_acknowledge(1, SENT, HEARD) }, 1)
-        .less(SENT_ONE),
-    weighed("acknowledgement, 32 sent", || unsafe { weigh_acknowledge(ALL, SENT, HEARD) }, 1)
-        .less(SENT_ALL),
-    weighed(
-        "acknowledgement, none removed",
-        || unsafe { weigh_acknowledge(ALL, UNSENT, HEARD) },
-        1,
-    )
-    .less(SENT_ALL),
-    weighed("timeouts, 32 wait", || unsafe { weigh_check(ALL, EARLY) }, 1).less(SENT_ALL),
-    weighed("timeouts, 32 go back", || unsafe { weigh_check(ALL, LATE) }, 1).less(SENT_ALL),
-    weighed("run of 32", run::make, 32).less(RUN),
-    weighed("lent walk, 32 wait", || run::walked(EARLY), 0).less(RUN).beside("timeouts, 32 wait"),
-    weighed("lent walk, 32 go back", || run::walked(LATE), 32)
-        .less(RUN)
-        .beside("timeouts, 32 go back"),
-];
-
-const SOURCES: [Source; 14] = [
-    source("send, 100 bytes", || sends::source(WHOLE)),
-    source("send, 32 pieces", || sends::source(PIECES)),
-    source("unsequenced arrival", || arrivals::unsequenced(|turn| turn)),
-    source("unsequenced arrival, passed over", || arrivals::unsequenced(|_| DISTANT)),
-    source("reliable arrival", || arrivals::reliable(|turn| turn + NEXT)),
-    source("reliable arrival, passed over", || arrivals::reliable(|_| LAST)),
-    source("dispatch, 1 ready", || arrivals::dispatch(true)),
-    source("dispatch, 1 waits", || arrivals::dispatch(false)),
-    source("receive", arrivals::receive),
-    source("acknowledgement, 1 sent", || awaiting::acknowledge(1)),
-    source("acknowledgement, 32 sent", || awaiting::acknowledge(ALL)),
-    source("acknowledgement, none removed", || awaiting::acknowledge_none(ALL)),
-    source("timeouts, 32 wait", || awaiting::check(ALL, false)),
-    source("timeouts, 32 go back", || awaiting::check(ALL, true)),
-];
-
-const fn weighed(name: &'static str, call: fn() -> u32, answer: u32) -> Weighed {
-    Weighed { name, call, answer, less: SOUND, beside: name }
-}
-
-impl Weighed {
-    const fn less(self, less: usize) -> Self {
-        Weighed { less, ..self }
-    }
-
-    const fn beside(self, beside: &'static str) -> Self {
-        Weighed { beside, ..self }
-    }
-
-    /// The place of the source's call beside it; of its send, where it has none.
-    fn source(&self) -> usize {
-        let named = |source: &Source| source.name == self.beside;
-        SOURCES.iter().position(named).unwrap_or(0)
-    }
-}
-
-const fn source(name: &'static str, timed: fn() -> (f64, u32)) -> Source {
-    Source { name, timed }
-}
-
-unsafe fn send(length: u32) -> u32 {
-    weigh_send(MTU, length, RELIABLE)
-}
-
-unsafe fn step(length: u32) -> u32 {
-    weigh_step(length, TIME)
-}
+/// A round trip as the last one was: the throttle is raised.
+const SAMPLE: u32 = 500;
 
 /// Every time is the least of some rounds, each of so many calls.
 const TURNS: usize = 500;
 
-#[no_mangle]
-pub extern "C" fn main(_count: i32, _words: *const *const std::ffi::c_char) -> i32 {
-    record::print_sizes();
-    let mut wrong = 0;
-    for weighed in &CALLS {
-        let (stack, answer) = paint::deepest(weighed.call);
-        wrong += u32::from(answer != weighed.answer);
-        println!("{}: deepest stack {stack} bytes", weighed.name);
-    }
-    let sources = SOURCES.each_ref().map(|source| {
-        let (time, bad) = (source.timed)();
-        wrong += bad;
-        println!("source's {}: {time:.0} ns a call", source.name);
-        time
-    });
-    let times = CALLS.each_ref().map(|weighed| repeated(weighed.call));
-    for (weighed, time) in CALLS.iter().zip(times) {
-        let own = time - times[weighed.less];
-        let beside = weighed.source();
-        let (beside, ratio) = (SOURCES[beside].name, own / sources[beside]);
-        println!(
-            "{}: {time:.0} ns the export, {own:.0} the call, {ratio:.1} times the source's {beside}",
-            weighed.name
-        );
-    }
-    for (lent, by_value) in LENT.into_iter().zip(BY_VALUE) {
-        let [walk, check] = [lent, by_value].map(|call| times[call] - times[CALLS[call].less]);
-        println!(
-            "{}: lent {walk:.0} ns, by value {check:.0} ns, ratio {:.2}",
-            CALLS[by_value].name,
-            walk / check
-        );
-    }
-    println!("{wrong} wrong answers");
-    i32::from(wrong > 0)
+/// A call of the source: its time, and how many of its answers are wrong.
+type Source = (&'static str, fn() -> (f64, u32));
+
+const SOURCES: [Source; 18] = [
+    ("send, 100 bytes", || sends::source(WHOLE)),
+    ("send, 32 pieces", || sends::source(PIECES)),
+    ("throttle", || sends::throttle(SAMPLE)),
+    ("unsequenced arrival", || arrivals::unsequenced(|turn| turn)),
+    ("unsequenced arrival, passed over", || arrivals::unsequenced(|_| DISTANT)),
+    ("reliable arrival", || arrivals::reliable(|turn| turn + NEXT)),
+    ("reliable arrival, passed over", || arrivals::reliable(|_| LAST)),
+    ("dispatch, 1 ready", || arrivals::dispatch(true)),
+    ("dispatch, 1 waits", || arrivals::dispatch(false)),
+    ("receive", arrivals::receive),
+    ("acknowledgement, 1 sent", || awaiting::acknowledge(1)),
+    ("acknowledgement, 2 sent", || awaiting::acknowledge(2)),
+    ("acknowledgement, 32 sent", || awaiting::acknowledge(ALL)),
+    ("acknowledgement, none removed", || awaiting::acknowledge_none(ALL)),
+    ("timeouts, 2 wait", || awaiting::check(2, false)),
+    ("timeouts, 2 go back", || awaiting::check(2, true)),
+    ("timeouts, 32 wait", || awaiting::check(ALL, false)),
+    ("timeouts, 32 go back", || awaiting::check(ALL, true)),
+];
+
+/// The source's times, and how many answers were wrong.
+struct Table {
+    sources: [f64; SOURCES.len()],
+    wrong: u32,
 }
 
-/// Nanoseconds of a call.
-fn repeated(call: fn() -> u32) -> f64 {
-    least(|| clock::time(&[(); TURNS], |()| call()))
+impl Table {
+    fn new() -> Self {
+        let mut wrong = 0;
+        let sources = SOURCES.map(|(name, timed)| {
+            let (time, bad) = timed();
+            wrong += bad;
+            println!("the source's {name}: {time:.0} ns");
+            time
+        });
+        Table { sources, wrong }
+    }
+
+    /// Nanoseconds of a call and its deepest stack, and what it leaves.
+    fn weigh<T: Copy>(
+        &mut self,
+        start: &T,
+        call: fn(&mut T) -> u32,
+        answer: u32,
+    ) -> (f64, usize, T) {
+        let (stack, came, left) = paint::deepest(start, call);
+        let (time, wrong) = few::lent(start, call, answer);
+        self.wrong += wrong + u32::from(came != answer);
+        (time, stack, left)
+    }
+
+    /// Beside the source's call of that name; beside its send, where it has none.
+    fn line<T: Copy>(
+        &mut self,
+        [name, beside]: [&str; 2],
+        start: &T,
+        call: fn(&mut T) -> u32,
+        answer: u32,
+    ) -> T {
+        let (time, stack, left) = self.weigh(start, call, answer);
+        let beside = SOURCES.iter().position(|source| source.0 == beside).unwrap_or(0);
+        let (beside, source) = (SOURCES[beside].0, self.sources[beside]);
+        println!(
+            "{name}: {time:.0} ns, {:.1} times the source's {beside} ({:+.0} ns); deepest stack {stack} bytes",
+            time / source,
+            time - source
+        );
+        left
+    }
+
+    /// A call on a record, which it must leave sound.
+    fn row(&mut self, name: &str, start: &Record, call: fn(&mut Record) -> u32, answer: u32) {
+        let mut left = self.line([name, name], start, call, answer);
+        self.wrong += u32::from(calls::sound(&mut left) != 1);
+    }
+
+    /// The same call alone and through the link, which must leave the same.
+    fn linked(
+        &mut self,
+        name: &str,
+        start: &Record,
+        calls: [fn(&mut Record) -> u32; 2],
+        answer: u32,
+    ) {
+        let [alone, linked] = calls.map(|call| self.weigh(start, call, answer));
+        self.wrong += u32::from(alone.2 != linked.2);
+        println!(
+            "through the link, {name}: {:.0} ns, {:+.0} ns; deepest stack {} bytes, {:+} bytes",
+            linked.0,
+            linked.0 - alone.0,
+            linked.1,
+            linked.1 as i64 - alone.1 as i64
+        );
+    }
+}
+
+#[no_mangle]
+pub extern "C" fn main(_count: i32, _words: *const *const std::ffi::c_char) -> i32 {
+    println!("record: {} bytes", size_of::<Record>());
+    let mut table = Table::new();
+    begin(&mut table);
+    send(&mut table);
+    link(&mut table);
+    receive(&mut table);
+    await_answers(&mut table);
+    walk(&mut table);
+    println!("{} wrong answers", table.wrong);
+    i32::from(table.wrong > 0)
+}
+
+fn begin(table: &mut Table) {
+    let connected = connected();
+    table.row("damage test, nothing sent", &connected, calls::sound, 1);
+    table.row("damage test, 2 wait", &waiting(2), calls::sound, 1);
+    table.row("damage test, 32 sent", &having_sent(ALL.into()), calls::sound, 1);
+    table.row("reset", &connected, calls::reset, 0);
+    table.row("begin", &fresh(), calls::begin, 0);
+    table.row("set state", &connected, |words| calls::state(words, calls::MTU), 0);
+    table.row("set state, 11", &connected, |words| calls::state(words, 0), 11);
+}
+
+fn send(table: &mut Table) {
+    let connected = connected();
+    let whole = |words: &mut Record| calls::send(words, calls::MTU, WHOLE);
+    table.row("send, 100 bytes", &connected, whole, 0);
+    let pieces = |words: &mut Record| calls::send(words, calls::MTU, PIECES);
+    table.row("send, 32 pieces", &connected, pieces, 0);
+    table.row("send, 11", &connected, |words| calls::send(words, 0, WHOLE), 11);
+    table.row("ping", &connected, calls::ping, 0);
+    table.row("setup", &connected, calls::setup, 0);
+    for (name, count) in [("step, 1 waits", 1), ("step, 2 wait", 2), ("step, 32 wait", 32)] {
+        table.row(name, &waiting(count), calls::step, 1);
+    }
+    table.row("throttle", &connected, |words| calls::throttle(words, SAMPLE), 1);
+}
+
+/// Calls alone, and as data: what the link adds. It is measured with the send's kind known to the compiler too.
+fn link(table: &mut Table) {
+    let (connected, sent, delivered) = (connected(), having_sent(2), delivered());
+    let whole = |words: &mut Record| calls::send(words, calls::MTU, WHOLE);
+    let send = |words: &mut Record| calls::link(words, Kind::Send, WHOLE, calls::RELIABLE);
+    table.linked("send", &connected, [whole, calls::link_send], 0);
+    table.linked("send, kind unknown", &connected, [whole, send], 0);
+    let check = |words: &mut Record| calls::check(words, EARLY);
+    let linked = |words: &mut Record| calls::link(words, Kind::Check, EARLY, 0);
+    table.linked("timeouts, 2 wait, kind unknown", &sent, [check, linked], 1);
+    let taken = |words: &mut Record| calls::link(words, Kind::Receive, 0, 0);
+    table.linked("receive, kind unknown", &delivered, [calls::receive, taken], 1);
+}
+
+fn receive(table: &mut Table) {
+    let connected = connected();
+    let taken = |words: &mut Record| calls::unsequenced(words, GROUP);
+    table.row("unsequenced arrival", &connected, taken, 1);
+    let distant = |words: &mut Record| calls::unsequenced(words, DISTANT);
+    table.row("unsequenced arrival, passed over", &connected, distant, 0);
+    table.row("reliable arrival", &connected, |words| calls::reliable(words, NEXT), 1);
+    let last = |words: &mut Record| calls::reliable(words, LAST);
+    table.row("reliable arrival, passed over", &connected, last, 0);
+    table.row("dispatch, 1 ready", &holding(1), calls::dispatch, 0);
+    table.row("dispatch, 1 waits", &holding(0), calls::dispatch, 0);
+    table.row("receive", &delivered(), calls::receive, 1);
+}
+
+fn await_answers(table: &mut Table) {
+    let first = |words: &mut Record| calls::acknowledge(words, 1);
+    let [one, two, all] = [1, 2, ALL.into()].map(having_sent);
+    table.row("acknowledgement, 1 sent", &one, first, 1);
+    table.row("acknowledgement, 2 sent", &two, first, 1);
+    table.row("acknowledgement, 32 sent", &all, first, 1);
+    let none = |words: &mut Record| calls::acknowledge(words, ALL + 1);
+    table.row("acknowledgement, none removed", &all, none, 1);
+    let early = |words: &mut Record| calls::check(words, EARLY);
+    let late = |words: &mut Record| calls::check(words, LATE);
+    table.row("timeouts, 2 wait", &two, early, 1);
+    table.row("timeouts, 2 go back", &two, late, 1);
+    table.row("timeouts, 32 wait", &all, early, 1);
+    table.row("timeouts, 32 go back", &all, late, 1);
+}
+
+fn walk(table: &mut Table) {
+    let early = |run: &mut run::Run| run::walked(run, EARLY);
+    let late = |run: &mut run::Run| run::walked(run, LATE);
+    table.line(["lent walk, 32 wait", "timeouts, 32 wait"], &run::RUN, early, 0);
+    table.line(["lent walk, 32 go back", "timeouts, 32 go back"], &run::RUN, late, 32);
 }

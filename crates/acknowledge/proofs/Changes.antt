@@ -5,29 +5,29 @@ use mathlib.Core.Path.{_≡_, refl, ap, _∙_}
 use mathlib.Core.Bool.{Bool}
 use lib.Dec.{eqb}
 use Rattle.numbers.specs.declared.clock.Trip.{Trip}
-use Rattle.runs.specs.Runs.{first}
-use Rattle.runs.specs.declared.First.{First}
-use Rattle.slots.specs.Lists.{outItems}
-use Rattle.parts.specs.declared.groups.Standing.{Standing}
-use Rattle.parts.specs.declared.groups.Times.{Times}
-use Rattle.parts.specs.declared.groups.Throttling.{Throttling}
-use Rattle.parts.specs.declared.groups.Trips.{Trips}
-use Rattle.parts.specs.declared.groups.Flow.{Flow}
-use Rattle.parts.specs.declared.groups.Outgoing.{Outgoing}
+use Rattle.cells.specs.Runs.{first}
+use Rattle.cells.specs.declared.First.{First}
+use Rattle.record.specs.Lists.{outItems}
+use Rattle.record.specs.declared.groups.Standing.{Standing}
+use Rattle.record.specs.declared.groups.Times.{Times}
+use Rattle.record.specs.declared.groups.Throttling.{Throttling}
+use Rattle.record.specs.declared.groups.Trips.{Trips}
+use Rattle.record.specs.declared.groups.Flow.{Flow}
+use Rattle.record.specs.declared.groups.Outgoing.{Outgoing}
 use Rattle.peer.specs.Outcome.{Came}
 use Rattle.peer.specs.Updates.{withTimes, withThrottling, withFlow, withLists}
-use Rattle.peer.specs.declared.record.Peer.{Peer}
+use Rattle.peer.specs.declared.Peer.{Peer}
 use Rattle.pool.specs.Slots.{briefOf}
 use Rattle.pool.specs.declared.Brief.{Brief}
 use Rattle.places.specs.Updates.{withTrips}
-use Rattle.averages.specs.Interval.{measured}
-use Rattle.averages.specs.declared.Measured.{Measured}
-use Rattle.removal.specs.Removal.{slotAt, heldBy, listsWithout, flowWithout, timesWithout, commandAt, isSome}
-use Rattle.removal.specs.Searches.{spotIn, slotOf}
-use Rattle.removal.specs.declared.Spot.{Spot}
-use Rattle.removal.specs.declared.Spot.the-variants as spot
+use Rattle.round_trip.specs.Interval.{measured}
+use Rattle.round_trip.specs.declared.averages.Measured.{Measured}
+use Rattle.acknowledge.specs.Removal.{slotAt, heldBy, listsWithout, flowWithout, timesWithout, commandAt, isSome}
+use Rattle.acknowledge.specs.CodeSearches.{spotIn, slotOf}
+use Rattle.acknowledge.specs.declared.removal.Spot.{Spot}
+use Rattle.acknowledge.specs.declared.removal.Spot.the-variants as spot
 use Rattle.acknowledge.specs.Calls.{answerOf, heardIn, received, eventIn, heardAt}
-use Rattle.acknowledge.specs.Parts.{measuredIn, freedIn, timedIn}
+use Rattle.acknowledge.specs.CodeParts.{measuredIn, freedIn, timedIn}
 use Rattle.acknowledge.specs.declared.Reply.{Reply}
 
 flow-brief : (w : Spot) (o : Outgoing) (f : Flow) → flowWithout w (slotOf (briefOf o)) f ≡ flowWithout w o f

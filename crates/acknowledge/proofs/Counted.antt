@@ -7,7 +7,7 @@ use native.Mathlib.Omega.{arith}
 use lib.Dec.{eqb}
 use lib.ListN.{length}
 use borrow.Author.Tests.{ne-eqb}
-use Rattle.runs.specs.Runs.{isEmpty}
+use Rattle.cells.specs.Runs.{isEmpty}
 
 some : (xs ys : List ℕ) → (length xs ≡ 0 → ⊥) → isEmpty (xs ++ ys) ≡ false
 some [] ys h = absurd (h refl)

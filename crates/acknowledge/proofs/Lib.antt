@@ -2,3 +2,6 @@ pub mod Hearing
 pub mod Settled
 pub mod Counted
 pub mod Changes
+pub mod RemovalLaws
+pub mod Kept
+pub mod RemovalChanges

@@ -8,11 +8,11 @@ use Rattle.numbers.specs.Answers.{Answer, numbersOf}
 use Rattle.numbers.proofs.Settled.{refused-apart, refused-not-done}
 use Rattle.peer.specs.Outcome.{Came}
 use Rattle.peer.specs.declared.settings.Settings.{Settings}
-use Rattle.peer.specs.declared.record.Peer.{Peer}
+use Rattle.peer.specs.declared.Peer.{Peer}
+use Rattle.peer.proofs.Settled.{settles, Settles}
 use Rattle.acknowledge.specs.Calls.{answerOf, acknowledges}
 use Rattle.acknowledge.specs.declared.Reply.{Reply}
 use Rattle.acknowledge.specs.declared.Reply.the-variants as vr
-use Rattle.acknowledge.specs.declared.Acknowledged.{Acknowledged}
 
 abbrev numberIn : Answer → ℕ
 numberIn a = a .number
@@ -44,9 +44,7 @@ replies-apart vr.Connect (vr.Refused r) e = absurd (refused-not-done r (sym (ap 
 replies-apart vr.Disconnect (vr.Refused r) e = absurd (refused-not-done r (sym (ap numberIn e)))
 replies-apart vr.DisconnectNow (vr.Refused r) e = absurd (refused-not-done r (sym (ap numberIn e)))
 
-pub acknowledge-settled : (s : Settings) (channel number sent clock : ℕ) (p : Peer) (a b : Acknowledged)
-    → Came answerOf (acknowledges s channel number sent clock p) (a .reply) (a .peer)
-    → Came answerOf (acknowledges s channel number sent clock p) (b .reply) (b .peer) → a ≡ b
-acknowledge-settled s channel number sent clock p a b x y =
-    ap (λ (r : Reply). record { peer = a .peer; reply = r }) (replies-apart (a .reply) (b .reply) (x .answer ∙ sym (y .answer)))
-    ∙ ap (λ (z : Peer). record { peer = z; reply = b .reply }) (x .after ∙ sym (y .after))
+pub acknowledge-settled : (s : Settings) (channel number sent clock : ℕ) (p : Peer) (a b : Reply) (x y : Peer)
+    → Came answerOf (acknowledges s channel number sent clock p) a x → Came answerOf (acknowledges s channel number sent clock p) b y
+    → Settles a b x y
+acknowledge-settled s channel number sent clock p = settles answerOf replies-apart (acknowledges s channel number sent clock p)

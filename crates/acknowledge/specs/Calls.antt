@@ -11,21 +11,21 @@ use Rattle.numbers.specs.Clock.{tripOf}
 use Rattle.numbers.specs.declared.clock.Trip.{Trip}
 use Rattle.numbers.specs.declared.clock.Trip.the-variants.{PassedOver, Taken}
 use Rattle.numbers.specs.declared.refusals.Refusal.the-variants.{NotRemoved}
-use Rattle.slots.specs.Lists.{outItems}
-use Rattle.runs.specs.Runs.{first, isEmpty}
-use Rattle.parts.specs.Damage.{usedOut}
-use Rattle.parts.specs.Updates.{withReceive}
-use Rattle.parts.specs.declared.groups.Times.{Times}
-use Rattle.parts.specs.declared.groups.Lists.{Lists}
+use Rattle.record.specs.Lists.{outItems}
+use Rattle.cells.specs.Runs.{first, isEmpty}
+use Rattle.record.specs.Damage.{usedOut}
+use Rattle.record.specs.Updates.{withReceive}
+use Rattle.record.specs.declared.groups.Times.{Times}
+use Rattle.record.specs.declared.groups.Lists.{Lists}
 use Rattle.peer.specs.Outcome.{Outcome}
 use Rattle.peer.specs.Gate.{onRecord}
 use Rattle.peer.specs.States.{disconnected, acknowledgingConnect, disconnectLater, disconnecting, zombie}
 use Rattle.peer.specs.Updates.{withHeard}
 use Rattle.peer.specs.declared.settings.Settings.{Settings}
-use Rattle.peer.specs.declared.record.Peer.{Peer}
-use Rattle.averages.specs.Interval.{measured}
-use Rattle.removal.specs.Removal.{spotOf, slotAt, heldBy, listsWithout, flowWithout, timesWithout, isSome, commandAt}
-use Rattle.removal.specs.declared.Spot.{Spot}
+use Rattle.peer.specs.declared.Peer.{Peer}
+use Rattle.round_trip.specs.Interval.{measured}
+use Rattle.acknowledge.specs.Removal.{spotOf, slotAt, heldBy, listsWithout, flowWithout, timesWithout, isSome, commandAt}
+use Rattle.acknowledge.specs.declared.removal.Spot.{Spot}
 use Rattle.acknowledge.specs.declared.Reply.{Reply}
 use Rattle.acknowledge.specs.declared.Reply.the-variants as vr
 

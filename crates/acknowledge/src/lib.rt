@@ -1,22 +1,34 @@
-// The acknowledgement: a sample for the round trips, and the command that it names is removed.
+// The acknowledgement: a sample for the round trips, and the command that it names leaves its list.
+pub mod removal;
+
 ghost use mathlib.Core.Path.{_≡_};
-ghost use Rattle.runs.specs.Runs.{isEmpty};
-ghost use Rattle.parts.specs.Damage.{usedOut};
+ghost use Rattle.acknowledge.specs.Calls.{heardIn, received, removedOr, answerOf, eventIn, heardAt, acknowledges};
+ghost use lib.ListN.{length};
+ghost use Rattle.cells.specs.Runs.{isEmpty};
+ghost use Rattle.record.specs.Damage.{usedOut};
 ghost use Rattle.peer.specs.Outcome.{Came};
-ghost use Rattle.acknowledge.specs.Calls.{answerOf, heardIn, received, removedOr, eventIn, acknowledges};
+ghost use Rattle.places.specs.Whole.{whole, recordLength};
+ghost use Rattle.acknowledge.specs.Removal.{heldBy, isSome, commandAt};
+ghost use Rattle.acknowledge.specs.CodeSearches.{spotIn};
+ghost use Rattle.acknowledge.specs.CodeParts.{measuredIn, freedIn, timedIn};
+use crate::removal::Spot;
+use crate::removal::is_some;
+use cells::First;
+use command::bytes::DISCONNECT;
+use command::bytes::VERIFY_CONNECT;
 use numbers::clock;
 use numbers::clock::Trip;
 use numbers::counters::Reliable;
 use numbers::refusals::Refusal;
-use parts::groups::Lists;
-use parts::groups::Times;
+use peer::Peer;
 use peer::gate::Gate;
 use peer::gate::Lent;
-use peer::gate::pass;
-use peer::record::Peer;
 use peer::settings::Settings;
-
-pub mod lent;
+use places::RECORD;
+use places::groups;
+use queues::Out;
+use queues::outgoing;
+use record::groups::Times;
 
 pub enum Reply {
     Passed,
@@ -27,17 +39,7 @@ pub enum Reply {
     Refused(Refusal),
 }
 
-pub struct Acknowledged {
-    pub peer: Peer,
-    pub reply: Reply,
-}
-
-// The commands whose removal completes a connect or a disconnect.
-const VERIFY_CONNECT: u8 = 3;
-
-const DISCONNECT: u8 = 4;
-
-fn hear(state: u32, clock: u32, sent: u16) -> Trip
+fn heard_in(state: u32, clock: u32, sent: u16) -> Trip
     ensures { λ r. ⌜ r ≡ heardIn state clock sent ⌝ }
 {
     if state == Peer::DISCONNECTED {
@@ -49,7 +51,7 @@ fn hear(state: u32, clock: u32, sent: u16) -> Trip
     clock::sample(clock, sent)
 }
 
-fn receive(times: Times, clock: u32) -> Times
+fn received(times: Times, clock: u32) -> Times
     ensures { λ r. ⌜ r ≡ received clock times ⌝ }
 {
     let mut t = times;
@@ -61,24 +63,8 @@ fn receive(times: Times, clock: u32) -> Times
     t
 }
 
-// Whether the three outgoing lists are empty.
-fn is_empty(lists: Lists) -> bool
-    ensures { λ r. ⌜ r ≡ isEmpty (usedOut lists) ⌝ }
-{
-    let sent = lists.sent;
-    let reliable = lists.reliable;
-    let outgoing = lists.outgoing;
-    if sent.count() != 0 {
-        return false;
-    }
-    if reliable.count() != 0 {
-        return false;
-    }
-    outgoing.count() == 0
-}
-
 // Done, or 10.
-fn removed(command: u8, wanted: u8, event: Reply) -> Reply
+fn removed_or(command: u8, wanted: u8, event: Reply) -> Reply
     ensures { λ r. ⌜ r ≡ removedOr command wanted event ⌝ }
 {
     if command == wanted {
@@ -87,88 +73,115 @@ fn removed(command: u8, wanted: u8, event: Reply) -> Reply
     Reply::Refused(Refusal::NotRemoved)
 }
 
-// By the state as it was.
-fn event(state: u32, command: u8, left: Lists) -> Reply
-    ensures { λ r. ⌜ r ≡ eventIn state command left ⌝ }
+// The sample goes into the round trips and the throttle.
+fn measure(words: &mut [u32], sample: u32, clock: u32)
+    requires { ⌜ length (now words) ≡ recordLength ⌝ }
+    ensures { λ _. ⌜ whole (now (words .exit)) ≡ measuredIn sample clock (whole (now (words .entry))) ⌝ }
 {
-    if state == Peer::ACKNOWLEDGING_CONNECT {
-        return removed(command, VERIFY_CONNECT, Reply::Connect);
+    let times = groups::times(words);
+    let throttling = groups::throttling(words);
+    let trips = groups::trips(words);
+    let first = times.last_receive == 0;
+    let measured = round_trip::averages::measure(throttling, trips, first, sample, clock);
+    groups::put_throttling(words, measured.throttling);
+    groups::put_trips(words, measured.trips);
+}
+
+// The command at this spot leaves its list; the number of the command is the answer.
+fn free(words: &mut [u32], spot: Spot, slot: First) -> u8
+    requires { ⌜ length (now words) ≡ recordLength ⌝ }
+    ensures number { λ r. ⌜ r ≡ commandAt (isSome slot) (heldBy (whole (now (words .entry)) .outgoing) slot) ⌝ }
+    ensures kept { λ _. ⌜ whole (now (words .exit)) ≡ freedIn spot slot (whole (now (words .entry))) ⌝ }
+{
+    let o = removal::held(words, slot);
+    let flow = groups::flow(words);
+    let carried = removal::flow_without(spot, o, flow);
+    groups::put_flow(words, carried);
+    removal::leave(words, spot);
+    removal::command_at(is_some(slot), o)
+}
+
+// The last receive; and the next timeout, if one was removed, by sent's head then.
+fn time(words: &mut [u32], removed: bool, clock: u32)
+    requires { ⌜ length (now words) ≡ recordLength ⌝ }
+    ensures { λ _. ⌜ whole (now (words .exit)) ≡ timedIn removed clock (whole (now (words .entry))) ⌝ }
+{
+    let head = outgoing::head(words, Out::Sent);
+    let h = removal::held(words, head);
+    let left = is_some(head);
+    let times = groups::times(words);
+    let heard = received(times, clock);
+    let timed = removal::times_without(removed, left, h, heard);
+    groups::put_times(words, timed);
+}
+
+// Whether the three outgoing lists are empty.
+fn is_empty(words: &[u32]) -> bool
+    requires { ⌜ length (now words) ≡ recordLength ⌝ }
+    ensures { λ r. ⌜ r ≡ isEmpty (usedOut (whole (now (words .entry)) .lists)) ⌝ }
+{
+    if outgoing::count(words, Out::Sent) != 0 {
+        return false;
     }
-    if state == Peer::DISCONNECTING {
-        return removed(command, DISCONNECT, Reply::Disconnect);
+    if outgoing::count(words, Out::Reliable) != 0 {
+        return false;
     }
-    if state != Peer::DISCONNECT_LATER {
+    outgoing::count(words, Out::Outgoing) == 0
+}
+
+// By the state as it was.
+fn event_in(words: &[u32], command: u8) -> Reply
+    requires { ⌜ length (now words) ≡ recordLength ⌝ }
+    ensures { λ r. ⌜ r ≡ eventIn (whole (now (words .entry)) .standing .state) command (whole (now (words .entry)) .lists) ⌝ }
+{
+    let standing = groups::standing(words);
+    if standing.state == Peer::ACKNOWLEDGING_CONNECT {
+        return removed_or(command, VERIFY_CONNECT, Reply::Connect);
+    }
+    if standing.state == Peer::DISCONNECTING {
+        return removed_or(command, DISCONNECT, Reply::Disconnect);
+    }
+    if standing.state != Peer::DISCONNECT_LATER {
         return Reply::Done;
     }
-    if is_empty(left) {
+    if is_empty(words) {
         return Reply::DisconnectNow;
     }
     Reply::Done
 }
 
+// A sample taken, and the command removed.
+fn heard(words: &mut [u32], sample: u32, channel: u8, number: Reliable, clock: u32) -> Reply
+    requires { ⌜ length (now words) ≡ recordLength ⌝ }
+    ensures { λ r. ⌜ Came answerOf (heardAt (spotIn (whole (now (words .entry)) .outgoing) (number .0) channel (whole (now (words .entry)) .lists)) sample clock (whole (now (words .entry)))) r (whole (now (words .exit))) ⌝ }
+{
+    measure(words, sample, clock);
+    let spot = removal::spot_in(words, number, channel);
+    let slot = removal::slot_at(words, spot);
+    let command = free(words, spot, slot);
+    time(words, is_some(slot), clock);
+    event_in(words, command)
+}
+
 // Refused by 11 and 13; passed over; or heard, which may end in 10 with all its effects.
 pub fn acknowledge(
-    peer: Peer,
+    words: &mut [u32; RECORD],
     settings: Settings,
     channel: u8,
     number: Reliable,
     sent: u16,
     clock: u32,
-) -> Acknowledged
-    ensures { λ r. ⌜ Came answerOf (acknowledges settings channel (number .0) sent clock peer) (r .reply) (r .peer) ⌝ }
+) -> Reply
+    ensures { λ r. ⌜ Came answerOf (acknowledges settings channel (number .0) sent clock (whole (now (words .entry)))) r (whole (now (words .exit))) ⌝ }
 {
-    let mut p = peer;
-    let lists = p.lists;
-    let channels = p.channels;
-    let incoming = p.incoming;
-    let outgoing = p.outgoing;
-    let worths = damage::worths(outgoing, p.standing.count);
-    let gate = pass(
-        settings,
-        Lent::Nothing,
-        p.flow.mtu,
-        p.standing.count,
-        p.waiting.total,
-        lists,
-        channels,
-        worths,
-        incoming,
-    );
+    let gate = gate::ask(words, settings, Lent::Nothing);
     if let Gate::Shut(why) = gate {
-        return Acknowledged {
-            peer,
-            reply: Reply::Refused(why),
-        };
+        return Reply::Refused(why);
     }
-    let trip = hear(p.standing.state, clock, sent);
+    let standing = groups::standing(words);
+    let trip = heard_in(standing.state, clock, sent);
     let Trip::Taken(sample) = trip else {
-        return Acknowledged {
-            peer,
-            reply: Reply::Passed,
-        };
+        return Reply::Passed;
     };
-    let first = p.times.last_receive == 0;
-    let measured = averages::measure(p.throttling, p.trips, first, sample, clock);
-    let in_sent = removal::looks(outgoing, number, channel, true);
-    let in_queue = removal::looks(outgoing, number, channel, false);
-    let spot = removal::find(in_sent, in_queue, lists);
-    let taken = removal::take(spot, lists);
-    let slot = taken.slot;
-    let head = taken.head;
-    let left = taken.lists;
-    let o = p.outgoing[slot];
-    let h = p.outgoing[head];
-    let times = receive(p.times, clock);
-    let times = removal::time(taken.removed, taken.left, h, times);
-    let flow = removal::carry(spot, o, p.flow);
-    let command = removal::number(taken.removed, o);
-    let reply = event(p.standing.state, command, left);
-    let throttling = measured.throttling;
-    let trips = measured.trips;
-    p.times = times;
-    p.throttling = throttling;
-    p.trips = trips;
-    p.flow = flow;
-    p.lists = left;
-    Acknowledged { peer: p, reply }
+    heard(words, sample, channel, number, clock)
 }

@@ -4,21 +4,21 @@ use mathlib.Core.List.{List, [], _∷_}
 use Prim.Native.Nat.{ℕ}
 use lib.IntN.{ℤ}
 use lib.ListN.{length}
-use Rattle.table.specs.Layout.{layout, total}
-use Rattle.runs.specs.Free.{firstFrom, countFrom, exist, once}
-use Rattle.parts.specs.Fresh.{noLists, noChannel, noOutgoing, noIncoming}
-use Rattle.parts.specs.Sizes.{storeLength}
+use Rattle.command.specs.Layout.{layout, total}
+use Rattle.cells.specs.Free.{firstFrom, countFrom, exist, once}
+use Rattle.record.specs.Fresh.{noLists, noChannel, noOutgoing, noIncoming}
+use Rattle.record.specs.Sizes.{storeLength}
 use Rattle.peer.specs.Fresh.{freshPeer}
-use Rattle.parts.specs.Damage.{all, held, heldFit, own, lengths}
+use Rattle.record.specs.Damage.{all, held, heldFit, own, lengths}
 use Rattle.peer.specs.Damage.{sound}
 use Rattle.peer.specs.Gate.{gated}
 use Rattle.peer.specs.Outcome.{State, Outcome}
 use Rattle.peer.specs.declared.gate.Lent.the-variants.{Store}
-use Rattle.removal.specs.Removal.{seek}
-use Rattle.unsequenced.specs.Calls.{unsequencedSound}
+use Rattle.acknowledge.specs.Removal.{seek}
+use Rattle.arrive_unsequenced.specs.Calls.{unsequencedSound}
 use Rattle.setup.specs.Queueing.{queuedAt, queued, queuedAll}
 use Rattle.packets.specs.Packets.{cutFrom}
-use Rattle.dispatching.specs.Dispatching.{readyCount, readyLast}
+use Rattle.dispatch.specs.Dispatching.{readyCount, readyLast}
 use Rattle.numbers.specs.Bits.{withBit}
 use Rattle.cases.specs.Cases.{at, arrival, arrives, landed, settings, cases, Hold}
 

@@ -10,26 +10,26 @@ use Rattle.numbers.specs.Clock.{sampled}
 use Rattle.throttle.specs.Throttling.{valueAfter}
 use Rattle.throttle.specs.Throttling.{answerAfter as turnAfter}
 use Rattle.throttle.specs.declared.Throttle.{Throttle}
-use Rattle.slots.specs.Lists.{outItems, inItems}
-use Rattle.slots.specs.declared.incoming.InList.{InList}
-use Rattle.parts.specs.Fresh.{noOutgoing, noChannel}
-use Rattle.parts.specs.Updates.{withWindow, withHeld, withLast, withValue}
-use Rattle.parts.specs.declared.groups.Trips.{Trips}
-use Rattle.parts.specs.declared.groups.Incoming.{Incoming}
+use Rattle.record.specs.Lists.{outItems, inItems}
+use Rattle.record.specs.declared.incoming.InList.{InList}
+use Rattle.record.specs.Fresh.{noOutgoing, noChannel}
+use Rattle.record.specs.Updates.{withWindow, withHeld, withLast, withValue}
+use Rattle.record.specs.declared.groups.Trips.{Trips}
+use Rattle.record.specs.declared.groups.Incoming.{Incoming}
 use Rattle.peer.specs.Fresh.{freshPeer}
 use Rattle.peer.specs.States.{connected}
 use Rattle.peer.specs.Outcome.{State, Outcome}
 use Rattle.peer.specs.Updates.{withGroups, withArrival, withHeard}
-use Rattle.opening.specs.Calls.{begins, setsState}
+use Rattle.lifecycle.specs.Calls.{begins, setsState}
 use Rattle.peer.specs.declared.settings.Settings.{Settings}
 use Rattle.peer.specs.declared.defaults.Kept.{Kept}
-use Rattle.peer.specs.declared.record.Peer.{Peer}
-use Rattle.throttling.specs.Calls.{throttles}
+use Rattle.peer.specs.declared.Peer.{Peer}
+use Rattle.round_trip.specs.Calls.{throttles}
 use Rattle.acknowledge.specs.Calls.{acknowledges}
-use Rattle.sending.specs.Calls.{sends}
+use Rattle.send.specs.Calls.{sends}
 use Rattle.dispatch.specs.Calls.{dispatches}
-use Rattle.arriving.specs.declared.Arrival.{Arrival}
-use Rattle.unsequenced.specs.Calls.{arrivesUnsequenced}
+use Rattle.arrival.specs.declared.Arrival.{Arrival}
+use Rattle.arrive_unsequenced.specs.Calls.{arrivesUnsequenced}
 
 pub record Case : Type 0 where
   pub given : List ℤ
@@ -58,7 +58,7 @@ opened mtu = setsState (settings mtu) connected (begins (settings mtu) mtu 1 (fr
 -- an acknowledgement on such a peer, to which it is the first: the reply's number and which, then the round trip and the last receive time
 abbrev heard : Outcome Peer → List ℤ
 heard o =
-    pos (o .answer .number) ∷ (o .answer .values ++ map pos (o .after .trips .now ∷ o .after .times .«last_receive» ∷ []))
+    pos (o .answer .number) ∷ (o .answer .values ++ map pos (o .after .trips .mean ∷ o .after .times .«last_receive» ∷ []))
 
 abbrev hears : ℕ → ℕ → List ℤ
 hears clock sent = heard (acknowledges (settings 576) 0 1 sent clock (opened 576))
@@ -73,7 +73,7 @@ paced last variance value =
       lowest = t .lowest;
       «last_variance» = variance;
       «highest_variance» = t .«highest_variance»;
-      now = t .now;
+      mean = t .mean;
       variance = t .variance;
     } in
     withHeard p (p .times) (withValue (p .throttling) value) trips (p .flow) (p .lists)
@@ -107,7 +107,7 @@ landed o =
 abbrev waiting : Outcome Peer → List ℤ
 waiting o =
     pos (o .answer .number)
-    ∷ map (λ (s : ℕ). pos (getD (o .after .outgoing) s noOutgoing .length)) (outItems (o .after .lists .reliable))
+    ∷ map (λ (s : ℕ). pos (getD (o .after .outgoing) s noOutgoing .length)) (outItems (o .after .lists .«send_reliable»))
 
 -- a reliable send on channel 0, without a checksum
 abbrev queues : ℕ → ℕ → List ℤ

@@ -1,9 +1,12 @@
-// Runs of cells of 32 bits that the caller lends, altered there: as runs::cells has them of 16, and by the same laws.
+// Runs of cells of any length that the caller lends, altered there: what the lists of both pools are made of.
+pub mod marks;
+pub mod narrow;
+
 ghost use mathlib.Core.Path.{_≡_};
 ghost use Prim.Native.Nat.{_+_, _-_, _≤_, _<_, min};
 ghost use lib.ListN.{length, take, drop};
 ghost use lib.Seq.{sets};
-ghost use Rattle.runs.specs.Runs.{pushed, inserted, without, prepended, movedTo, Makes};
+ghost use Rattle.cells.specs.Runs.{pushed, inserted, without, prepended, movedTo, Makes};
 
 // Cells `from` to `n` go up by k.
 fn raise(cells: &mut [u32], from: usize, n: usize, k: usize)
@@ -120,4 +123,22 @@ pub fn cut(cells: &mut [u32], n: usize, k: usize) -> usize
     let h = least(k, m);
     lower(cells, h, m, h);
     m - h
+}
+
+// Where a slot stands in a list.
+pub enum Found {
+    At(usize),
+    Nowhere,
+}
+
+// The slot at a list's head.
+pub enum First {
+    Slot(u16),
+    Empty,
+}
+
+// The lowest slot that is free.
+pub enum Free {
+    Lowest(u16),
+    Full,
 }

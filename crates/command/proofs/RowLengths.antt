@@ -3,7 +3,7 @@ use Prim.Native.Nat.{_+_}
 use mathlib.Core.Path.{_≡_, refl, _∙_}
 use native.Mathlib.Omega.{arith}
 use lib.ListN.{length}
-use Rattle.table.specs.Layout.{layout}
+use Rattle.command.specs.Layout.{layout}
 use Rattle.command.specs.Rows.{kindOf, fieldsRow, rowOf}
 use Rattle.command.specs.declared.fields.Command.{Command}
 use Rattle.command.specs.declared.fields.Fields.{Fields}

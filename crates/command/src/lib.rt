@@ -1,3 +1,5 @@
-// What the twelve commands hold, and each as a row of numbers.
+// The twelve commands: what each holds, its byte, its size, and the width of each of its numbers.
+pub mod bytes;
 pub mod fields;
+pub mod layout;
 pub mod rows;

@@ -1,7 +1,7 @@
 // A command as a row of numbers: byte, channel, number, then its fields.
 ghost use mathlib.Core.Path.{_≡_};
 ghost use mathlib.Core.List.{[], _∷_};
-ghost use Rattle.table.specs.Bytes.{pad};
+ghost use Rattle.command.specs.Bytes.{pad};
 ghost use Rattle.command.specs.Rows.{kindOf, rowOf, fieldsRow, connectRow, fragmentRow, namesFields};
 use crate::fields::Command;
 use crate::fields::Connect;
@@ -9,7 +9,7 @@ use crate::fields::Fields;
 use crate::fields::Fragment;
 
 // The number that the fields' variant has in public ENet.
-pub fn kind(f: Fields) -> u8
+pub fn kind_of(f: Fields) -> u8
     ensures { λ r. ⌜ r ≡ kindOf f ⌝ }
 {
     match f {
@@ -51,11 +51,11 @@ pub fn kind(f: Fields) -> u8
 }
 
 // Whether the command's byte names its fields.
-pub fn is_named(c: Command) -> bool
+pub fn names_fields(c: Command) -> bool
     ensures { λ r. ⌜ r ≡ namesFields c ⌝ }
 {
     let f = c.fields;
-    c.byte % 16 == kind(f)
+    c.byte % 16 == kind_of(f)
 }
 
 // The row, with zeros at its end.

@@ -6,7 +6,7 @@ use mathlib.Core.List.{List, [], _∷_, _++_, append-nil}
 use native.Mathlib.Omega.{arith}
 use lib.ListN.{length, getD, set, take, drop-of-length-le}
 use lib.Seq.{paste, paste-suc, take-all, take-suc, take-suc-set}
-use Rattle.peer.specs.declared.record.Peer.{Peer}
+use Rattle.peer.specs.declared.Peer.{Peer}
 
 module _ {A : Type 0} where
   -- the first j are right; then one more is

@@ -6,19 +6,19 @@ use mathlib.Core.List.{List, [], _∷_, _++_, map, map-append}
 use native.Mathlib.Omega.{arith}
 use lib.ListN.{length, getD, set, take, drop, length-drop, length-map, List·getD-map}
 use lib.Seq.{paste, paste-suc, take-suc, take-all, getD-drop, set-set, getD-set-same}
-use Rattle.slots.specs.declared.outgoing.OutList.{OutList}
-use Rattle.slots.specs.declared.incoming.InList.{InList}
+use Rattle.record.specs.declared.outgoing.OutList.{OutList}
+use Rattle.record.specs.declared.incoming.InList.{InList}
 use Rattle.lists.specs.Rows.{low, section, rowAt}
 use Rattle.lists.proofs.Mapped.{map-take}
 use Rattle.lists.proofs.Placed.{low-small, row-is}
 use Rattle.lists.proofs.Kept.{list-put}
-use Rattle.parts.specs.declared.groups.Lists.{Lists}
-use Rattle.parts.specs.declared.groups.Channel.{Channel}
-use Rattle.parts.specs.Fresh.{noChannel}
-use Rattle.parts.specs.Updates.{withSentList, withReliableList, withOutgoingList, withDispatched, withNumbers, withLast, withHeld}
+use Rattle.record.specs.declared.groups.Lists.{Lists}
+use Rattle.record.specs.declared.groups.Channel.{Channel}
+use Rattle.record.specs.Fresh.{noChannel}
+use Rattle.record.specs.Updates.{withSentList, withReliableList, withOutgoingList, withDispatched, withNumbers, withLast, withHeld}
 use Rattle.pool.proofs.Rows.{rows-length}
 use Rattle.peer.specs.Updates.{withLists, withChannels}
-use Rattle.peer.specs.declared.record.Peer.{Peer}
+use Rattle.peer.specs.declared.Peer.{Peer}
 use Rattle.places.specs.Updates.{channelAt, numbersOf}
 use Rattle.places.specs.declared.channels.Numbers.{Numbers}
 use Rattle.places.specs.Whole.{outListFrom, inListFrom, channelFrom, sizes, numbers, parts, made, whole}
@@ -107,7 +107,7 @@ module _ (L : Type 0) (from : List ℕ → L) (put : L → Peer) (ws after : Lis
 
 -- ---- the four of the record
 pub lists-made : (ws : List ℕ) (a b c : OutList) (d : InList) → a ≡ outListFrom (rowAt 43 32 ws) → b ≡ outListFrom (rowAt 76 32 ws) → c ≡ outListFrom (rowAt 109 32 ws) → d ≡ inListFrom (rowAt 142 12 ws)
-    → _≡_ {A = Lists} (record { sent = a; reliable = b; outgoing = c; dispatched = d }) (whole ws .lists)
+    → _≡_ {A = Lists} (record { sent = a; «send_reliable» = b; outgoing = c; dispatched = d }) (whole ws .lists)
 unfolding made parts numbers sizes
 lists-made ws a b c d ea eb ec ed = rw (ea, eb, ec, ed)
 
@@ -129,12 +129,12 @@ module _ (ws : List ℕ) (l : length ws ≡ 1234) (r : List ℕ) where
   row-dispatched h = row-put ws 4 142 13 r l (omega arith) refl refl (omega arith) h
 
 -- one after the other
-pub lists-put : (x : Lists) (p₀ p₁ p₂ p₃ p₄ : Peer) → p₁ ≡ withLists p₀ (withSentList (p₀ .lists) (x .sent)) → p₂ ≡ withLists p₁ (withReliableList (p₁ .lists) (x .reliable))
+pub lists-put : (x : Lists) (p₀ p₁ p₂ p₃ p₄ : Peer) → p₁ ≡ withLists p₀ (withSentList (p₀ .lists) (x .sent)) → p₂ ≡ withLists p₁ (withReliableList (p₁ .lists) (x .«send_reliable»))
     → p₃ ≡ withLists p₂ (withOutgoingList (p₂ .lists) (x .outgoing)) → p₄ ≡ withLists p₃ (withDispatched (p₃ .lists) (x .dispatched)) → p₄ ≡ withLists p₀ x
 lists-put x p₀ p₁ p₂ p₃ p₄ e₁ e₂ e₃ e₄ =
     e₄
     ∙ ap (λ (p : Peer). withLists p (withDispatched (p .lists) (x .dispatched)))
-    (e₃ ∙ ap (λ (p : Peer). withLists p (withOutgoingList (p .lists) (x .outgoing))) (e₂ ∙ ap (λ (p : Peer). withLists p (withReliableList (p .lists) (x .reliable))) e₁))
+    (e₃ ∙ ap (λ (p : Peer). withLists p (withOutgoingList (p .lists) (x .outgoing))) (e₂ ∙ ap (λ (p : Peer). withLists p (withReliableList (p .lists) (x .«send_reliable»))) e₁))
 
 -- ---- a channel
 pub channel-made : (ws : List ℕ) (i : ℕ) (n : Numbers) (d : InList) → i < 8 → length ws ≡ 1234 → n ≡ numbersOf (channelAt (whole ws) i) → d ≡ inListFrom (rowAt (194 + i * 17 + 4) 12 ws)

@@ -7,26 +7,26 @@ use native.Mathlib.Omega.{arith}
 use lib.ListN.{length, getD}
 use lib.Seq.{sets}
 use Rattle.lists.specs.Rows.{section}
-use Rattle.parts.specs.declared.groups.Bandwidth.{Bandwidth}
-use Rattle.parts.specs.declared.groups.Channel.{Channel}
-use Rattle.parts.specs.declared.groups.Flow.{Flow}
-use Rattle.parts.specs.declared.groups.Groups.{Groups}
-use Rattle.parts.specs.declared.groups.Ids.{Ids}
-use Rattle.parts.specs.declared.groups.Incoming.{Incoming}
-use Rattle.parts.specs.declared.groups.Limits.{Limits}
-use Rattle.parts.specs.declared.groups.Lists.{Lists}
-use Rattle.parts.specs.declared.groups.Loss.{Loss}
-use Rattle.parts.specs.declared.groups.Outgoing.{Outgoing}
-use Rattle.parts.specs.declared.groups.Standing.{Standing}
-use Rattle.parts.specs.declared.groups.Throttling.{Throttling}
-use Rattle.parts.specs.declared.groups.Times.{Times}
-use Rattle.parts.specs.declared.groups.Totals.{Totals}
-use Rattle.parts.specs.declared.groups.Trips.{Trips}
-use Rattle.parts.specs.declared.groups.Waiting.{Waiting}
+use Rattle.record.specs.declared.groups.Bandwidth.{Bandwidth}
+use Rattle.record.specs.declared.groups.Channel.{Channel}
+use Rattle.record.specs.declared.groups.Flow.{Flow}
+use Rattle.record.specs.declared.groups.Unsequenced.{Unsequenced}
+use Rattle.record.specs.declared.groups.Ids.{Ids}
+use Rattle.record.specs.declared.groups.Incoming.{Incoming}
+use Rattle.record.specs.declared.groups.Limits.{Limits}
+use Rattle.record.specs.declared.groups.Lists.{Lists}
+use Rattle.record.specs.declared.groups.Loss.{Loss}
+use Rattle.record.specs.declared.groups.Outgoing.{Outgoing}
+use Rattle.record.specs.declared.groups.Standing.{Standing}
+use Rattle.record.specs.declared.groups.Throttling.{Throttling}
+use Rattle.record.specs.declared.groups.Times.{Times}
+use Rattle.record.specs.declared.groups.Totals.{Totals}
+use Rattle.record.specs.declared.groups.Trips.{Trips}
+use Rattle.record.specs.declared.groups.Waiting.{Waiting}
 use Rattle.pool.specs.Slots.{slotFrom, inSlotFrom}
 use Rattle.pool.proofs.Rows.{rows-length}
 use Rattle.peer.specs.Updates.{rebuilt, withStanding, withTotals, withTimes, withLoss, withThrottling, withFlow, withLists, withGroups, withWaiting, withChannels, withOutgoing}
-use Rattle.peer.specs.declared.record.Peer.{Peer}
+use Rattle.peer.specs.declared.Peer.{Peer}
 use Rattle.places.specs.Updates.{withTrips, withIncoming}
 use Rattle.places.specs.Whole.{sizes, numbers, parts, made, whole}
 use Rattle.places.proofs.Written.{place, numbers-put}
@@ -48,7 +48,7 @@ unfolding made parts numbers sizes
 ids-made ws a b c d ea eb ec ed = rw (ea, eb, ec, ed)
 
 pub peer-made : (p : Peer) (ids : Ids) (standing : Standing) (bandwidth : Bandwidth) (totals : Totals) (times : Times) (loss : Loss) (throttling : Throttling) (limits : Limits) (trips : Trips) (flow : Flow) (lists : Lists)
-    (groups : Groups) (waiting : Waiting) (channels : List Channel) (outgoing : List Outgoing) (incoming : List Incoming)
+    (groups : Unsequenced) (waiting : Waiting) (channels : List Channel) (outgoing : List Outgoing) (incoming : List Incoming)
     → ids ≡ p .ids → standing ≡ p .standing → bandwidth ≡ p .bandwidth → totals ≡ p .totals → times ≡ p .times → loss ≡ p .loss → throttling ≡ p .throttling → limits ≡ p .limits → trips ≡ p .trips
     → flow ≡ p .flow → lists ≡ p .lists → groups ≡ p .groups → waiting ≡ p .waiting → channels ≡ p .channels → outgoing ≡ p .outgoing → incoming ≡ p .incoming
     → _≡_ {A = Peer}

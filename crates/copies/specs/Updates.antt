@@ -1,8 +1,8 @@
 -- The record with the groups that no call but reset changes.
-use Rattle.parts.specs.declared.groups.Ids.{Ids}
-use Rattle.parts.specs.declared.groups.Bandwidth.{Bandwidth}
-use Rattle.parts.specs.declared.groups.Limits.{Limits}
-use Rattle.peer.specs.declared.record.Peer.{Peer}
+use Rattle.record.specs.declared.groups.Ids.{Ids}
+use Rattle.record.specs.declared.groups.Bandwidth.{Bandwidth}
+use Rattle.record.specs.declared.groups.Limits.{Limits}
+use Rattle.peer.specs.declared.Peer.{Peer}
 
 abbrev pub withFixed : Peer → Ids → Bandwidth → Limits → Peer
 withFixed p ids bandwidth limits =

@@ -4,12 +4,12 @@ pub mod writing;
 
 ghost use mathlib.Core.Path.{_≡_};
 ghost use Rattle.places.specs.Whole.{whole};
-use peer::record::Peer;
+use peer::Peer;
 use places::RECORD;
 
 // The record that an array of numbers means.
 pub fn meant(words: &[u32; RECORD]) -> Peer
     ensures { λ r. ⌜ r ≡ whole (now (words .entry)) ⌝ }
 {
-    reading::read(words)
+    crate::reading::read(words)
 }

@@ -4,25 +4,25 @@ ghost use mathlib.Core.List.{map};
 ghost use Prim.Native.Nat.{_+_, _≤_, _<_, _%_};
 ghost use lib.ListN.{length};
 ghost use Rattle.lists.specs.Rows.{low, section, rowAt};
-ghost use Rattle.parts.specs.Sizes.{channels};
+ghost use Rattle.record.specs.Sizes.{channels};
 ghost use Rattle.places.specs.Updates.{channelAt};
 ghost use Rattle.places.specs.Whole.{whole, recordLength, outListFrom, inListFrom};
-use parts::groups::Bandwidth;
-use parts::groups::CHANNELS;
-use parts::groups::Channel;
-use parts::groups::Ids;
-use parts::groups::Incoming;
-use parts::groups::Lists;
-use parts::groups::Outgoing;
-use peer::record::Peer;
+use peer::Peer;
 use places::channels;
 use places::groups;
 use places::pools;
 use places::window;
-use slots::INCOMING;
-use slots::OUTGOING;
-use slots::incoming::InList;
-use slots::outgoing::OutList;
+use record::INCOMING;
+use record::OUTGOING;
+use record::groups::Bandwidth;
+use record::groups::CHANNELS;
+use record::groups::Channel;
+use record::groups::Ids;
+use record::groups::Incoming;
+use record::groups::Lists;
+use record::groups::Outgoing;
+use record::incoming::InList;
+use record::outgoing::OutList;
 
 fn low16(x: u32) -> u16
     ensures { λ r. ⌜ r ≡ x % 65536 ⌝ }
@@ -106,7 +106,7 @@ fn lists(words: &[u32]) -> Lists
     let dispatched = in_list(words, places::DISPATCHED);
     Lists {
         sent,
-        reliable,
+        send_reliable: reliable,
         outgoing,
         dispatched,
     }

@@ -5,35 +5,35 @@ ghost use Prim.Native.Nat.{_+_, _≤_, _<_};
 ghost use lib.ListN.{length, set};
 ghost use lib.Seq.{paste};
 ghost use Rattle.lists.specs.Rows.{low};
-ghost use Rattle.parts.specs.Sizes.{channels};
+ghost use Rattle.record.specs.Sizes.{channels};
 ghost use Rattle.peer.specs.Updates.{rebuilt, withLists, withChannels, withOutgoing};
 ghost use Rattle.places.specs.Updates.{withIncoming};
 ghost use Rattle.places.specs.Whole.{whole, recordLength, outListFrom, inListFrom};
 ghost use Rattle.copies.specs.Updates.{withFixed};
-use parts::groups::Bandwidth;
-use parts::groups::CHANNELS;
-use parts::groups::Channel;
-use parts::groups::Flow;
-use parts::groups::Ids;
-use parts::groups::Incoming;
-use parts::groups::Limits;
-use parts::groups::Lists;
-use parts::groups::Loss;
-use parts::groups::Outgoing;
-use parts::groups::Standing;
-use parts::groups::Throttling;
-use parts::groups::Times;
-use parts::groups::Totals;
-use parts::groups::Trips;
-use peer::record::Peer;
+use peer::Peer;
 use places::channels;
 use places::groups;
 use places::pools;
 use places::window;
-use slots::INCOMING;
-use slots::OUTGOING;
-use slots::incoming::InList;
-use slots::outgoing::OutList;
+use record::INCOMING;
+use record::OUTGOING;
+use record::groups::Bandwidth;
+use record::groups::CHANNELS;
+use record::groups::Channel;
+use record::groups::Flow;
+use record::groups::Ids;
+use record::groups::Incoming;
+use record::groups::Limits;
+use record::groups::Lists;
+use record::groups::Loss;
+use record::groups::Outgoing;
+use record::groups::Standing;
+use record::groups::Throttling;
+use record::groups::Times;
+use record::groups::Totals;
+use record::groups::Trips;
+use record::incoming::InList;
+use record::outgoing::OutList;
 
 fn wide16(x: u16) -> u32
     ensures is { λ r. ⌜ r ≡ x ⌝ }
@@ -169,7 +169,7 @@ fn put_lists(words: &mut [u32], x: Lists)
     ensures { λ _. ⌜ whole (now (words .exit)) ≡ withLists (whole (now (words .entry))) x ⌝ }
 {
     put_out(words, places::SENT, x.sent);
-    put_out(words, places::RELIABLE, x.reliable);
+    put_out(words, places::RELIABLE, x.send_reliable);
     put_out(words, places::OUTGOING, x.outgoing);
     put_in(words, places::DISPATCHED, x.dispatched);
 }

@@ -2,33 +2,30 @@
 -- is given by its equation; a sound record's count is at most 8; a channel stored as it was leaves the record as it was.
 use Prim.Native.Nat.{ℕ, _≤_, _<_}
 use mathlib.Core.Path.{_≡_, refl}
-use mathlib.Core.List.{List, [], _∷_}
+use mathlib.Core.List.{[], _∷_}
 use mathlib.Core.Bool.{Bool, true, false}
 use native.Mathlib.Omega.{arith}
-use lib.Dec.{leb, eqb}
-use lib.ListN.{length, getD}
+use lib.Dec.{eqb}
+use lib.ListN.{getD}
 use lib.Seq.{set-getD}
-use borrow.Author.Tests.{eqb-true, leb-true, lt-ltb, le-ltb}
-use Rattle.numbers.specs.Pick.{pick, both}
+use borrow.Author.Tests.{eqb-true, lt-ltb, le-ltb}
+use Rattle.numbers.specs.Pick.{pick}
 use Rattle.numbers.specs.declared.refusals.Refusal.the-variants.{InvalidChannel}
-use Rattle.slots.specs.Lists.{inItems}
-use Rattle.parts.specs.Sizes.{channels}
-use Rattle.parts.specs.Fresh.{noChannel}
-use Rattle.parts.specs.declared.groups.Channel.{Channel}
-use Rattle.peer.specs.Damage.{sound}
+use Rattle.record.specs.Lists.{inItems}
+use Rattle.record.specs.Sizes.{channels}
+use Rattle.record.specs.Fresh.{noChannel}
+use Rattle.record.specs.declared.groups.Channel.{Channel}
 use Rattle.peer.specs.Outcome.{Came}
 use Rattle.peer.specs.Calls.{answerOf}
-use Rattle.peer.specs.Gate.{fits, gateOf}
 use Rattle.peer.specs.declared.calls.Reply.the-variants.{Done, Refused}
 use Rattle.peer.specs.declared.settings.Settings.{Settings}
-use Rattle.peer.specs.declared.record.Peer.{Peer}
+use Rattle.peer.specs.declared.Peer.{Peer}
 use Rattle.peer.specs.declared.gate.Lent.the-variants.{Nothing}
-use Rattle.peer.specs.declared.gate.Gate.{Gate}
 use Rattle.peer.specs.declared.gate.Gate.the-variants.{Open}
-use Rattle.peer.proofs.Gates.{worthsOf, soundBy, came-open, open-sound}
+use Rattle.peer.proofs.Gates.{came-open, open-sound, AtGate}
 use Rattle.peer.proofs.Ranges.{count-high}
-use Rattle.dispatching.specs.Dispatching.{readyCount, readyLast, movedOn, dispatchedBy}
-use Rattle.dispatching.specs.declared.Dispatched.{Dispatched}
+use Rattle.dispatch.specs.Dispatching.{readyCount, readyLast, movedOn, dispatchedBy}
+use Rattle.dispatch.specs.Dispatching.{Dispatched}
 use Rattle.dispatch.specs.Calls.{withDispatch, dispatchedOn, dispatchesSound, dispatches}
 
 -- the channel, how many of its list are ready, and the number that is then the last
@@ -55,20 +52,20 @@ module _ (channel : ℕ) (p : Peer) where
       go false e = some
 
 -- ws and g are what the code answered
-module _ (s : Settings) (channel : ℕ) (p : Peer) (ws : List ℕ) (v : ws ≡ worthsOf p)
-    (g : Gate) (e : g ≡ gateOf (fits s Nothing) (soundBy p ws)) (opens : g ≡ Open) where
-  pub dispatch-refused : p .standing .count ≤ channel → Came answerOf (dispatches s channel p) (Refused InvalidChannel) p
+module _ (s : Settings) (channel : ℕ) (p : Peer)
+    (g : AtGate s Nothing p) (opens : g .gate ≡ Open) where
+  pub dispatch-refused : p .standing .channels ≤ channel → Came answerOf (dispatches s channel p) (Refused InvalidChannel) p
   dispatch-refused h =
-      came-open s Nothing p ws v g e p (dispatchesSound channel p) answerOf (Refused InvalidChannel) p opens
-      (rw (le-ltb channel (p .standing .count) h) (record { answer = refl; after = refl }))
+      came-open g p (dispatchesSound channel p) answerOf (Refused InvalidChannel) p opens
+      (rw (le-ltb channel (p .standing .channels) h) (record { answer = refl; after = refl }))
 
-  module _ (h : channel < p .standing .count) where
+  module _ (h : channel < p .standing .channels) where
     pub channel-exists : channel < channels
-    channel-exists = omega (arith, h, count-high p (open-sound s Nothing p ws v g e opens))
+    channel-exists = omega (arith, h, count-high p (open-sound g opens))
 
     -- c is the channel as the code read it, d what it made of it
     pub dispatch-done : (c : Channel) (d : Dispatched) → c ≡ getD (p .channels) channel noChannel
         → d ≡ dispatchedBy (p .incoming) c (p .lists) (p .groups) → Came answerOf (dispatches s channel p) Done (withDispatch channel d p)
     dispatch-done c d q z =
-        came-open s Nothing p ws v g e p (dispatchesSound channel p) answerOf Done (withDispatch channel d p) opens
-        (rw (lt-ltb channel (p .standing .count) h) (record { answer = refl; after = rw (z, q) }))
+        came-open g p (dispatchesSound channel p) answerOf Done (withDispatch channel d p) opens
+        (rw (lt-ltb channel (p .standing .channels) h) (record { answer = refl; after = rw (z, q) }))

@@ -9,17 +9,17 @@ use lib.Dec.{leb}
 use lib.ListN.{length, take, drop, getD, length-take}
 use lib.Seq.{getD-set-same, getD-set-other}
 use borrow.Author.Tests.{le-leb}
-use Rattle.slots.specs.Lists.{incoming, inItems}
-use Rattle.runs.specs.Runs.{movedFrom, movedTo}
-use Rattle.slots.proofs.Views.{in-items-keep}
-use Rattle.parts.specs.Fresh.{noChannel}
-use Rattle.parts.specs.declared.groups.Channel.{Channel}
+use Rattle.record.specs.Lists.{incoming, inItems}
+use Rattle.cells.specs.Runs.{movedFrom, movedTo}
+use Rattle.record.proofs.Views.{in-items-keep}
+use Rattle.record.specs.Fresh.{noChannel}
+use Rattle.record.specs.declared.groups.Channel.{Channel}
 use Rattle.peer.specs.Damage.{sound}
 use Rattle.peer.specs.Outcome.{Outcome, finished}
 use Rattle.peer.specs.Gate.{fits, gateOf}
 use Rattle.peer.specs.Sounds.{Whole}
 use Rattle.peer.specs.declared.settings.Settings.{Settings}
-use Rattle.peer.specs.declared.record.Peer.{Peer}
+use Rattle.peer.specs.declared.Peer.{Peer}
 use Rattle.peer.specs.declared.gate.Lent.the-variants as lent
 use Rattle.peer.specs.declared.gate.Gate.{Gate}
 use Rattle.peer.proofs.Gates.{sound-open, behind-has, behind-open, behind-done}
@@ -84,7 +84,7 @@ module _ (channel : ℕ) (p : Peer) where
     pub left : inItems (getD (after .channels) channel noChannel .held) ≡ drop (ready channel p) held
 
   module _ (whole : Whole p) where
-    pub dispatch-order : sound p ≡ true → channel < p .standing .count → Orders (dispatchedOn channel p)
+    pub dispatch-order : sound p ≡ true → channel < p .standing .channels → Orders (dispatchedOn channel p)
     dispatch-order good h = dispatched-has channel p Orders none some
       where
         here : channel < length (p .channels)

@@ -13,31 +13,31 @@ use borrow.Author.Tests.{eq-eqb, le-leb, ltb-true}
 use Rattle.numbers.specs.Pick.{pick, both}
 use Rattle.numbers.specs.declared.refusals.Refusal.the-variants.{InvalidChannel}
 use Rattle.numbers.proofs.BoolLaws.{both-left, both-right, both-true}
-use Rattle.slots.specs.Lists.{outgoing, incoming, inItems}
-use Rattle.runs.specs.Runs.{movedFrom, movedTo}
-use Rattle.slots.specs.declared.incoming.InList.{InList}
-use Rattle.slots.proofs.Keeps.{times, times-append, once-less, exist-less}
-use Rattle.slots.proofs.Views.{in-items-keep}
-use Rattle.runs.proofs.Lowest.{free-and-named}
-use Rattle.held.proofs.SumLaws.{sum-append}
-use Rattle.parts.specs.Fresh.{noChannel, noIncoming}
-use Rattle.parts.specs.Damage.{all, below, held, heldFit, inFit, inSound, lengths, listsFit, own, usedIn}
-use Rattle.parts.specs.Updates.{withDispatched}
-use Rattle.parts.specs.declared.groups.Standing.{Standing}
-use Rattle.parts.specs.declared.groups.Lists.{Lists}
-use Rattle.parts.specs.declared.groups.Channel.{Channel}
-use Rattle.parts.specs.declared.groups.Incoming.{Incoming}
+use Rattle.record.specs.Lists.{outgoing, incoming, inItems}
+use Rattle.cells.specs.Runs.{movedFrom, movedTo}
+use Rattle.record.specs.declared.incoming.InList.{InList}
+use Rattle.record.proofs.Keeps.{times, times-append, once-less, exist-less}
+use Rattle.record.proofs.Views.{in-items-keep}
+use Rattle.cells.proofs.Lowest.{free-and-named}
+use Rattle.damage.proofs.SumLaws.{sum-append}
+use Rattle.record.specs.Fresh.{noChannel, noIncoming}
+use Rattle.record.specs.Damage.{all, below, held, heldFit, inFit, inSound, lengths, listsFit, own, usedIn}
+use Rattle.record.specs.Updates.{withDispatched}
+use Rattle.record.specs.declared.groups.Standing.{Standing}
+use Rattle.record.specs.declared.groups.Lists.{Lists}
+use Rattle.record.specs.declared.groups.Channel.{Channel}
+use Rattle.record.specs.declared.groups.Incoming.{Incoming}
 use Rattle.peer.specs.Damage.{sound}
 use Rattle.peer.specs.Outcome.{Outcome, finished}
 use Rattle.peer.specs.Sounds.{Whole, Sounds}
 use Rattle.peer.specs.declared.settings.Settings.{Settings}
-use Rattle.peer.specs.declared.record.Peer.{Peer}
+use Rattle.peer.specs.declared.Peer.{Peer}
 use Rattle.peer.specs.declared.gate.Gate.the-variants.{Open, Shut}
 use Rattle.peer.proofs.Gates.{openness, behind-has}
 use Rattle.peer.proofs.Sound.{gated-sounds}
 use Rattle.peer.proofs.Clauses.{sound-clauses, clauses-sound, all-at, at-all}
-use Rattle.dispatching.specs.Dispatching.{movedOn}
-use Rattle.dispatching.specs.declared.Dispatched.{Dispatched}
+use Rattle.dispatch.specs.Dispatching.{movedOn}
+use Rattle.dispatch.specs.Dispatching.{Dispatched}
 use Rattle.dispatch.specs.Calls.{dispatchGate, withDispatch, dispatchedOn, dispatchesSound, dispatches}
 use Rattle.peer.proofs.InClauses.{InClauses, incoming-clauses, clauses-in}
 use Rattle.peer.proofs.Ranges.{count-high}
@@ -117,7 +117,7 @@ module _ (slots : List Incoming) (l : Lists) (cs : List Channel) (count total : 
 
 -- ---- the record
 pub dispatched-fit : (l : Lists) (x : InList) → listsFit l ≡ true → x .len ≤ incoming → listsFit (withDispatched l x) ≡ true
-dispatched-fit l x e h = last (leb (l .sent .len) outgoing) (leb (l .reliable .len) outgoing) (leb (l .outgoing .len) outgoing) e
+dispatched-fit l x e h = last (leb (l .sent .len) outgoing) (leb (l .«send_reliable» .len) outgoing) (leb (l .outgoing .len) outgoing) e
   where
     last : (a b c : Bool) → both a (both b (both c (leb (l .dispatched .len) incoming))) ≡ true
         → both a (both b (both c (leb (x .len) incoming))) ≡ true
@@ -128,23 +128,23 @@ dispatched-fit l x e h = last (leb (l .sent .len) outgoing) (leb (l .reliable .l
         both-true a (both b (both c _)) (both-left a (both b (both c d)) e)
         (both-true b (both c _) (both-left b (both c d) f) (both-true c _ (both-left c d g) (le-leb (x .len) incoming h)))
 
-module _ (channel : ℕ) (p : Peer) (whole : Whole p) (good : sound p ≡ true) (h : channel < p .standing .count) where
+module _ (channel : ℕ) (p : Peer) (whole : Whole p) (good : sound p ≡ true) (h : channel < p .standing .channels) where
   abbrev cs : List Channel
-  cs = below (p .channels) (p .standing .count)
+  cs = below (p .channels) (p .standing .channels)
 
   abbrev old : Channel
   old = chosen channel p
 
   old-is : getD cs channel noChannel ≡ old
-  old-is = getD-take (p .standing .count) (p .channels) channel noChannel h
+  old-is = getD-take (p .standing .channels) (p .channels) channel noChannel h
 
   here : channel < length cs
-  here = omega (arith, h, count-high p good, length-take (p .standing .count) (p .channels), whole .channels)
+  here = omega (arith, h, count-high p good, length-take (p .standing .channels) (p .channels), whole .channels)
 
   -- dispatched has room for the whole list
   pub room-there : length (inItems (p .lists .dispatched)) + length (inItems (old .held)) ≤ incoming
   room-there =
-      rw old-is at (room (p .incoming) (p .lists) cs (p .standing .count) (p .waiting .total) (incoming-clauses p good) channel here)
+      rw old-is at (room (p .incoming) (p .lists) cs (p .standing .channels) (p .waiting .total) (incoming-clauses p good) channel here)
 
   module _ (k n : ℕ) where
     abbrev moved : Dispatched
@@ -158,8 +158,8 @@ module _ (channel : ℕ) (p : Peer) (whole : Whole p) (good : sound p ≡ true) 
           to = rw old-is (in-items-keep (p .lists .dispatched) (movedTo incoming k (inItems (old .held)) (inItems (p .lists .dispatched))));
         }
 
-    now : below (set (p .channels) channel (moved .channel)) (p .standing .count) ≡ set cs channel (moved .channel)
-    now = take-set-lt (p .standing .count) (p .channels) channel (moved .channel) h
+    now : below (set (p .channels) channel (moved .channel)) (p .standing .channels) ≡ set cs channel (moved .channel)
+    now = take-set-lt (p .standing .channels) (p .channels) channel (moved .channel) h
 
     -- both lists fit the pool
     short : moved .channel .held .len + moved .lists .dispatched .len ≤ incoming
@@ -169,7 +169,7 @@ module _ (channel : ℕ) (p : Peer) (whole : Whole p) (good : sound p ≡ true) 
     moved-sound : sound (withDispatch channel moved p) ≡ true
     moved-sound =
         let w = sound-clauses p good in
-        let count = p .standing .count in
+        let count = p .standing .channels in
         clauses-sound (withDispatch channel moved p)
         (record {
           range = w .range;
@@ -190,8 +190,8 @@ module _ (channel : ℕ) (p : Peer) (whole : Whole p) (good : sound p ≡ true) 
       dispatched-has channel p (λ (q : Peer). sound q ≡ true) (λ none. good) (moved-sound (ready channel p) (last channel p))
 
 -- the gate of the call's own
-pub below-count : (channel : ℕ) (standing : Standing) → dispatchGate channel standing ≡ Open → channel < standing .count
-below-count channel standing e = ltb-true channel (standing .count) (go (ltb channel (standing .count)) e)
+pub below-count : (channel : ℕ) (standing : Standing) → dispatchGate channel standing ≡ Open → channel < standing .channels
+below-count channel standing e = ltb-true channel (standing .channels) (go (ltb channel (standing .channels)) e)
   where
     go : (b : Bool) → pick b Open (Shut InvalidChannel) ≡ Open → b ≡ true
     go true q = refl

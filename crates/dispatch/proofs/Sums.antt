@@ -9,12 +9,12 @@ use native.Mathlib.Omega.{arith}
 use lib.Dec.{leb}
 use lib.ListN.{length, take, drop, getD, set, take-append-drop}
 use Rattle.numbers.specs.Pick.{pick}
-use Rattle.slots.specs.Lists.{incoming, inItems}
-use Rattle.runs.specs.Runs.{movedFrom, movedTo}
-use Rattle.parts.specs.Fresh.{noChannel}
-use Rattle.parts.specs.Damage.{held, usedIn}
-use Rattle.parts.specs.declared.groups.Lists.{Lists}
-use Rattle.parts.specs.declared.groups.Channel.{Channel}
+use Rattle.record.specs.Lists.{incoming, inItems}
+use Rattle.cells.specs.Runs.{movedFrom, movedTo}
+use Rattle.record.specs.Fresh.{noChannel}
+use Rattle.record.specs.Damage.{held, usedIn}
+use Rattle.record.specs.declared.groups.Lists.{Lists}
+use Rattle.record.specs.declared.groups.Channel.{Channel}
 
 -- m are the lists, and new is channel i of cs, once the first k of its list went where there is room
 pub record Moves (l : Lists) (cs : List Channel) (i k : ℕ) (m : Lists) (new : Channel) : Type 0 where

@@ -4,20 +4,20 @@ use lib.Dec.{ltb}
 use lib.ListN.{getD, set}
 use Rattle.numbers.specs.Pick.{pick}
 use Rattle.numbers.specs.declared.refusals.Refusal.the-variants.{InvalidChannel}
-use Rattle.parts.specs.Fresh.{noChannel}
-use Rattle.parts.specs.declared.groups.Standing.{Standing}
+use Rattle.record.specs.Fresh.{noChannel}
+use Rattle.record.specs.declared.groups.Standing.{Standing}
 use Rattle.peer.specs.Outcome.{Outcome, finished}
 use Rattle.peer.specs.Gate.{behind, onRecord}
 use Rattle.peer.specs.Updates.{withArrival}
 use Rattle.peer.specs.declared.settings.Settings.{Settings}
-use Rattle.peer.specs.declared.record.Peer.{Peer}
+use Rattle.peer.specs.declared.Peer.{Peer}
 use Rattle.peer.specs.declared.gate.Gate.{Gate}
 use Rattle.peer.specs.declared.gate.Gate.the-variants.{Open, Shut}
-use Rattle.dispatching.specs.Dispatching.{dispatchedBy}
-use Rattle.dispatching.specs.declared.Dispatched.{Dispatched}
+use Rattle.dispatch.specs.Dispatching.{dispatchedBy}
+use Rattle.dispatch.specs.Dispatching.{Dispatched}
 
 abbrev pub dispatchGate : ℕ → Standing → Gate
-dispatchGate channel standing = pick (ltb channel (standing .count)) Open (Shut InvalidChannel)
+dispatchGate channel standing = pick (ltb channel (standing .channels)) Open (Shut InvalidChannel)
 
 -- the record with a channel dispatched
 abbrev pub withDispatch : ℕ → Dispatched → Peer → Peer

@@ -10,14 +10,14 @@ use lib.ListN.{getD, drop}
 use borrow.Author.Tests.{leb-true}
 use Rattle.numbers.specs.Answers.{Answer, done}
 use Rattle.numbers.proofs.Settled.{done-apart}
-use Rattle.table.specs.Layout.{layout, total, sizeOf}
-use Rattle.table.specs.Bytes.{rowAt, pad}
+use Rattle.command.specs.Layout.{layout, total, sizeOf}
+use Rattle.command.specs.Bytes.{rowAt, pad}
 use Rattle.command.specs.Rows.{kindOf, rowOf}
 use Rattle.wire.specs.Reading.{answerOf, kindAt, readable, readAt}
 use Rattle.command.specs.declared.fields.Command.{Command}
 use Rattle.wire.specs.declared.reader.Reading.{Reading}
 use Rattle.wire.specs.declared.reader.Reading.the-variants.{Found, Refused}
-use Rattle.table.proofs.LayoutLaws.{each-layout}
+use Rattle.command.proofs.LayoutLaws.{each-layout}
 use Rattle.exports.specs.Buffers.{readNumbers}
 
 -- the longest command has 48 bytes

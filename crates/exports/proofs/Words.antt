@@ -7,7 +7,7 @@ use native.Mathlib.Numerals.{add-one}
 use native.Mathlib.Omega.{arith}
 use lib.ListN.{length, getD, set, take, drop, replicate}
 use lib.Seq.{drop-cons, take-suc-set, take-all}
-use Rattle.table.specs.Bytes.{numberAt, putNumber, rowAt, putRow}
+use Rattle.command.specs.Bytes.{numberAt, putNumber, rowAt, putRow}
 
 one-less : (n i : ℕ) → i < n → n - i ≡ suc (n - (i + 1))
 one-less n i h = omega arith

@@ -12,8 +12,8 @@ use Rattle.throttle.specs.Throttling as throttle
 use Rattle.throttle.specs.declared.Throttle.{Throttle}
 use Rattle.numbers.specs.Limits.{windowWords}
 use Rattle.window.specs.Window as window
-use Rattle.table.specs.Layout.{layout, sizeOf}
-use Rattle.table.specs.Bytes.{rowAt, putRow, pad}
+use Rattle.command.specs.Layout.{layout, sizeOf}
+use Rattle.command.specs.Bytes.{rowAt, putRow, pad}
 use Rattle.wire.specs.Reading.{kindAt, readable}
 
 -- the buffer of a window's words

@@ -3,7 +3,7 @@ ghost use mathlib.Core.Path.{_≡_};
 ghost use mathlib.Core.List.{_∷_};
 ghost use Prim.Native.Nat.{_+_, _*_, _≤_, _<_};
 ghost use lib.ListN.{length, replicate};
-ghost use Rattle.table.specs.Bytes.{numberAt, putNumber, putRow, pad};
+ghost use Rattle.command.specs.Bytes.{numberAt, putNumber, putRow, pad};
 ghost use Rattle.command.specs.Rows.{kindOf, rowOf};
 ghost use Rattle.numbers.specs.Limits.{windowWords};
 ghost use Rattle.exports.specs.Buffers.{MarkCall, ReadCall, WindowCall, numbersIn, rowBytes, rowNumbers, throttleOf, throttleReply, TurnCall, windowBytes, withNumbers};
@@ -105,7 +105,7 @@ pub extern "C" fn lyn_mark(group: u16, words: &mut [u8]) -> u32
 {
     if words.len() == WINDOW_BYTES {
         let marks = read_words(words);
-        let marked = window::mark(marks, Group(group));
+        let marked = window::marking(marks, Group(group));
         write_words(words, 0, &marked);
         return 0;
     }
@@ -134,7 +134,7 @@ fn put_command(out: &mut [u8], size: usize, command: Command)
 {
     put_word(out, 0, size as u32);
     let fields = command.fields;
-    put_word(out, 4, command::rows::kind(fields) as u32);
+    put_word(out, 4, command::rows::kind_of(fields) as u32);
     let row = command::rows::of(command);
     write_words(out, 8, &row);
 }

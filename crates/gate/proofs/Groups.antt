@@ -5,9 +5,9 @@ use mathlib.Core.List.{List}
 use native.Mathlib.Omega.{arith}
 use lib.ListN.{length, getD}
 use Rattle.lists.specs.Rows.{section, rowAt}
-use Rattle.parts.specs.Fresh.{noIncoming}
-use Rattle.parts.specs.declared.groups.Lists.{Lists}
-use Rattle.parts.specs.declared.groups.Incoming.{Incoming}
+use Rattle.record.specs.Fresh.{noIncoming}
+use Rattle.record.specs.declared.groups.Lists.{Lists}
+use Rattle.record.specs.declared.groups.Incoming.{Incoming}
 use Rattle.pool.specs.Rows.{rowAt as row}
 use Rattle.pool.specs.Slots.{inSlotFrom}
 use Rattle.pool.proofs.Rows.{rows-length, rows-at, row-at}
@@ -21,12 +21,12 @@ module _ (ws : List ℕ) where
   unfolding made parts numbers sizes
   mtu-is = refl
 
-  pub count-is : whole ws .standing .count ≡ getD ws 6 0
+  pub count-is : whole ws .standing .channels ≡ getD ws 6 0
   unfolding made parts numbers sizes
   count-is = refl
 
   -- the lists by their rows
-  pub lists-are : whole ws .lists ≡ record { sent = outListFrom (rowAt 43 32 ws); reliable = outListFrom (rowAt 76 32 ws); outgoing = outListFrom (rowAt 109 32 ws); dispatched = inListFrom (rowAt 142 12 ws) }
+  pub lists-are : whole ws .lists ≡ record { sent = outListFrom (rowAt 43 32 ws); «send_reliable» = outListFrom (rowAt 76 32 ws); outgoing = outListFrom (rowAt 109 32 ws); dispatched = inListFrom (rowAt 142 12 ws) }
   unfolding made parts numbers sizes
   lists-are = refl
 

@@ -9,22 +9,22 @@ use lib.Dec.{leb, eqb}
 use lib.ListN.{length, take, drop, getD, replicate}
 use Rattle.numbers.specs.Pick.{both}
 use Rattle.numbers.proofs.BoolLaws.{both-assoc}
-use Rattle.runs.specs.Free.{markedAll}
-use Rattle.runs.proofs.Views.{part-step, part-end}
+use Rattle.cells.specs.Free.{markedAll}
+use Rattle.cells.proofs.Views.{part-step, part-end}
 use Rattle.lists.specs.Rows.{itemsOf}
-use Rattle.slots.specs.Lists.{incoming, inItems}
-use Rattle.slots.specs.declared.incoming.InList.{InList}
-use Rattle.parts.specs.declared.groups.Channel.{Channel}
-use Rattle.parts.specs.declared.groups.Incoming.{Incoming}
-use Rattle.parts.specs.Fresh.{noChannel}
-use Rattle.parts.specs.Damage.{held, heldFit, lengths}
-use Rattle.held.specs.Walks.{passes, inPasses, heldPass}
-use Rattle.held.proofs.WalkLaws.{middle}
-use Rattle.held.proofs.HeldLaws.{held-sum}
-use Rattle.held.proofs.InLaws.{in-is}
-use Rattle.peer.specs.declared.record.Peer.{Peer}
+use Rattle.record.specs.Lists.{incoming, inItems}
+use Rattle.record.specs.declared.incoming.InList.{InList}
+use Rattle.record.specs.declared.groups.Channel.{Channel}
+use Rattle.record.specs.declared.groups.Incoming.{Incoming}
+use Rattle.record.specs.Fresh.{noChannel}
+use Rattle.record.specs.Damage.{held, heldFit, lengths}
+use Rattle.damage.specs.CodeInWalks.{passes, inPasses, heldPass}
+use Rattle.damage.proofs.WalkLaws.{middle}
+use Rattle.damage.proofs.HeldLaws.{held-sum}
+use Rattle.damage.proofs.InLaws.{in-is}
+use Rattle.peer.specs.declared.Peer.{Peer}
 use Rattle.places.specs.Whole.{inListFrom}
-use Rattle.gate.specs.Halves.{Passes, Sums, heldSound, inSide}
+use Rattle.gate.specs.CodeHalves.{Passes, Sums, heldSound, inSide}
 
 -- channel k, whose list is in a row
 module _ (slots : List Incoming) (count : ℕ) (cs : List Channel) (n k : ℕ) (long : n ≤ length cs) (h : k < n) (row m : List ℕ)

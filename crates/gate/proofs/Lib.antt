@@ -1,4 +1,3 @@
-pub mod Asked
 pub mod Groups
 pub mod Held
 pub mod Order

@@ -4,8 +4,8 @@ use mathlib.Core.Path.{_≡_}
 use mathlib.Core.Bool.{false}
 use mathlib.Core.List.{List}
 use native.Mathlib.Omega.{arith}
-use Rattle.parts.specs.declared.groups.Incoming.{Incoming}
-use Rattle.gate.specs.Halves.{Sums}
+use Rattle.record.specs.declared.groups.Incoming.{Incoming}
+use Rattle.gate.specs.CodeHalves.{Sums}
 
 pub sums-stop : (slots : List Incoming) (xs : List ℕ) (from total : ℕ) → Sums slots xs from false total
 sums-stop slots xs from total =

@@ -8,14 +8,14 @@ use lib.Dec.{leb}
 use lib.ListN.{replicate}
 use Rattle.numbers.specs.Pick.{both}
 use Rattle.numbers.proofs.BoolLaws.{both-with-true}
-use Rattle.runs.specs.Free.{markedAll}
+use Rattle.cells.specs.Free.{markedAll}
 use Rattle.lists.specs.Rows.{lenOf, itemsOf, rowAt}
-use Rattle.parts.specs.declared.groups.Lists.{Lists}
-use Rattle.held.specs.Walks.{passes}
-use Rattle.held.proofs.WalkLaws.{middle}
-use Rattle.damage.specs.Walks.{outPass, worthOf, worthPasses}
+use Rattle.record.specs.declared.groups.Lists.{Lists}
+use Rattle.damage.specs.CodeInWalks.{passes}
+use Rattle.damage.proofs.WalkLaws.{middle}
+use Rattle.damage.specs.CodeOutWalks.{outPass, slotGrade, gradePasses}
 use Rattle.places.specs.Whole.{whole}
-use Rattle.gate.specs.Halves.{Passes, outFits, outSide}
+use Rattle.gate.specs.CodeHalves.{Passes, outFits, outSide}
 use Rattle.gate.proofs.Groups.{lists-are}
 use Rattle.gate.proofs.Stops.{first-no, second-no, third-says}
 
@@ -30,7 +30,7 @@ module _ (ws : List ℕ) (count : ℕ) where
   half = outSide count (whole ws)
 
   abbrev good : Bool → ℕ → Bool
-  good = worthPasses (map (worthOf count) (whole ws .outgoing))
+  good = gradePasses (map (slotGrade count) (whole ws .outgoing))
 
   abbrev none : List ℕ
   none = replicate 32 0

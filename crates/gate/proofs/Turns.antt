@@ -9,15 +9,15 @@ use lib.Dec.{leb}
 use lib.ListN.{length, getD, set, drop}
 use borrow.Author.Tests.{lt-ltb, le-ltb, ne-eqb, le-leb, lt-leb}
 use Rattle.numbers.proofs.BoolLaws.{both-true, both-false}
-use Rattle.runs.specs.Free.{markedAll}
-use Rattle.runs.proofs.Views.{rest-step, rest-end}
+use Rattle.cells.specs.Free.{markedAll}
+use Rattle.cells.proofs.Views.{rest-step, rest-end}
 use Rattle.lists.specs.Rows.{low, lenOf, itemsOf, rowAt}
 use Rattle.lists.proofs.Placed.{row-is, items-length, item-at}
-use Rattle.parts.specs.Fresh.{noIncoming}
-use Rattle.parts.specs.Damage.{lengths}
-use Rattle.parts.specs.declared.groups.Incoming.{Incoming}
-use Rattle.held.specs.Walks.{passes}
-use Rattle.gate.specs.Halves.{Passes}
+use Rattle.record.specs.Fresh.{noIncoming}
+use Rattle.record.specs.Damage.{lengths}
+use Rattle.record.specs.declared.groups.Incoming.{Incoming}
+use Rattle.damage.specs.CodeInWalks.{passes}
+use Rattle.gate.specs.CodeHalves.{Passes}
 
 -- the list of n cells at a place, and its length v
 pub record Listed (ws : List ℕ) (at n v : ℕ) : Type 0 where

@@ -6,16 +6,16 @@ ghost use lib.Dec.{eqb};
 ghost use lib.ListN.{length, getD, take};
 ghost use Rattle.numbers.specs.Pick.{both};
 ghost use Rattle.lists.specs.Rows.{rowAt, itemsOf};
-ghost use Rattle.slots.specs.Lists.{incoming};
-ghost use Rattle.parts.specs.Fresh.{noIncoming};
-ghost use Rattle.parts.specs.Sizes.{channels, storeLength};
-ghost use Rattle.parts.specs.Damage.{held, lengths};
-ghost use Rattle.held.specs.Walks.{inPasses};
+ghost use Rattle.record.specs.Lists.{incoming};
+ghost use Rattle.record.specs.Fresh.{noIncoming};
+ghost use Rattle.record.specs.Sizes.{channels, storeLength};
+ghost use Rattle.record.specs.Damage.{held, lengths};
+ghost use Rattle.damage.specs.CodeInWalks.{inPasses};
 ghost use Rattle.places.specs.Whole.{whole, recordLength};
-ghost use Rattle.gate.specs.Halves.{Passes, Sums, heldSound, inSide};
+ghost use Rattle.gate.specs.CodeHalves.{Passes, Sums, heldSound, inSide};
 use crate::narrow;
-use parts::groups::CELL;
-use slots::INCOMING;
+use record::INCOMING;
+use record::groups::CELL;
 
 // Where the record has its waiting total; the channel and the length among a slot's numbers.
 const TOTAL: usize = 192;
@@ -47,7 +47,7 @@ fn channel_at(words: &[u32], s: usize) -> u32
 }
 
 // An incoming length above 4,096, a channel not below the count, or not that of the channel list it stands in.
-fn slot_passes(words: &[u32], s: usize, count: u32, own: bool, k: u32) -> bool
+fn in_passes(words: &[u32], s: usize, count: u32, own: bool, k: u32) -> bool
     requires { ⌜ length (now words) ≡ recordLength ⌝ }
     requires { ⌜ s < incoming ⌝ }
     ensures { λ r. ⌜ r ≡ inPasses (whole (now (words .entry)) .incoming) count own k s ⌝ }
@@ -98,7 +98,7 @@ fn list_sound(
         if marks[s] == 1 {
             return Walk { ok: false, total };
         }
-        if !slot_passes(words, s, count, own, k) {
+        if !in_passes(words, s, count, own, k) {
             return Walk { ok: false, total };
         }
         total = total + length_at(words, s);
@@ -131,7 +131,7 @@ fn held_sound(words: &[u32], count: u32, marks: &mut [u8], from: u32) -> bool
 }
 
 // "a list is longer than its pool, names a slot that does not exist, or a slot stands twice", each slot, and the waiting total.
-pub(crate) fn is_sound(words: &[u32], count: u32) -> bool
+pub(crate) fn in_side(words: &[u32], count: u32) -> bool
     requires { ⌜ length (now words) ≡ recordLength ⌝ }
     requires { ⌜ count ≤ channels ⌝ }
     ensures { λ r. ⌜ r ≡ inSide count (whole (now (words .entry))) ⌝ }

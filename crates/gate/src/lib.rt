@@ -5,17 +5,17 @@ mod outgoing;
 ghost use mathlib.Core.Path.{_≡_};
 ghost use lib.ListN.{length};
 ghost use Rattle.lists.specs.Rows.{low};
-ghost use Rattle.parts.specs.Damage.{ranged};
+ghost use Rattle.record.specs.Damage.{ranged};
 ghost use Rattle.peer.specs.Damage.{sound};
 ghost use Rattle.peer.specs.Gate.{fits, gateOf};
 ghost use Rattle.places.specs.Whole.{whole, recordLength};
 use numbers::consts;
 use numbers::refusals::Refusal;
-use parts::groups::CHANNELS;
-use parts::groups::STORE;
 use peer::gate::Gate;
 use peer::gate::Lent;
 use peer::settings::Settings;
+use record::groups::CHANNELS;
+use record::groups::STORE;
 
 // Where the record has its channel count and its MTU.
 const COUNT: usize = 6;
@@ -51,14 +51,14 @@ pub fn ask(words: &[u32], settings: Settings, lent: Lent) -> Gate
     if !is_fit(settings, lent) {
         return Gate::Shut(Refusal::OutOfRange);
     }
-    if !is_sound(words) {
+    if !sound(words) {
         return Gate::Shut(Refusal::Damaged);
     }
     Gate::Open
 }
 
 // "MTU or channel count (0 to 8) out of range"
-fn is_ranged(mtu: u32, count: u32) -> bool
+fn ranged(mtu: u32, count: u32) -> bool
     ensures { λ r. ⌜ r ≡ ranged mtu count ⌝ }
 {
     if mtu < consts::PROTOCOL_MINIMUM_MTU {
@@ -71,16 +71,16 @@ fn is_ranged(mtu: u32, count: u32) -> bool
 }
 
 // Document 01's "damaged", turned round.
-pub fn is_sound(words: &[u32]) -> bool
+pub fn sound(words: &[u32]) -> bool
     requires { ⌜ length (now words) ≡ recordLength ⌝ }
     ensures { λ r. ⌜ r ≡ sound (whole (now (words .entry))) ⌝ }
 {
     let count = words[COUNT];
-    if !is_ranged(words[MTU], count) {
+    if !ranged(words[MTU], count) {
         return false;
     }
-    if !outgoing::is_sound(words, count) {
+    if !crate::outgoing::out_side(words, count) {
         return false;
     }
-    incoming::is_sound(words, count)
+    crate::incoming::in_side(words, count)
 }

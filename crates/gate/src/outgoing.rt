@@ -4,20 +4,20 @@ ghost use mathlib.Core.List.{map};
 ghost use Prim.Native.Nat.{_+_, _≤_};
 ghost use lib.ListN.{length};
 ghost use Rattle.lists.specs.Rows.{rowAt};
-ghost use Rattle.slots.specs.Lists.{outgoing};
-ghost use Rattle.damage.specs.Walks.{worthOf, worthPasses, enough};
+ghost use Rattle.record.specs.Lists.{outgoing};
+ghost use Rattle.damage.specs.CodeOutWalks.{slotGrade, gradePasses, enough};
 ghost use Rattle.places.specs.Whole.{whole, recordLength};
-ghost use Rattle.gate.specs.Halves.{Passes, outSide};
+ghost use Rattle.gate.specs.CodeHalves.{Passes, outSide};
 use crate::narrow;
-use slots::OUTGOING;
+use record::OUTGOING;
 
-fn is_enough(worth: u8, sent: bool) -> bool
-    ensures { λ r. ⌜ r ≡ enough worth sent ⌝ }
+fn enough(grade: u8, sent: bool) -> bool
+    ensures { λ r. ⌜ r ≡ enough grade sent ⌝ }
 {
     if sent {
-        return 2 <= worth;
+        return 2 <= grade;
     }
-    1 <= worth
+    1 <= grade
 }
 
 // Not well is a list that is longer than its pool, or that names a slot that does not exist, is marked or is not good for it; a slot that is good is marked.
@@ -25,7 +25,7 @@ fn list_sound(words: &[u32], at: usize, count: u32, sent: bool, marks: &mut [u8]
     requires { ⌜ length (now words) ≡ recordLength ⌝ }
     requires { ⌜ at + 33 ≤ recordLength ⌝ }
     requires { ⌜ length (now marks) ≡ outgoing ⌝ }
-    ensures { λ r. ⌜ Passes (worthPasses (map (worthOf count) (whole (now (words .entry)) .outgoing)) sent) outgoing (now (marks .entry)) (rowAt at outgoing (now (words .entry))) r (now (marks .exit)) ⌝ }
+    ensures { λ r. ⌜ Passes (gradePasses (map (slotGrade count) (whole (now (words .entry)) .outgoing)) sent) outgoing (now (marks .entry)) (rowAt at outgoing (now (words .entry))) r (now (marks .exit)) ⌝ }
 {
     let n = narrow(words[at]);
     if OUTGOING < n {
@@ -41,8 +41,8 @@ fn list_sound(words: &[u32], at: usize, count: u32, sent: bool, marks: &mut [u8]
         if marks[s] == 1 {
             return false;
         }
-        let worth = pool::grade_at(&words[places::POOL..places::IN_POOL], s, count);
-        if !is_enough(worth, sent) {
+        let grade = pool::grade_at(&words[places::POOL..places::IN_POOL], s, count);
+        if !enough(grade, sent) {
             return false;
         }
         marks[s] = 1;
@@ -52,7 +52,7 @@ fn list_sound(words: &[u32], at: usize, count: u32, sent: bool, marks: &mut [u8]
 }
 
 // "a list is longer than its pool, names a slot that does not exist, or a slot stands twice", and each command.
-pub(crate) fn is_sound(words: &[u32], count: u32) -> bool
+pub(crate) fn out_side(words: &[u32], count: u32) -> bool
     requires { ⌜ length (now words) ≡ recordLength ⌝ }
     ensures { λ r. ⌜ r ≡ outSide count (whole (now (words .entry))) ⌝ }
 {

@@ -7,14 +7,14 @@ use Rattle.numbers.specs.Answers.{Answer}
 use Rattle.peer.specs.Outcome.{State, Outcome, Came}
 use Rattle.peer.specs.declared.settings.Settings.{Settings}
 use Rattle.peer.proofs.Carried.{carried}
-use Rattle.link.specs.Steps.{answerOf, step, kindOf, kindIn, NamedIn, Own}
+use Rattle.link.specs.Steps.{answerOf, calls, kindOf, kindIn, NamedIn, Own}
 use Rattle.link.specs.declared.calls.Call.{Call}
 use Rattle.link.specs.declared.calls.Reply.{Reply}
 
 module _ (s : Settings) (k : Call) (datagram : List ℕ) (x : State) where
   -- the call is v, and its own reply r, which `own` answers, is wrapped
   pub promised : {R : Type 0} (own : R → Answer) (wrap : R → Reply) (v : Call) → k ≡ v → (r : R) → answerOf (wrap r) ≡ own r
-      → kindIn (wrap r) ≡ kindOf v → NamedIn (wrap r) → (o : Outcome State) → step s v datagram x ≡ o → (y : State) → Came own o r y
-      → Came answerOf (step s k datagram x) (wrap r) y × Own k (wrap r)
+      → kindIn (wrap r) ≡ kindOf v → NamedIn (wrap r) → (o : Outcome State) → calls s v datagram x ≡ o → (y : State) → Came own o r y
+      → Came answerOf (calls s k datagram x) (wrap r) y × Own k (wrap r)
   promised own wrap v e r same kind named o is y c =
-      (carried (λ (call : Call). step s call datagram x) answerOf own e r (wrap r) same o is y c, record { kind = kind ∙ sym (ap kindOf e); named = named })
+      (carried (λ (call : Call). calls s call datagram x) answerOf own e r (wrap r) same o is y c, record { kind = kind ∙ sym (ap kindOf e); named = named })

@@ -6,17 +6,17 @@ use mathlib.Core.List.{List}
 use native.Mathlib.Omega.{arith}
 use Rattle.peer.specs.Outcome.{State, Came}
 use Rattle.peer.specs.declared.settings.Settings.{Settings}
-use Rattle.peer.proofs.Settled as calls
-use Rattle.outward.proofs.Settled as outward
-use Rattle.inward.proofs.Settled as inward
-use Rattle.link.specs.Steps.{answerOf, step, kindIn, NamedIn, Own}
+use Rattle.peer.proofs.Settled as plain
+use Rattle.link_out.proofs.Settled as outward
+use Rattle.link_in.proofs.Settled as inward
+use Rattle.link.specs.Steps.{answerOf, calls, kindIn, NamedIn, Own}
 use Rattle.link.specs.declared.calls.Call.{Call}
 use Rattle.link.specs.declared.calls.Reply.{Reply}
 use Rattle.link.specs.declared.calls.Reply.the-variants as vr
 use Rattle.link.specs.declared.Linked.{Linked}
 
 pub replies-apart : (a b : Reply) → kindIn a ≡ kindIn b → NamedIn a → NamedIn b → answerOf a ≡ answerOf b → a ≡ b
-replies-apart (vr.Called r) (vr.Called q) k m n e = ap vr.Called (calls.replies-apart r q e)
+replies-apart (vr.Called r) (vr.Called q) k m n e = ap vr.Called (plain.replies-apart r q e)
 replies-apart (vr.Called r) (vr.Outward q) k m n e = absurd (omega (arith, k))
 replies-apart (vr.Called r) (vr.Inward q) k m n e = absurd (omega (arith, k))
 replies-apart (vr.Outward r) (vr.Called q) k m n e = absurd (omega (arith, k))
@@ -27,8 +27,8 @@ replies-apart (vr.Inward r) (vr.Outward q) k m n e = absurd (omega (arith, k))
 replies-apart (vr.Inward r) (vr.Inward q) k m n e = ap vr.Inward (inward.replies-apart r q (omega (arith, k)) e)
 
 module _ (s : Settings) (k : Call) (datagram : List ℕ) (x : State) (a b : Linked) (t u : List ℕ)
-    (c : Came answerOf (step s k datagram x) (a .reply) (record { peer = a .peer; store = t })) (m : Own k (a .reply))
-    (d : Came answerOf (step s k datagram x) (b .reply) (record { peer = b .peer; store = u })) (n : Own k (b .reply)) where
+    (c : Came answerOf (calls s k datagram x) (a .reply) (record { peer = a .peer; store = t })) (m : Own k (a .reply))
+    (d : Came answerOf (calls s k datagram x) (b .reply) (record { peer = b .peer; store = u })) (n : Own k (b .reply)) where
   states : _≡_ {A = State} (record { peer = a .peer; store = t }) (record { peer = b .peer; store = u })
   states = c .after ∙ sym (d .after)
 

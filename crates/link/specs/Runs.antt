@@ -6,14 +6,14 @@ use lib.Dec.{eqb}
 use lib.ListN.{getD, take, drop}
 use Rattle.numbers.specs.Pick.{pick, both}
 use Rattle.numbers.specs.Answers.{Answer, numbersOf}
-use Rattle.parts.specs.Sizes.{cell}
-use Rattle.parts.specs.Fresh.{noIncoming}
+use Rattle.record.specs.Sizes.{cell}
+use Rattle.record.specs.Fresh.{noIncoming}
 use Rattle.peer.specs.Outcome.{State, Outcome}
 use Rattle.peer.specs.Fresh.{freshPeer}
 use Rattle.peer.specs.declared.settings.Settings.{Settings}
 use Rattle.peer.specs.declared.defaults.Kept.{Kept}
-use Rattle.inward.specs.declared.calls.Call.the-variants as inw
-use Rattle.link.specs.Steps.{step}
+use Rattle.link_in.specs.declared.calls.Call.the-variants as inw
+use Rattle.link.specs.Steps.{calls}
 use Rattle.link.specs.declared.calls.Call.{Call}
 use Rattle.link.specs.declared.calls.Call.the-variants as call
 
@@ -23,7 +23,7 @@ pub record Asked : Type 0 where
   pub datagram : List ℕ
 
 abbrev pub comesTo : Asked → State → Outcome State
-comesTo a x = step (a .settings) (a .call) (a .datagram) x
+comesTo a x = calls (a .settings) (a .call) (a .datagram) x
 
 -- a packet that comes out: its channel, its command's byte, its number, and the bytes of its cell
 pub record Packet : Type 0 where

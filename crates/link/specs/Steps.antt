@@ -3,12 +3,12 @@ use Prim.Native.Nat.{ℕ, _+_, _*_}
 use mathlib.Core.Path.{_≡_}
 use mathlib.Core.List.{List}
 use Rattle.numbers.specs.Answers.{Answer}
-use Rattle.peer.specs.Calls as calls
+use Rattle.peer.specs.Calls as plain
 use Rattle.peer.specs.Outcome.{State, Outcome}
 use Rattle.peer.specs.declared.settings.Settings.{Settings}
-use Rattle.opening.specs.Calls.{resets, begins, setsState}
-use Rattle.outward.specs.Steps as outward
-use Rattle.inward.specs.Steps as inward
+use Rattle.lifecycle.specs.Calls.{resets, begins, setsState}
+use Rattle.link_out.specs.Steps as outward
+use Rattle.link_in.specs.Steps as inward
 use Rattle.link.specs.declared.calls.Call.{Call}
 use Rattle.link.specs.declared.calls.Call.the-variants as call
 use Rattle.link.specs.declared.calls.Reply.{Reply}
@@ -16,16 +16,16 @@ use Rattle.link.specs.declared.calls.Reply.the-variants as vr
 
 -- document 01's number and values for every reply
 abbrev pub answerOf : Reply → Answer
-answerOf (vr.Called r) = calls.answerOf r
+answerOf (vr.Called r) = plain.answerOf r
 answerOf (vr.Outward r) = outward.answerOf r
 answerOf (vr.Inward r) = inward.answerOf r
 
-abbrev pub step : Settings → Call → List ℕ → State → Outcome State
-step s call.Reset datagram x = inward.beside x (resets s (x .peer))
-step s (call.Begin mtu channels) datagram x = inward.beside x (begins s mtu channels (x .peer))
-step s (call.SetState state) datagram x = inward.beside x (setsState s state (x .peer))
-step s (call.Outward c) datagram x = inward.beside x (outward.goes s c (x .peer))
-step s (call.Inward c) datagram x = inward.comes s c datagram x
+abbrev pub calls : Settings → Call → List ℕ → State → Outcome State
+calls s call.Reset datagram x = inward.beside x (resets s (x .peer))
+calls s (call.Begin mtu channels) datagram x = inward.beside x (begins s mtu channels (x .peer))
+calls s (call.SetState state) datagram x = inward.beside x (setsState s state (x .peer))
+calls s (call.Outward c) datagram x = inward.beside x (outward.callsOut s c (x .peer))
+calls s (call.Inward c) datagram x = inward.callsIn s c datagram x
 
 -- which kind of reply a call has, and which kind one is: a side's are the odd ones, the other's the even ones
 abbrev pub kindOf : Call → ℕ

@@ -2,7 +2,7 @@
 ghost use mathlib.Core.Path.{_≡_};
 ghost use Rattle.peer.specs.Outcome.{Came};
 ghost use Rattle.places.specs.Whole.{whole};
-ghost use Rattle.link.specs.Steps.{answerOf, step, Own};
+ghost use Rattle.link.specs.Steps.{answerOf, calls, Own};
 use crate::calls::Call;
 use crate::calls::Reply;
 use peer::settings::Settings;
@@ -16,28 +16,28 @@ pub fn call(
     store: &mut [u8],
     datagram: &[u8],
 ) -> Reply
-    ensures came { λ r. ⌜ Came answerOf (step settings call (now (datagram .entry)) (record { peer = whole (now (words .entry)); store = now (store .entry) })) r (record { peer = whole (now (words .exit)); store = now (store .exit) }) ⌝ }
+    ensures came { λ r. ⌜ Came answerOf (calls settings call (now (datagram .entry)) (record { peer = whole (now (words .entry)); store = now (store .entry) })) r (record { peer = whole (now (words .exit)); store = now (store .exit) }) ⌝ }
     ensures own { λ r. ⌜ Own call r ⌝ }
 {
     match call {
         Call::Reset => {
-            let reply = opening::lent::reset(words, settings);
+            let reply = lifecycle::reset(words, settings);
             return Reply::Called(reply);
         }
         Call::Begin { mtu, channels } => {
-            let reply = opening::lent::begin(words, settings, mtu, channels);
+            let reply = lifecycle::begin(words, settings, mtu, channels);
             return Reply::Called(reply);
         }
         Call::SetState { state } => {
-            let reply = opening::lent::set_state(words, settings, state);
+            let reply = lifecycle::set_state(words, settings, state);
             return Reply::Called(reply);
         }
         Call::Outward(call) => {
-            let reply = outward::lent::call(words, settings, call);
+            let reply = link_out::call(words, settings, call);
             return Reply::Outward(reply);
         }
         Call::Inward(call) => {
-            let reply = inward::lent::call(words, settings, call, store, datagram);
+            let reply = link_in::call(words, settings, call, store, datagram);
             return Reply::Inward(reply);
         }
     }

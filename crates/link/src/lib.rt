@@ -4,10 +4,10 @@ pub mod lent;
 
 ghost use mathlib.Core.Path.{_≡_};
 ghost use Rattle.peer.specs.Outcome.{Came};
-ghost use Rattle.link.specs.Steps.{answerOf, step, Own};
+ghost use Rattle.link.specs.Steps.{answerOf, calls, Own};
 use calls::Call;
 use calls::Reply;
-use peer::record::Peer;
+use peer::Peer;
 use peer::settings::Settings;
 use places::RECORD;
 
@@ -18,7 +18,7 @@ pub struct Linked {
 
 // The lent link on the record's numbers.
 pub fn call(peer: Peer, settings: Settings, call: Call, store: &mut [u8], datagram: &[u8]) -> Linked
-    ensures came { λ r. ⌜ Came answerOf (step settings call (now (datagram .entry)) (record { peer = peer; store = now (store .entry) })) (r .reply) (record { peer = r .peer; store = now (store .exit) }) ⌝ }
+    ensures came { λ r. ⌜ Came answerOf (calls settings call (now (datagram .entry)) (record { peer = peer; store = now (store .entry) })) (r .reply) (record { peer = r .peer; store = now (store .exit) }) ⌝ }
     ensures own { λ r. ⌜ Own call (r .reply) ⌝ }
 {
     let mut words = [0u32; RECORD];

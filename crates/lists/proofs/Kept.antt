@@ -9,7 +9,7 @@ use native.Mathlib.Omega.{arith}
 use lib.ListN.{length, getD, set, take, drop, length-drop, length-append, length-map}
 use lib.Seq.{paste, take-all}
 use borrow.Rule.Slice.PartMut.{putMid}
-use Rattle.runs.specs.Runs.{pushed, inserted, without, prepended, movedTo, over, Makes}
+use Rattle.cells.specs.Runs.{pushed, inserted, without, prepended, movedTo, over, Makes}
 use Rattle.lists.specs.Rows.{low, section, rowAt, cellsOf, itemsOf, Keeps}
 use Rattle.lists.proofs.Mapped.{map-drop, map-over, map-pushed, map-inserted, map-without, map-prepended, map-moved}
 use Rattle.lists.proofs.Placed.{low-small, row-is, cells-length, items-of}

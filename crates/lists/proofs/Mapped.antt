@@ -7,7 +7,7 @@ use mathlib.Core.List.{List, [], _∷_, _++_, map, map-append}
 use lib.Dec.{ltb, leb}
 use lib.ListN.{length, take, drop, length-map}
 use Rattle.numbers.specs.Pick.{pick}
-use Rattle.runs.specs.Runs.{pushed, inserted, without, prepended, movedTo, over}
+use Rattle.cells.specs.Runs.{pushed, inserted, without, prepended, movedTo, over}
 
 module _ (f : ℕ → ℕ) where
   pub map-take : (n : ℕ) (xs : List ℕ) → map f (take n xs) ≡ take n (map f xs)

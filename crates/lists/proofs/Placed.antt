@@ -2,17 +2,15 @@
 -- The argument: what is dropped before a list is its length and the rest; reading a cell goes past taking the first of them.
 use Prim.Native.Nat.{ℕ, suc, _+_, _≤_, _<_, min}
 use mathlib.Core.Path.{_≡_, refl, ap, sym, _∙_}
-use mathlib.Core.Bool.{true, false}
 use mathlib.Core.List.{List, [], _∷_, map}
 use native.Mathlib.Numerals.{add-one}
 use native.Mathlib.Omega.{arith}
 use lib.ListN.{length, getD, set, take, drop, length-take, length-drop, length-map, List·getD-map}
 use lib.Seq.{getD-take, getD-drop}
-use borrow.Author.Tests.{eq-eqb, ne-eqb}
-use Rattle.runs.specs.Runs.{first, has}
-use Rattle.runs.specs.Free.{markedAll}
-use Rattle.runs.specs.declared.First.the-variants.{Slot}
-use Rattle.runs.proofs.Views.{rest-step, rest-end}
+use Rattle.cells.specs.Runs.{first}
+use Rattle.cells.specs.Free.{markedAll}
+use Rattle.cells.specs.declared.First.the-variants.{Slot}
+use Rattle.cells.proofs.Views.{rest-step, rest-end}
 use Rattle.lists.specs.Rows.{low, section, rowAt, itemsOf}
 use Rattle.lists.proofs.Mapped.{map-take}
 
@@ -53,15 +51,6 @@ first-at (x ∷ xs) d = refl
 
 -- a turn of the loops, and their end
 module _ (xs : List ℕ) (k : ℕ) where
-  pub has-hit : (s : ℕ) → k < length xs → getD xs k 0 ≡ s → has (drop k xs) s ≡ true
-  has-hit s h q = rw (rest-step xs k 0, eq-eqb (getD xs k 0) s q)
-
-  pub has-miss : (s : ℕ) → k < length xs → (getD xs k 0 ≡ s → ⊥) → has (drop k xs) s ≡ has (drop (k + 1) xs) s
-  has-miss s h q = rw (rest-step xs k 0, ne-eqb (getD xs k 0) s q)
-
-  pub has-end : (s : ℕ) → length xs ≤ k → has (drop k xs) s ≡ false
-  has-end s h = rw (rest-end xs k h)
-
   pub marks-turn : (m : List ℕ) → k < length xs → markedAll m (drop k xs) ≡ markedAll (set m (getD xs k 0) 1) (drop (k + 1) xs)
   unfolding markedAll
   marks-turn m h = rw (rest-step xs k 0)

@@ -5,7 +5,7 @@ use mathlib.Core.Path.{_≡_}
 use mathlib.Core.List.{List, map}
 use lib.ListN.{length, getD, take, drop}
 use lib.Seq.{paste}
-use Rattle.runs.specs.Runs.{over}
+use Rattle.cells.specs.Runs.{over}
 
 abbrev pub low : ℕ → ℕ
 low x = x % 65536

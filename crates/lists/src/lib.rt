@@ -3,11 +3,11 @@ ghost use mathlib.Core.Path.{_≡_};
 ghost use Prim.Native.Nat.{_+_, _≤_, _<_};
 ghost use mathlib.Core.List.{map};
 ghost use lib.ListN.{length, getD, take, drop};
-ghost use Rattle.runs.specs.Runs.{pushed, inserted, without, prepended, movedTo, first, has};
-ghost use Rattle.runs.specs.Free.{markedAll};
+ghost use Rattle.cells.specs.Runs.{pushed, inserted, without, prepended, movedTo, first};
+ghost use Rattle.cells.specs.Free.{markedAll};
 ghost use Rattle.lists.specs.Rows.{low, rowAt, itemsOf, Keeps};
+use cells::First;
 use cells::least;
-use runs::First;
 
 // How many numbers 16 bits have.
 const NUMBERS: u32 = 65536;
@@ -47,22 +47,6 @@ pub fn head(words: &[u32], at: usize, size: usize) -> First
         return First::Empty;
     }
     First::Slot(slot_at(words, at, size, 0))
-}
-
-// Whether the list names s.
-pub fn contains(words: &[u32], at: usize, size: usize, s: u16) -> bool
-    requires { ⌜ at + size + 1 ≤ length (now words) ⌝ }
-    ensures { λ r. ⌜ r ≡ has (itemsOf (rowAt at size (now (words .entry)))) s ⌝ }
-{
-    let n = count(words, at, size);
-    let mut k: usize = 0;
-    while k < n {
-        if slot_at(words, at, size, k) == s {
-            return true;
-        }
-        k = k + 1;
-    }
-    false
 }
 
 // Each slot that the list names and that exists gets a mark.

@@ -9,8 +9,8 @@ use Rattle.numbers.specs.declared.clock.Trip.{Trip}
 use Rattle.numbers.specs.declared.clock.Trip.the-variants.{PassedOver, Taken}
 
 -- "The distance of two times is a - b modulo 2^32; if that is 86,400,000 or more, b - a modulo 2^32."
-abbrev pub apart : ℕ → ℕ → ℕ
-apart a b = pick (leb 86400000 (minus 32 a b)) (minus 32 b a) (minus 32 a b)
+abbrev pub distance : ℕ → ℕ → ℕ
+distance a b = pick (leb 86400000 (minus 32 a b)) (minus 32 b a) (minus 32 a b)
 
 -- the clock with the sent time for its low half, 65,536 less where only the sent time is in the half's upper part
 abbrev pub completed : ℕ → ℕ → ℕ

@@ -1,12 +1,12 @@
 // Times: the distance of two, and the sample that an acknowledgement's 16 bits give.
 ghost use mathlib.Core.Path.{_≡_};
-ghost use Rattle.numbers.specs.Clock.{apart, answerOf, completed, sampled};
+ghost use Rattle.numbers.specs.Clock.{distance, answerOf, completed, sampled};
 
 // A day of milliseconds: from here on the difference is taken the other way round.
 pub const OVERFLOW: u32 = 86400000;
 
 pub fn distance(a: u32, b: u32) -> u32
-    ensures { λ r. ⌜ r ≡ apart a b ⌝ }
+    ensures { λ r. ⌜ r ≡ distance a b ⌝ }
 {
     let plain = std::num::wrapping_sub_u32(a, b);
     if OVERFLOW <= plain {
@@ -17,7 +17,7 @@ pub fn distance(a: u32, b: u32) -> u32
 }
 
 // The 16-bit sent time completed from the clock, as the acknowledgement's handler does.
-pub fn complete(clock: u32, sent: u16) -> u32
+pub fn completed(clock: u32, sent: u16) -> u32
     ensures { λ r. ⌜ r ≡ completed clock sent ⌝ }
 {
     let low = clock % 65536;
@@ -40,7 +40,7 @@ pub enum Trip {
 pub fn sample(clock: u32, sent: u16) -> Trip
     ensures { λ r. ⌜ answerOf r ≡ sampled clock sent ⌝ }
 {
-    let gap = std::num::wrapping_sub_u32(clock, complete(clock, sent));
+    let gap = std::num::wrapping_sub_u32(clock, completed(clock, sent));
     if OVERFLOW <= gap {
         return Trip::PassedOver;
     }

@@ -1,5 +1,4 @@
 // The constants of consts.rs that the link uses, by the source's names.
-
 pub const PROTOCOL_MAXIMUM_FRAGMENT_COUNT: u32 = 1048576;
 
 pub const PROTOCOL_MAXIMUM_PEER_ID: u16 = 4095;

@@ -20,7 +20,7 @@ pub fn round_trip_timeout(trip: u32, variance: u32) -> u32
 }
 
 // Whether 2^(attempts - 1) is at least the limit, exactly, for every attempts.
-pub fn reached(attempts: u16, limit: u32) -> bool
+pub fn reaches(attempts: u16, limit: u32) -> bool
     ensures { λ r. ⌜ r ≡ reaches attempts limit ⌝ }
 {
     if 33 <= attempts {

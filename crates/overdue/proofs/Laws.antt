@@ -12,15 +12,13 @@ use lib.ListN.{length, take, drop, getD, set, length-append, length-take}
 use lib.Seq.{sets, take-suc, getD-drop, length-take-le}
 use borrow.Author.Tests.{eq-eqb, ne-eqb}
 use Rattle.numbers.specs.Pick.{pick}
-use Rattle.runs.specs.Runs.{prepended, Makes}
-use Rattle.runs.proofs.CellLaws.{sets-snoc, sets-over}
-use Rattle.slots.specs.Lists.{outgoing, outItems, outKeep}
-use Rattle.slots.specs.declared.outgoing.OutList.{OutList}
-use Rattle.slots.proofs.Views.{out-items-keep}
-use Rattle.parts.specs.declared.groups.Limits.{Limits}
-use Rattle.parts.specs.declared.groups.Lists.{Lists}
+use Rattle.cells.specs.Runs.{Makes}
+use Rattle.cells.proofs.CellLaws.{sets-snoc, sets-over}
+use Rattle.record.specs.Lists.{outItems}
+use Rattle.record.specs.declared.groups.Limits.{Limits}
+use Rattle.record.specs.declared.groups.Lists.{Lists}
 use Rattle.overdue.specs.Overdue.{stays, backOutgoing, backReliable, isDue, keptIn, nextBy, dueBy, staysIn, stepBy}
-use Rattle.overdue.specs.Walking.{bearing, ahead, listsBy}
+use Rattle.overdue.specs.Walking.{bearing, listsBy}
 use Rattle.overdue.specs.declared.step.Sent.{Sent}
 use Rattle.overdue.specs.declared.step.Walk.{Walk}
 use Rattle.overdue.specs.declared.step.After.{After}
@@ -110,12 +108,6 @@ module _ (mark : ℕ) (marks cells base : List ℕ) where
       borne-without e =
           let t : bearing mark marks (take (k + 1) cells) ≡ bearing mark marks (take k cells) = rw (ne-eqb _ _ e) at one-more in
           record { count = b .count ∙ ap length (sym t); stored = b .stored ∙ ap (sets base 0) (sym t) }
-
--- a run that was kept in a list, before all of another
-pub ahead-made : (l sent : OutList) (xs : List ℕ) {run made : OutList} → run ≡ outKeep sent xs
-    → made ≡ outKeep l (prepended outgoing (outItems run) (outItems l)) → made ≡ ahead l xs
-ahead-made l sent xs e m =
-    m ∙ ap (λ (ys : List ℕ). outKeep l (prepended outgoing ys (outItems l))) (ap outItems e ∙ out-items-keep sent xs)
 
 -- marks past the slots do not matter
 bearing-within : (mark n : ℕ) (ms xs : List ℕ) → length xs ≤ n → bearing mark (take n ms) xs ≡ bearing mark ms xs

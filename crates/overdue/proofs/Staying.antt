@@ -7,13 +7,13 @@ use mathlib.Core.List.{List, [], _∷_, _++_}
 use lib.Dec.{eqb, leb}
 use lib.ListN.{length, getD, set}
 use Rattle.numbers.specs.Pick.{pick}
-use Rattle.slots.specs.Lists.{outgoing, outItems, outKeep}
-use Rattle.slots.specs.declared.outgoing.OutList.{OutList}
-use Rattle.slots.proofs.Views.{out-keep-items}
-use Rattle.parts.specs.Fresh.{noOutgoing}
-use Rattle.parts.specs.declared.groups.Limits.{Limits}
-use Rattle.parts.specs.declared.groups.Lists.{Lists}
-use Rattle.parts.specs.declared.groups.Outgoing.{Outgoing}
+use Rattle.record.specs.Lists.{outgoing, outItems, outKeep}
+use Rattle.record.specs.declared.outgoing.OutList.{OutList}
+use Rattle.record.proofs.Views.{out-keep-items}
+use Rattle.record.specs.Fresh.{noOutgoing}
+use Rattle.record.specs.declared.groups.Limits.{Limits}
+use Rattle.record.specs.declared.groups.Lists.{Lists}
+use Rattle.record.specs.declared.groups.Outgoing.{Outgoing}
 use Rattle.overdue.specs.Overdue.{stays, backOutgoing, backReliable, isDue, earliestBy, isGivenUp, nextBy, keptIn, overIn, goesBack, staysIn, stepBy}
 use Rattle.overdue.specs.Walking.{sentOf, turnBy, walked, bearing, ahead, listsBy}
 use Rattle.overdue.specs.declared.step.Sent.{Sent}
@@ -73,14 +73,14 @@ ahead-none l h = ap (outKeep l) (same (leb (length {A = ℕ} [] + length (outIte
 
 -- the lists of marks that all stay
 pub lists-stay : (ms : List ℕ) (x : Lists) → ((mark : ℕ) → bearing mark ms (outItems (x .sent)) ≡ pick (eqb stays mark) (outItems (x .sent)) [])
-    → x .sent .len ≤ length (x .sent .slots) → x .reliable .len ≤ length (x .reliable .slots) → x .outgoing .len ≤ length (x .outgoing .slots)
+    → x .sent .len ≤ length (x .sent .slots) → x .«send_reliable» .len ≤ length (x .«send_reliable» .slots) → x .outgoing .len ≤ length (x .outgoing .slots)
     → listsBy ms x ≡ x
 lists-stay ms x b s r o =
-    ap (λ (l : OutList). record { sent = l; reliable = ahead (x .reliable) (bearing backReliable ms items); outgoing = ahead (x .outgoing) (bearing backOutgoing ms items); dispatched = x .dispatched })
+    ap (λ (l : OutList). record { sent = l; «send_reliable» = ahead (x .«send_reliable») (bearing backReliable ms items); outgoing = ahead (x .outgoing) (bearing backOutgoing ms items); dispatched = x .dispatched })
     (ap (outKeep (x .sent)) (b stays) ∙ out-keep-items (x .sent) s)
-    ∙ ap (λ (l : OutList). record { sent = x .sent; reliable = l; outgoing = ahead (x .outgoing) (bearing backOutgoing ms items); dispatched = x .dispatched })
-    (ap (ahead (x .reliable)) (b backReliable) ∙ ahead-none (x .reliable) r)
-    ∙ ap (λ (l : OutList). record { sent = x .sent; reliable = x .reliable; outgoing = l; dispatched = x .dispatched })
+    ∙ ap (λ (l : OutList). record { sent = x .sent; «send_reliable» = l; outgoing = ahead (x .outgoing) (bearing backOutgoing ms items); dispatched = x .dispatched })
+    (ap (ahead (x .«send_reliable»)) (b backReliable) ∙ ahead-none (x .«send_reliable») r)
+    ∙ ap (λ (l : OutList). record { sent = x .sent; «send_reliable» = x .«send_reliable»; outgoing = l; dispatched = x .dispatched })
     (ap (ahead (x .outgoing)) (b backOutgoing) ∙ ahead-none (x .outgoing) o)
   where
     items : List ℕ

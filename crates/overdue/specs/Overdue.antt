@@ -7,9 +7,9 @@ use mathlib.Core.Bool.{Bool, true, not}
 use lib.Dec.{eqb, leb}
 use Rattle.numbers.specs.Pick.{pick, both}
 use Rattle.numbers.specs.Modulo.{sum, minus}
-use Rattle.numbers.specs.Clock.{apart}
+use Rattle.numbers.specs.Clock.{distance}
 use Rattle.numbers.specs.Wrapping.{reaches}
-use Rattle.parts.specs.declared.groups.Limits.{Limits}
+use Rattle.record.specs.declared.groups.Limits.{Limits}
 use Rattle.overdue.specs.declared.step.Sent.{Sent}
 use Rattle.overdue.specs.declared.step.Walk.{Walk}
 use Rattle.overdue.specs.declared.step.After.{After}
@@ -25,7 +25,7 @@ abbrev pub backReliable : ℕ
 backReliable = 2
 
 abbrev pub isDue : ℕ → Sent → Bool
-isDue clock o = leb (o .timeout) (apart clock (o .sent))
+isDue clock o = leb (o .timeout) (distance clock (o .sent))
 
 abbrev pub earliestBy : ℕ → ℕ → ℕ
 earliestBy earliest sent = pick (pick (eqb earliest 0) true (leb 86400000 (minus 32 sent earliest))) sent earliest
@@ -33,8 +33,8 @@ earliestBy earliest sent = pick (pick (eqb earliest 0) true (leb 86400000 (minus
 abbrev pub isGivenUp : Limits → ℕ → ℕ → ℕ → Bool
 isGivenUp l clock earliest attempts =
     both (not (eqb earliest 0))
-    (pick (leb (l .maximum) (apart clock earliest)) true
-    (both (reaches attempts (l .timeout)) (leb (l .minimum) (apart clock earliest))))
+    (pick (leb (l .maximum) (distance clock earliest)) true
+    (both (reaches attempts (l .timeout)) (leb (l .minimum) (distance clock earliest))))
 
 -- after a command went back, the next one to look at may be the head of sent: it is where one went back before it and none was kept; then the next
 -- timeout is its sent time + timeout

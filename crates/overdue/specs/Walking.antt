@@ -6,25 +6,29 @@ use mathlib.Core.List.{List, [], _∷_}
 use lib.Dec.{eqb}
 use lib.ListN.{getD, set, drop}
 use Rattle.numbers.specs.Pick.{pick}
-use Rattle.runs.specs.Runs.{prepended}
-use Rattle.slots.specs.Lists.{outgoing, outItems, outKeep}
-use Rattle.slots.specs.declared.outgoing.OutList.{OutList}
-use Rattle.parts.specs.Fresh.{noOutgoing}
-use Rattle.parts.specs.Updates.{withTimeout}
-use Rattle.parts.specs.declared.groups.Times.{Times}
-use Rattle.parts.specs.declared.groups.Loss.{Loss}
-use Rattle.parts.specs.declared.groups.Flow.{Flow}
-use Rattle.parts.specs.declared.groups.Limits.{Limits}
-use Rattle.parts.specs.declared.groups.Lists.{Lists}
-use Rattle.parts.specs.declared.groups.Outgoing.{Outgoing}
+use Rattle.cells.specs.Runs.{prepended}
+use Rattle.record.specs.Lists.{outgoing, outItems, outKeep}
+use Rattle.record.specs.declared.outgoing.OutList.{OutList}
+use Rattle.record.specs.Fresh.{noOutgoing}
+use Rattle.record.specs.Updates.{withTimeout}
+use Rattle.record.specs.declared.groups.Times.{Times}
+use Rattle.record.specs.declared.groups.Loss.{Loss}
+use Rattle.record.specs.declared.groups.Flow.{Flow}
+use Rattle.record.specs.declared.groups.Limits.{Limits}
+use Rattle.record.specs.declared.groups.Lists.{Lists}
+use Rattle.record.specs.declared.groups.Outgoing.{Outgoing}
 use Rattle.overdue.specs.Overdue.{stays, backOutgoing, backReliable, stepBy}
 use Rattle.overdue.specs.declared.step.Sent.{Sent}
 use Rattle.overdue.specs.declared.step.Walk.{Walk}
-use Rattle.overdue.specs.declared.turn.Turned.{Turned}
 
 -- what the step needs of a slot
 abbrev pub sentOf : Outgoing → Sent
 sentOf o = record { sent = o .sent; timeout = o .timeout; attempts = o .attempts; length = o .length; packet = o .packet }
+
+pub record Turned : Type 0 where
+  pub walk : Walk
+  pub slot : Outgoing
+  pub mark : ℕ
 
 -- the step on a slot: its timeout changes, and nothing else of it
 abbrev pub turnBy : Limits → ℕ → Walk → Outgoing → Turned
@@ -72,7 +76,7 @@ listsBy ms l =
     let sent = outItems (l .sent) in
     record {
       sent = outKeep (l .sent) (bearing stays ms sent);
-      reliable = ahead (l .reliable) (bearing backReliable ms sent);
+      «send_reliable» = ahead (l .«send_reliable») (bearing backReliable ms sent);
       outgoing = ahead (l .outgoing) (bearing backOutgoing ms sent);
       dispatched = l .dispatched;
     }

@@ -1,5 +1,3 @@
 // What the timeout check makes of the sent commands, on the groups that it changes.
-pub mod back;
-pub mod lent;
 pub mod step;
 pub mod turn;

@@ -1,9 +1,9 @@
 // One sent command, by value: the source's tests in the source's order.
 ghost use mathlib.Core.Path.{_≡_};
-ghost use Rattle.overdue.specs.Overdue.{isDue, earliestBy, isGivenUp, nextBy, keptIn, overIn, backIn, goesBack, staysIn, dueBy, stepBy};
+ghost use Rattle.overdue.specs.Overdue.{isDue, earliestBy, isGivenUp, nextBy, goesBack, staysIn, dueBy, stepBy};
 use numbers::clock;
 use numbers::wrapping;
-use parts::groups::Limits;
+use record::groups::Limits;
 
 // What the step needs of a sent command.
 pub struct Sent {
@@ -69,7 +69,7 @@ fn is_given_up(limits: Limits, clock: u32, earliest: u32, attempts: u16) -> bool
     if limits.maximum <= apart {
         return true;
     }
-    if !wrapping::reached(attempts, limits.timeout) {
+    if !wrapping::reaches(attempts, limits.timeout) {
         return false;
     }
     limits.minimum <= apart
@@ -88,7 +88,7 @@ fn next_by(walk: Walk, o: Sent) -> u32
     std::num::wrapping_add_u32(o.sent, o.timeout)
 }
 
-fn stay(walk: Walk, o: Sent) -> After
+fn stays_in(walk: Walk, o: Sent) -> After
     ensures { λ r. ⌜ r ≡ staysIn walk o ⌝ }
 {
     After {
@@ -99,7 +99,7 @@ fn stay(walk: Walk, o: Sent) -> After
 }
 
 // Counted lost, and sent again with twice its timeout.
-fn go_back(walk: Walk, next: u32, earliest: u32, o: Sent) -> After
+fn goes_back(walk: Walk, next: u32, earliest: u32, o: Sent) -> After
     ensures { λ r. ⌜ r ≡ goesBack walk next earliest o ⌝ }
 {
     let mut w = walk;
@@ -123,34 +123,34 @@ fn go_back(walk: Walk, next: u32, earliest: u32, o: Sent) -> After
     }
 }
 
-fn due(limits: Limits, clock: u32, walk: Walk, o: Sent) -> After
+fn due_by(limits: Limits, clock: u32, walk: Walk, o: Sent) -> After
     ensures { λ r. ⌜ r ≡ dueBy limits clock walk o ⌝ }
 {
     let next = next_by(walk, o);
     let earliest = earliest_by(walk.earliest, o.sent);
     if !is_given_up(limits, clock, earliest, o.attempts) {
-        return go_back(walk, next, earliest, o);
+        return goes_back(walk, next, earliest, o);
     }
     let mut w = walk;
     w.earliest = earliest;
     w.next = next;
     w.kept = true;
     w.over = true;
-    stay(w, o)
+    stays_in(w, o)
 }
 
 // Once given up, nothing more is looked at.
-pub fn step(limits: Limits, clock: u32, walk: Walk, o: Sent) -> After
+pub fn step_by(limits: Limits, clock: u32, walk: Walk, o: Sent) -> After
     ensures { λ r. ⌜ r ≡ stepBy limits clock walk o ⌝ }
 {
     if walk.over {
-        return stay(walk, o);
+        return stays_in(walk, o);
     }
     if is_due(clock, o) {
-        return due(limits, clock, walk, o);
+        return due_by(limits, clock, walk, o);
     }
     let mut w = walk;
     w.next = next_by(walk, o);
     w.kept = true;
-    stay(w, o)
+    stays_in(w, o)
 }

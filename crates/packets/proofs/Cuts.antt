@@ -8,7 +8,7 @@ use native.Mathlib.Nat.{div-lt-iff-lt-mul, le-mul-of-pos-right, div-mul-le-self,
 use native.Mathlib.Numerals.{add-one}
 use native.Mathlib.Omega.{arith}
 use lib.ListN.{length, getD, take}
-use Rattle.stamps.specs.declared.pieces.Piece.{Piece}
+use Rattle.outbox.specs.declared.pieces.Piece.{Piece}
 use Rattle.packets.specs.Packets.{pieceCount, lengthAt, cutPiece, cutFrom, pieces}
 use Rattle.packets.specs.Packets.{span, Part}
 use Rattle.packets.specs.declared.Cut.{Cut}

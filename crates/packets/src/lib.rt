@@ -1,9 +1,12 @@
 // Which command a packet goes out as, by the source's tests, and how a long one is cut.
+pub mod plans;
+
 ghost use mathlib.Core.Path.{_≡_};
 ghost use mathlib.Core.Bool.{not};
 ghost use Prim.Native.Nat.{_-_};
 ghost use Rattle.numbers.specs.Pick.{both};
 ghost use Rattle.packets.specs.Packets.{fragmentLength, isReliable, isUnsequenced, startOf, blank, wholeCommand, whole, cutCommand, lengthAt, cutPiece};
+use command::bytes;
 use command::fields::Command;
 use command::fields::Fields;
 use command::fields::Fragment;
@@ -11,23 +14,18 @@ use numbers::bits;
 use numbers::counters::Group;
 use numbers::counters::Reliable;
 use numbers::counters::Unreliable;
-use stamps::pieces::Piece;
-
-// 128 asks for acknowledgement, 64 says unsequenced.
-const ACKNOWLEDGE: u8 = 128;
-
-const UNSEQUENCED: u8 = 64;
+use outbox::pieces::Piece;
 
 // Command bytes: a number of public ENet and its flag.
-const SEND_RELIABLE: u8 = 6 + ACKNOWLEDGE;
+const SEND_RELIABLE: u8 = bytes::SEND_RELIABLE + bytes::ACKNOWLEDGE;
 
-const SEND_UNRELIABLE: u8 = 7;
+const SEND_UNRELIABLE: u8 = bytes::SEND_UNRELIABLE;
 
-const SEND_FRAGMENT: u8 = 8 + ACKNOWLEDGE;
+const SEND_FRAGMENT: u8 = bytes::SEND_FRAGMENT + bytes::ACKNOWLEDGE;
 
-const SEND_UNSEQUENCED: u8 = 9 + UNSEQUENCED;
+const SEND_UNSEQUENCED: u8 = bytes::SEND_UNSEQUENCED + bytes::UNSEQUENCED;
 
-const SEND_UNRELIABLE_FRAGMENT: u8 = 12;
+const SEND_UNRELIABLE_FRAGMENT: u8 = bytes::SEND_UNRELIABLE_FRAGMENT;
 
 // The last number before a counter turns over.
 const LAST: u16 = 65535;
@@ -72,7 +70,7 @@ fn minus(a: u32, b: u32) -> u32
 }
 
 // A cut packet: flag 8 without flag 1 goes unreliable while that number is below 65,535. Flag 2 is not asked.
-pub fn starting(flags: u32, reliable: Reliable, unreliable: Unreliable) -> Start
+pub fn start_of(flags: u32, reliable: Reliable, unreliable: Unreliable) -> Start
     ensures { λ r. ⌜ r ≡ startOf flags reliable unreliable ⌝ }
 {
     if bits::is_set(flags, 3) {
@@ -183,7 +181,7 @@ pub fn length_at(x: Cut, offset: u32) -> u16
 }
 
 // Piece j, at its offset.
-pub fn piece(x: Cut, j: u32, offset: u32) -> Piece
+pub fn cut_piece(x: Cut, j: u32, offset: u32) -> Piece
     ensures { λ r. ⌜ r ≡ cutPiece x j offset ⌝ }
 {
     let length = length_at(x, offset);

@@ -1,7 +1,7 @@
 -- The incoming pool of a sound record clause by clause, over any parts of a record; the head of dispatched exists, and the total is low.
 -- The argument: `inSound` is a conjunction, taken apart and put together; at most 12 slots are named, each at most 4,096 long.
 use Prim.Native.Nat.{ℕ, _*_, _≤_, _<_}
-use mathlib.Core.Path.{_≡_, refl, ap, _∙_}
+use mathlib.Core.Path.{_≡_, ap, _∙_}
 use mathlib.Core.List.{List, [], _∷_, _++_}
 use mathlib.Core.Bool.{true}
 use native.Mathlib.Omega.{arith}
@@ -10,22 +10,22 @@ use lib.ListN.{length, getD}
 use borrow.Author.Tests.{eqb-true, eq-eqb, leb-true}
 use Rattle.numbers.specs.Pick.{both}
 use Rattle.numbers.proofs.BoolLaws.{both-left, both-right, both-true}
-use Rattle.slots.specs.Lists.{incoming, inItems}
-use Rattle.runs.specs.Runs.{without}
-use Rattle.runs.specs.Free.{exist, once}
-use Rattle.slots.specs.declared.incoming.InList.{InList}
-use Rattle.slots.proofs.Keeps.{one, times, once-less, exist-less, exist-below}
-use Rattle.slots.proofs.Views.{in-items-keep}
-use Rattle.runs.proofs.Lowest.{free-and-named}
-use Rattle.parts.specs.Sizes.{cell}
-use Rattle.parts.specs.Fresh.{noIncoming}
-use Rattle.parts.specs.Damage.{below, all, held, inFit, own, lengths, inSound, usedIn}
-use Rattle.parts.specs.Updates.{inShorter}
-use Rattle.parts.specs.declared.groups.Lists.{Lists}
-use Rattle.parts.specs.declared.groups.Channel.{Channel}
-use Rattle.parts.specs.declared.groups.Incoming.{Incoming}
+use Rattle.record.specs.Lists.{incoming, inItems}
+use Rattle.cells.specs.Runs.{without}
+use Rattle.cells.specs.Free.{exist, once}
+use Rattle.record.specs.declared.incoming.InList.{InList}
+use Rattle.record.proofs.Keeps.{times, once-less, exist-less}
+use Rattle.record.proofs.Views.{in-items-keep}
+use Rattle.cells.proofs.Lowest.{free-and-named}
+use Rattle.record.specs.Sizes.{cell}
+use Rattle.record.specs.Fresh.{noIncoming}
+use Rattle.record.specs.Damage.{below, all, held, inFit, own, lengths, inSound, usedIn}
+use Rattle.record.specs.Updates.{inShorter}
+use Rattle.record.specs.declared.groups.Lists.{Lists}
+use Rattle.record.specs.declared.groups.Channel.{Channel}
+use Rattle.record.specs.declared.groups.Incoming.{Incoming}
 use Rattle.peer.specs.Damage.{sound}
-use Rattle.peer.specs.declared.record.Peer.{Peer}
+use Rattle.peer.specs.declared.Peer.{Peer}
 use Rattle.peer.proofs.Clauses.{sound-clauses, all-at, at-all}
 
 -- a list without its head
@@ -85,9 +85,9 @@ module _ (slots : List Incoming) (l : Lists) (cs : List Channel) (count sum : �
 
 -- of a sound record
 pub incoming-clauses : (p : Peer) → sound p ≡ true
-    → InClauses (p .incoming) (p .lists) (below (p .channels) (p .standing .count)) (p .standing .count) (p .waiting .total)
+    → InClauses (p .incoming) (p .lists) (below (p .channels) (p .standing .channels)) (p .standing .channels) (p .waiting .total)
 incoming-clauses p h =
-    in-clauses (p .incoming) (p .lists) (below (p .channels) (p .standing .count)) (p .standing .count) (p .waiting .total)
+    in-clauses (p .incoming) (p .lists) (below (p .channels) (p .standing .channels)) (p .standing .channels) (p .waiting .total)
     (sound-clauses p h .arrived)
 
 module _ (slots : List Incoming) (l : Lists) (cs : List Channel) (count sum : ℕ) (w : InClauses slots l cs count sum) where
@@ -111,9 +111,3 @@ module _ (slots : List Incoming) (l : Lists) (cs : List Channel) (count sum : �
         own = w .own;
         total = e;
       }
-
-  pub head-exists : (s : ℕ) (rest : List ℕ) → inItems (l .dispatched) ≡ s ∷ rest → s < incoming
-  head-exists s rest e =
-      let named = ap (λ (xs : List ℕ). times xs s) (used-from l cs (s ∷ rest) e) in
-      let once : one s s ≡ 1 = rw (eq-eqb s s refl) in
-      exist-below incoming used (w .exists) s (omega (arith, named, once))

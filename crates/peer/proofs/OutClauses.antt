@@ -10,15 +10,15 @@ use Rattle.numbers.specs.Pick.{pick, both}
 use Rattle.numbers.proofs.BoolLaws.{both-left, both-right, both-true}
 use Rattle.command.specs.Rows.{namesFields}
 use Rattle.command.specs.declared.fields.Command.{Command}
-use Rattle.slots.specs.Lists.{outgoing, incoming, outItems}
-use Rattle.slots.specs.declared.outgoing.OutList.{OutList}
-use Rattle.slots.proofs.Keeps.{times, once-less, exist-less}
-use Rattle.parts.specs.Sizes.{itself}
-use Rattle.parts.specs.Fresh.{noOutgoing}
-use Rattle.parts.specs.Damage.{listsFit, outFit, tried, usedOut}
-use Rattle.parts.specs.declared.groups.Lists.{Lists}
+use Rattle.record.specs.Lists.{outgoing, incoming, outItems}
+use Rattle.record.specs.declared.outgoing.OutList.{OutList}
+use Rattle.record.proofs.Keeps.{times, once-less, exist-less}
+use Rattle.record.specs.Sizes.{itself}
+use Rattle.record.specs.Fresh.{noOutgoing}
+use Rattle.record.specs.Damage.{listsFit, outFit, tried, usedOut}
+use Rattle.record.specs.declared.groups.Lists.{Lists}
 use Rattle.peer.specs.Damage.{sound}
-use Rattle.peer.specs.declared.record.Peer.{Peer}
+use Rattle.peer.specs.declared.Peer.{Peer}
 use Rattle.peer.proofs.Clauses.{Clauses, clauses-sound, all-at, at-all}
 
 -- other lists of the outgoing pool, that fit it where those did
@@ -26,11 +26,11 @@ module _ (l : Lists) (x y z : OutList) where
   abbrev fit : OutList → Bool
   fit a = leb (a .len) outgoing
 
-  pub others-fit : (fit (l .sent) ≡ true → fit x ≡ true) → (fit (l .reliable) ≡ true → fit y ≡ true) → (fit (l .outgoing) ≡ true → fit z ≡ true)
-      → listsFit l ≡ true → listsFit (record { sent = x; reliable = y; outgoing = z; dispatched = l .dispatched }) ≡ true
+  pub others-fit : (fit (l .sent) ≡ true → fit x ≡ true) → (fit (l .«send_reliable») ≡ true → fit y ≡ true) → (fit (l .outgoing) ≡ true → fit z ≡ true)
+      → listsFit l ≡ true → listsFit (record { sent = x; «send_reliable» = y; outgoing = z; dispatched = l .dispatched }) ≡ true
   others-fit f g h e =
       let a = fit (l .sent) in
-      let b = fit (l .reliable) in
+      let b = fit (l .«send_reliable») in
       let c = fit (l .outgoing) in
       let d = leb (l .dispatched .len) incoming in
       let u = both-right a (both b (both c d)) e in
@@ -66,11 +66,11 @@ module _ (p q : Peer) where
           exists = exist-less (usedOut (p .lists)) (usedOut (q .lists)) named outgoing (w .exists);
           single = once-less (usedOut (p .lists)) (usedOut (q .lists)) named (w .single);
           fit =
-              at-all (outFit (q .outgoing) (q .standing .count)) (usedOut (q .lists))
+              at-all (outFit (q .outgoing) (q .standing .channels)) (usedOut (q .lists))
               (λ k h.
               rw (a .standing)
-              (same-fit (p .standing .count) k
-              ∙ all-at (outFit (p .outgoing) (p .standing .count)) (usedOut (p .lists)) (w .fit) k (omega (arith, named k, h))));
+              (same-fit (p .standing .channels) k
+              ∙ all-at (outFit (p .outgoing) (p .standing .channels)) (usedOut (p .lists)) (w .fit) k (omega (arith, named k, h))));
           sent = at-all (tried (q .outgoing)) (outItems (q .lists .sent)) tries;
           arrived = rw (a .incoming, a .dispatched, a .channels, a .standing, a .total) (w .arrived);
         })

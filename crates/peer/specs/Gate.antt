@@ -3,12 +3,12 @@ use mathlib.Core.Bool.{Bool}
 use lib.Dec.{eqb}
 use Rattle.numbers.specs.Pick.{pick, both}
 use Rattle.numbers.specs.declared.refusals.Refusal.the-variants.{OutOfRange, Damaged}
-use Rattle.parts.specs.Sizes.{storeLength}
+use Rattle.record.specs.Sizes.{storeLength}
 use Rattle.peer.specs.Settings.{fitSettings}
 use Rattle.peer.specs.Damage.{sound}
 use Rattle.peer.specs.Outcome.{Outcome, unchanged}
 use Rattle.peer.specs.declared.settings.Settings.{Settings}
-use Rattle.peer.specs.declared.record.Peer.{Peer}
+use Rattle.peer.specs.declared.Peer.{Peer}
 use Rattle.peer.specs.declared.gate.Lent.{Lent}
 use Rattle.peer.specs.declared.gate.Lent.the-variants.{Nothing, Store}
 use Rattle.peer.specs.declared.gate.Gate.{Gate}

@@ -4,7 +4,7 @@ use mathlib.Core.Path.{_≡_}
 use mathlib.Core.List.{List, []}
 use Rattle.numbers.specs.Answers.{Answer, done, refused}
 use Rattle.numbers.specs.declared.refusals.Refusal.{Refusal}
-use Rattle.peer.specs.declared.record.Peer.{Peer}
+use Rattle.peer.specs.declared.Peer.{Peer}
 
 -- the record, and the bytes of the store that was lent
 pub record State : Type 0 where

@@ -2,11 +2,11 @@
 use mathlib.Core.Path.{_≡_}
 use mathlib.Core.Bool.{true}
 use lib.ListN.{length}
-use Rattle.slots.specs.Lists as pools
-use Rattle.parts.specs.Sizes as sizes
+use Rattle.record.specs.Lists as pools
+use Rattle.record.specs.Sizes as sizes
 use Rattle.peer.specs.Damage.{sound}
 use Rattle.peer.specs.Outcome.{Outcome}
-use Rattle.peer.specs.declared.record.Peer.{Peer}
+use Rattle.peer.specs.declared.Peer.{Peer}
 
 -- channels and pools have their length, as in every record of the program: an array is a list here, and a list may be short
 pub record Whole (p : Peer) : Type 0 where

@@ -2,7 +2,7 @@
 use Prim.Native.Nat.{ℕ}
 use mathlib.Core.Bool.{Bool}
 use lib.Dec.{eqb}
-use Rattle.parts.specs.declared.groups.Standing.{Standing}
+use Rattle.record.specs.declared.groups.Standing.{Standing}
 
 abbrev pub disconnected : ℕ
 disconnected = 0

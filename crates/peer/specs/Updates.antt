@@ -1,22 +1,22 @@
 -- The record with another group: what a call does not name stays as it is. A group that joins the record is added in `rebuilt`.
 use mathlib.Core.List.{List}
-use Rattle.parts.specs.declared.groups.Standing.{Standing}
-use Rattle.parts.specs.declared.groups.Totals.{Totals}
-use Rattle.parts.specs.declared.groups.Times.{Times}
-use Rattle.parts.specs.declared.groups.Loss.{Loss}
-use Rattle.parts.specs.declared.groups.Throttling.{Throttling}
-use Rattle.parts.specs.declared.groups.Trips.{Trips}
-use Rattle.parts.specs.declared.groups.Flow.{Flow}
-use Rattle.parts.specs.declared.groups.Lists.{Lists}
-use Rattle.parts.specs.declared.groups.Groups.{Groups}
-use Rattle.parts.specs.declared.groups.Waiting.{Waiting}
-use Rattle.parts.specs.declared.groups.Channel.{Channel}
-use Rattle.parts.specs.declared.groups.Outgoing.{Outgoing}
-use Rattle.parts.specs.declared.groups.Incoming.{Incoming}
-use Rattle.peer.specs.declared.record.Peer.{Peer}
+use Rattle.record.specs.declared.groups.Standing.{Standing}
+use Rattle.record.specs.declared.groups.Totals.{Totals}
+use Rattle.record.specs.declared.groups.Times.{Times}
+use Rattle.record.specs.declared.groups.Loss.{Loss}
+use Rattle.record.specs.declared.groups.Throttling.{Throttling}
+use Rattle.record.specs.declared.groups.Trips.{Trips}
+use Rattle.record.specs.declared.groups.Flow.{Flow}
+use Rattle.record.specs.declared.groups.Lists.{Lists}
+use Rattle.record.specs.declared.groups.Unsequenced.{Unsequenced}
+use Rattle.record.specs.declared.groups.Waiting.{Waiting}
+use Rattle.record.specs.declared.groups.Channel.{Channel}
+use Rattle.record.specs.declared.groups.Outgoing.{Outgoing}
+use Rattle.record.specs.declared.groups.Incoming.{Incoming}
+use Rattle.peer.specs.declared.Peer.{Peer}
 
 -- all the groups that a call may change
-abbrev pub rebuilt : Peer → Standing → Totals → Times → Loss → Throttling → Trips → Flow → Lists → Groups → Waiting → List Channel → List Outgoing → List Incoming → Peer
+abbrev pub rebuilt : Peer → Standing → Totals → Times → Loss → Throttling → Trips → Flow → Lists → Unsequenced → Waiting → List Channel → List Outgoing → List Incoming → Peer
 rebuilt p standing totals times loss throttling trips flow lists groups waiting channels outgoing incoming =
     record {
       ids = p .ids;
@@ -38,12 +38,12 @@ rebuilt p standing totals times loss throttling trips flow lists groups waiting 
     }
 
 -- all but those that only acknowledgement and throttle change
-abbrev pub remade : Peer → Standing → Totals → Times → Loss → Flow → Lists → Groups → Waiting → List Channel → List Outgoing → List Incoming → Peer
+abbrev pub remade : Peer → Standing → Totals → Times → Loss → Flow → Lists → Unsequenced → Waiting → List Channel → List Outgoing → List Incoming → Peer
 remade p standing totals times loss flow lists groups waiting channels outgoing incoming =
     rebuilt p standing totals times loss (p .throttling) (p .trips) flow lists groups waiting channels outgoing incoming
 
 -- all but the incoming slots
-abbrev pub renewed : Peer → Standing → Totals → Times → Loss → Flow → Lists → Groups → Waiting → List Channel → List Outgoing → Peer
+abbrev pub renewed : Peer → Standing → Totals → Times → Loss → Flow → Lists → Unsequenced → Waiting → List Channel → List Outgoing → Peer
 renewed p standing totals times loss flow lists groups waiting channels outgoing =
     remade p standing totals times loss flow lists groups waiting channels outgoing (p .incoming)
 
@@ -66,7 +66,7 @@ withFlow p x = renewed p (p .standing) (p .totals) (p .times) (p .loss) x (p .li
 abbrev pub withLists : Peer → Lists → Peer
 withLists p x = renewed p (p .standing) (p .totals) (p .times) (p .loss) (p .flow) x (p .groups) (p .waiting) (p .channels) (p .outgoing)
 
-abbrev pub withGroups : Peer → Groups → Peer
+abbrev pub withGroups : Peer → Unsequenced → Peer
 withGroups p x = renewed p (p .standing) (p .totals) (p .times) (p .loss) (p .flow) (p .lists) x (p .waiting) (p .channels) (p .outgoing)
 
 abbrev pub withWaiting : Peer → Waiting → Peer
@@ -79,7 +79,7 @@ abbrev pub withOutgoing : Peer → List Outgoing → Peer
 withOutgoing p x = renewed p (p .standing) (p .totals) (p .times) (p .loss) (p .flow) (p .lists) (p .groups) (p .waiting) (p .channels) x
 
 -- the groups that an arrival may change
-abbrev pub withArrival : Peer → Lists → Groups → Waiting → List Channel → List Incoming → Peer
+abbrev pub withArrival : Peer → Lists → Unsequenced → Waiting → List Channel → List Incoming → Peer
 withArrival p lists groups waiting channels incoming =
     remade p (p .standing) (p .totals) (p .times) (p .loss) (p .flow) lists groups waiting channels (p .outgoing) incoming
 

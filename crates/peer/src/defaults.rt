@@ -2,34 +2,34 @@
 ghost use mathlib.Core.Path.{_≡_};
 ghost use mathlib.Core.List.{[], _∷_};
 ghost use Rattle.peer.specs.Fresh.{freshPeer};
-use crate::record::Peer;
+use crate::Peer;
 use command::fields::Command;
 use command::fields::Fields;
 use numbers::consts;
 use numbers::counters::Group;
 use numbers::counters::Reliable;
 use numbers::counters::Unreliable;
-use parts::groups::Bandwidth;
-use parts::groups::CHANNELS;
-use parts::groups::Channel;
-use parts::groups::Flow;
-use parts::groups::Groups;
-use parts::groups::Ids;
-use parts::groups::Incoming;
-use parts::groups::Limits;
-use parts::groups::Lists;
-use parts::groups::Loss;
-use parts::groups::Outgoing;
-use parts::groups::Standing;
-use parts::groups::Throttling;
-use parts::groups::Times;
-use parts::groups::Totals;
-use parts::groups::Trips;
-use parts::groups::Waiting;
-use slots::INCOMING;
-use slots::OUTGOING;
-use slots::incoming::InList;
-use slots::outgoing::OutList;
+use record::INCOMING;
+use record::OUTGOING;
+use record::groups::Bandwidth;
+use record::groups::CHANNELS;
+use record::groups::Channel;
+use record::groups::Flow;
+use record::groups::Ids;
+use record::groups::Incoming;
+use record::groups::Limits;
+use record::groups::Lists;
+use record::groups::Loss;
+use record::groups::Outgoing;
+use record::groups::Standing;
+use record::groups::Throttling;
+use record::groups::Times;
+use record::groups::Totals;
+use record::groups::Trips;
+use record::groups::Unsequenced;
+use record::groups::Waiting;
+use record::incoming::InList;
+use record::outgoing::OutList;
 
 // What a reset keeps of the record.
 pub struct Kept {
@@ -86,7 +86,7 @@ impl Peer {
 
     pub const STANDING: Standing = Standing {
         state: Peer::DISCONNECTED,
-        count: 0,
+        channels: 0,
     };
 
     pub const BANDWIDTH: Bandwidth = Bandwidth {
@@ -138,7 +138,7 @@ impl Peer {
         lowest: consts::PEER_DEFAULT_ROUND_TRIP_TIME,
         last_variance: 0,
         highest_variance: 0,
-        now: consts::PEER_DEFAULT_ROUND_TRIP_TIME,
+        mean: consts::PEER_DEFAULT_ROUND_TRIP_TIME,
         variance: 0,
     };
 
@@ -163,15 +163,15 @@ impl Peer {
             mtu: 0,
             window: Peer::WINDOW,
             transit: 0,
-            reliable: Reliable(0),
+            own_number: Reliable(0),
         },
         lists: Lists {
             sent: NO_OUT,
-            reliable: NO_OUT,
+            send_reliable: NO_OUT,
             outgoing: NO_OUT,
             dispatched: NO_IN,
         },
-        groups: Groups {
+        groups: Unsequenced {
             flags: 0,
             reserved: 0,
             incoming: Group(0),

@@ -9,9 +9,9 @@ use lib.Seq.{paste, sets-eq, take-all, length-paste}
 use Rattle.numbers.specs.declared.counters.Reliable.{Reliable}
 use Rattle.numbers.specs.declared.counters.Unreliable.{Unreliable}
 use Rattle.lists.specs.Rows.{section}
-use Rattle.parts.specs.Fresh.{noChannel}
-use Rattle.parts.specs.Updates.{withNumbers, withLast, withHeld}
-use Rattle.parts.specs.declared.groups.Channel.{Channel}
+use Rattle.record.specs.Fresh.{noChannel}
+use Rattle.record.specs.Updates.{withNumbers, withLast, withHeld}
+use Rattle.record.specs.declared.groups.Channel.{Channel}
 use Rattle.peer.specs.Updates.{withChannels}
 use Rattle.pool.proofs.Copies.{paste-over}
 use Rattle.pool.proofs.Rows.{rows-at, rows-paste}

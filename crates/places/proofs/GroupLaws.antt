@@ -1,35 +1,33 @@
 -- Each group of the record: what its numbers are, and the record after they were written.
 -- The argument: the parts computed; a write is `numbers-put`, a line a group.
 use Prim.Native.Nat.{ℕ, _+_, _%_, _<_, _≤_}
-use mathlib.Core.Path.{_≡_, refl, ap, sym, _∙_}
+use mathlib.Core.Path.{_≡_, refl, _∙_}
 use mathlib.Core.List.{List, [], _∷_}
 use native.Mathlib.Omega.{arith}
 use lib.ListN.{length, getD}
-use lib.Seq.{sets, paste}
+use lib.Seq.{sets}
 use Rattle.numbers.specs.declared.counters.Group.{Group}
 use Rattle.lists.specs.Rows.{section}
-use Rattle.parts.specs.declared.groups.Flow.{Flow}
-use Rattle.parts.specs.declared.groups.Groups.{Groups}
-use Rattle.parts.specs.declared.groups.Limits.{Limits}
-use Rattle.parts.specs.declared.groups.Loss.{Loss}
-use Rattle.parts.specs.declared.groups.Standing.{Standing}
-use Rattle.parts.specs.declared.groups.Throttling.{Throttling}
-use Rattle.parts.specs.declared.groups.Times.{Times}
-use Rattle.parts.specs.declared.groups.Totals.{Totals}
-use Rattle.parts.specs.declared.groups.Trips.{Trips}
-use Rattle.parts.specs.declared.groups.Waiting.{Waiting}
-use Rattle.parts.specs.Updates.{withFlags, withOutgoingGroup}
+use Rattle.record.specs.declared.groups.Flow.{Flow}
+use Rattle.record.specs.declared.groups.Loss.{Loss}
+use Rattle.record.specs.declared.groups.Standing.{Standing}
+use Rattle.record.specs.declared.groups.Throttling.{Throttling}
+use Rattle.record.specs.declared.groups.Times.{Times}
+use Rattle.record.specs.declared.groups.Totals.{Totals}
+use Rattle.record.specs.declared.groups.Trips.{Trips}
+use Rattle.record.specs.declared.groups.Waiting.{Waiting}
+use Rattle.record.specs.Updates.{withFlags, withOutgoingGroup}
 use Rattle.peer.specs.Updates.{withStanding, withTotals, withTimes, withLoss, withThrottling, withFlow, withGroups, withWaiting}
 use Rattle.places.specs.Whole.{sizes, numbers, parts, made, whole}
 use Rattle.places.specs.Updates.{withTrips}
-use Rattle.places.proofs.Written.{place, numbers-put, row-put}
+use Rattle.places.proofs.Written.{place, numbers-put}
 
 -- a number that fits is read as it is
 pub low : (x y : ℕ) → x ≡ y → y < 65536 → x % 65536 ≡ y
 low x y e h = omega arith
 
 module _ (ws : List ℕ) where
-  pub standing-is : whole ws .standing ≡ record { state = getD ws 5 0; count = getD ws 6 0 }
+  pub standing-is : whole ws .standing ≡ record { state = getD ws 5 0; channels = getD ws 6 0 }
   unfolding made parts numbers sizes
   standing-is = refl
 
@@ -53,7 +51,7 @@ module _ (ws : List ℕ) where
   unfolding made parts numbers sizes
   limits-is = refl
 
-  pub trips-is : whole ws .trips ≡ record { last = getD ws 33 0; lowest = getD ws 34 0; «last_variance» = getD ws 35 0; «highest_variance» = getD ws 36 0; now = getD ws 37 0; variance = getD ws 38 0 }
+  pub trips-is : whole ws .trips ≡ record { last = getD ws 33 0; lowest = getD ws 34 0; «last_variance» = getD ws 35 0; «highest_variance» = getD ws 36 0; mean = getD ws 37 0; variance = getD ws 38 0 }
   unfolding made parts numbers sizes
   trips-is = refl
 
@@ -61,7 +59,7 @@ module _ (ws : List ℕ) where
   unfolding made parts numbers sizes
   waiting-is = refl
 
-  pub flow-is : (r : ℕ) → r ≡ getD ws 42 0 % 65536 → whole ws .flow ≡ record { mtu = getD ws 39 0; window = getD ws 40 0; transit = getD ws 41 0; reliable = record { 0 = r } }
+  pub flow-is : (r : ℕ) → r ≡ getD ws 42 0 % 65536 → whole ws .flow ≡ record { mtu = getD ws 39 0; window = getD ws 40 0; transit = getD ws 41 0; «own_number» = record { 0 = r } }
   unfolding made parts numbers sizes
   flow-is r e = rw e
 
@@ -79,9 +77,9 @@ module _ (ws : List ℕ) where
   groups-is f v i o w ef ev ei eo ew = rw (ef, ev, ei, eo, ew)
 
   module _ (l : length ws ≡ 1234) where
-    pub put-standing : (x : Standing) → whole (sets ws 5 (x .state ∷ x .count ∷ [])) ≡ withStanding (whole ws) x
+    pub put-standing : (x : Standing) → whole (sets ws 5 (x .state ∷ x .channels ∷ [])) ≡ withStanding (whole ws) x
     unfolding made parts numbers sizes place
-    put-standing x = numbers-put ws 0 43 5 5 (x .state ∷ x .count ∷ []) l (omega arith) refl refl (omega arith) (omega arith)
+    put-standing x = numbers-put ws 0 43 5 5 (x .state ∷ x .channels ∷ []) l (omega arith) refl refl (omega arith) (omega arith)
 
     pub put-totals : (x : Totals) → whole (sets ws 11 (x .incoming ∷ x .outgoing ∷ [])) ≡ withTotals (whole ws) x
     unfolding made parts numbers sizes place
@@ -99,17 +97,17 @@ module _ (ws : List ℕ) where
     unfolding made parts numbers sizes place
     put-throttling x = numbers-put ws 0 43 22 22 (x .value ∷ x .limit ∷ x .counter ∷ x .epoch ∷ x .acceleration ∷ x .deceleration ∷ x .interval ∷ []) l (omega arith) refl refl (omega arith) (omega arith)
 
-    pub put-trips : (x : Trips) → whole (sets ws 33 (x .last ∷ x .lowest ∷ x .«last_variance» ∷ x .«highest_variance» ∷ x .now ∷ x .variance ∷ [])) ≡ withTrips (whole ws) x
+    pub put-trips : (x : Trips) → whole (sets ws 33 (x .last ∷ x .lowest ∷ x .«last_variance» ∷ x .«highest_variance» ∷ x .mean ∷ x .variance ∷ [])) ≡ withTrips (whole ws) x
     unfolding made parts numbers sizes place
-    put-trips x = numbers-put ws 0 43 33 33 (x .last ∷ x .lowest ∷ x .«last_variance» ∷ x .«highest_variance» ∷ x .now ∷ x .variance ∷ []) l (omega arith) refl refl (omega arith) (omega arith)
+    put-trips x = numbers-put ws 0 43 33 33 (x .last ∷ x .lowest ∷ x .«last_variance» ∷ x .«highest_variance» ∷ x .mean ∷ x .variance ∷ []) l (omega arith) refl refl (omega arith) (omega arith)
 
     pub put-waiting : (x : Waiting) → whole (sets ws 191 (x .event ∷ x .total ∷ x .queued ∷ [])) ≡ withWaiting (whole ws) x
     unfolding made parts numbers sizes place
     put-waiting x = numbers-put ws 7 3 0 191 (x .event ∷ x .total ∷ x .queued ∷ []) l (omega arith) refl refl (omega arith) (omega arith)
 
-    pub put-flow : (x : Flow) (r : ℕ) → r ≡ x .reliable .0 → x .reliable .0 < 65536 → whole (sets ws 39 (x .mtu ∷ x .window ∷ x .transit ∷ r ∷ [])) ≡ withFlow (whole ws) x
+    pub put-flow : (x : Flow) (r : ℕ) → r ≡ x .«own_number» .0 → x .«own_number» .0 < 65536 → whole (sets ws 39 (x .mtu ∷ x .window ∷ x .transit ∷ r ∷ [])) ≡ withFlow (whole ws) x
     unfolding made parts numbers sizes place
-    put-flow x r e h = numbers-put ws 0 43 39 39 (x .mtu ∷ x .window ∷ x .transit ∷ r ∷ []) l (omega arith) refl refl (omega arith) (omega arith) ∙ rw (low r (x .reliable .0) e h)
+    put-flow x r e h = numbers-put ws 0 43 39 39 (x .mtu ∷ x .window ∷ x .transit ∷ r ∷ []) l (omega arith) refl refl (omega arith) (omega arith) ∙ rw (low r (x .«own_number» .0) e h)
 
     pub put-flags : (x r : ℕ) → r ≡ x → x < 65536 → whole (sets ws 155 (r ∷ [])) ≡ withGroups (whole ws) (withFlags (whole ws .groups) x)
     unfolding made parts numbers sizes place

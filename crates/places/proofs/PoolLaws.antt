@@ -8,8 +8,8 @@ use lib.ListN.{length}
 use lib.Seq.{paste}
 use borrow.Rule.Slice.PartMut.{putMid}
 use Rattle.lists.specs.Rows.{section}
-use Rattle.parts.specs.declared.groups.Outgoing.{Outgoing}
-use Rattle.parts.specs.declared.groups.Incoming.{Incoming}
+use Rattle.record.specs.declared.groups.Outgoing.{Outgoing}
+use Rattle.record.specs.declared.groups.Incoming.{Incoming}
 use Rattle.pool.specs.Slots.{slotsOf, inSlotsOf}
 use Rattle.peer.specs.Updates.{withOutgoing}
 use Rattle.places.specs.Whole.{sizes, numbers, parts, made, whole}

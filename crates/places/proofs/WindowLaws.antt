@@ -6,11 +6,11 @@ use mathlib.Core.List.{List, [], _∷_}
 use native.Mathlib.Omega.{arith}
 use lib.ListN.{length, drop, replicate}
 use lib.Seq.{paste, sets}
-use Rattle.parts.specs.declared.groups.Groups.{Groups}
+use Rattle.record.specs.declared.groups.Unsequenced.{Unsequenced}
 use Rattle.lists.specs.Rows.{section}
-use Rattle.parts.specs.Updates.{withWindow}
+use Rattle.record.specs.Updates.{withWindow}
 use Rattle.peer.specs.Updates.{withGroups}
-use Rattle.peer.specs.declared.record.Peer.{Peer}
+use Rattle.peer.specs.declared.Peer.{Peer}
 use Rattle.pool.proofs.Copies.{paste-over}
 use Rattle.places.specs.Whole.{sizes, numbers, parts, made, whole}
 use Rattle.places.proofs.GroupLaws.{low}
@@ -25,7 +25,7 @@ module _ (ws : List ℕ) (l : length ws ≡ 1234) where
   unfolding made parts numbers sizes place
   put-words row m = row-put ws 6 159 32 row l (omega arith) refl refl (omega arith) m
 
-  module _ (x : Groups) (f v i o : ℕ) (ef : f ≡ x .flags) (hf : x .flags < 65536) (ev : v ≡ x .reserved) (hv : x .reserved < 65536) (ei : i ≡ x .incoming .0) (hi : x .incoming .0 < 65536) (eo : o ≡ x .outgoing .0) (ho : x .outgoing .0 < 65536) where
+  module _ (x : Unsequenced) (f v i o : ℕ) (ef : f ≡ x .flags) (hf : x .flags < 65536) (ev : v ≡ x .reserved) (hv : x .reserved < 65536) (ei : i ≡ x .incoming .0) (hi : x .incoming .0 < 65536) (eo : o ≡ x .outgoing .0) (ho : x .outgoing .0 < 65536) where
     put-four : whole (sets ws 155 (f ∷ v ∷ i ∷ o ∷ [])) ≡ withGroups (whole ws) (withWindow x (x .incoming) (whole ws .groups .words))
     unfolding made parts numbers sizes place
     put-four =

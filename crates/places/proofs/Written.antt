@@ -8,7 +8,6 @@ use native.Mathlib.Omega.{arith}
 use lib.ListN.{length, getD, set, take, drop, length-set}
 use lib.Seq.{paste, sets, getD-set-same, getD-set-other, set-set, set-getD, take-set-le, drop-set-lt, drop-set-add}
 use Rattle.lists.specs.Rows.{section}
-use Rattle.peer.specs.declared.record.Peer.{Peer}
 use Rattle.places.specs.Whole.{Size, each, row, extent, sizes, numbers, part, parts, made, whole}
 use Rattle.places.proofs.Sections.{section-same, section-before, section-after, number-before, number-after}
 

@@ -2,12 +2,12 @@
 use Prim.Native.Nat.{ℕ}
 use mathlib.Core.List.{List}
 use lib.ListN.{getD}
-use Rattle.parts.specs.Fresh.{noChannel}
-use Rattle.parts.specs.declared.groups.Trips.{Trips}
-use Rattle.parts.specs.declared.groups.Channel.{Channel}
-use Rattle.parts.specs.declared.groups.Incoming.{Incoming}
+use Rattle.record.specs.Fresh.{noChannel}
+use Rattle.record.specs.declared.groups.Trips.{Trips}
+use Rattle.record.specs.declared.groups.Channel.{Channel}
+use Rattle.record.specs.declared.groups.Incoming.{Incoming}
 use Rattle.peer.specs.Updates.{withHeard, withArrival}
-use Rattle.peer.specs.declared.record.Peer.{Peer}
+use Rattle.peer.specs.declared.Peer.{Peer}
 use Rattle.places.specs.declared.channels.Numbers.{Numbers}
 
 abbrev pub withTrips : Peer → Trips → Peer

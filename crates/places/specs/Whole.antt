@@ -3,13 +3,13 @@
 use Prim.Native.Nat.{ℕ, zero, suc, _+_, _%_}
 use mathlib.Core.List.{List, [], _∷_}
 use lib.ListN.{getD, drop}
-use Rattle.slots.specs.declared.outgoing.OutList.{OutList}
-use Rattle.slots.specs.declared.incoming.InList.{InList}
+use Rattle.record.specs.declared.outgoing.OutList.{OutList}
+use Rattle.record.specs.declared.incoming.InList.{InList}
 use Rattle.lists.specs.Rows.{section, lenOf, cellsOf}
-use Rattle.parts.specs.declared.groups.Channel.{Channel}
+use Rattle.record.specs.declared.groups.Channel.{Channel}
 use Rattle.pool.specs.Rows.{rowsFrom}
 use Rattle.pool.specs.Slots.{slotsOf, inSlotsOf}
-use Rattle.peer.specs.declared.record.Peer.{Peer}
+use Rattle.peer.specs.declared.Peer.{Peer}
 
 -- a part of the record: so many numbers one by one, or a row of so many
 pub data Size : Type 0 where
@@ -82,7 +82,7 @@ made s =
             «outgoing_session» = at s 0 3 % 256;
             «incoming_session» = at s 0 4 % 256;
           };
-      standing = record { state = at s 0 5; count = at s 0 6 };
+      standing = record { state = at s 0 5; channels = at s 0 6 };
       bandwidth = record { incoming = at s 0 7; outgoing = at s 0 8; «incoming_epoch» = at s 0 9; «outgoing_epoch» = at s 0 10 };
       totals = record { incoming = at s 0 11; outgoing = at s 0 12 };
       times = record { «last_send» = at s 0 13; «last_receive» = at s 0 14; «next_timeout» = at s 0 15; «earliest_timeout» = at s 0 16 };
@@ -104,14 +104,14 @@ made s =
             lowest = at s 0 34;
             «last_variance» = at s 0 35;
             «highest_variance» = at s 0 36;
-            now = at s 0 37;
+            mean = at s 0 37;
             variance = at s 0 38;
           };
-      flow = record { mtu = at s 0 39; window = at s 0 40; transit = at s 0 41; reliable = record { 0 = at s 0 42 % 65536 } };
+      flow = record { mtu = at s 0 39; window = at s 0 40; transit = at s 0 41; «own_number» = record { 0 = at s 0 42 % 65536 } };
       lists =
           record {
             sent = outListFrom (getD s 1 []);
-            reliable = outListFrom (getD s 2 []);
+            «send_reliable» = outListFrom (getD s 2 []);
             outgoing = outListFrom (getD s 3 []);
             dispatched = inListFrom (getD s 4 []);
           };

@@ -1,10 +1,9 @@
 // The four numbers of a channel, in their places.
 ghost use mathlib.Core.Path.{_≡_};
 ghost use Prim.Native.Nat.{_<_};
-ghost use lib.ListN.{length, getD, set};
-ghost use Rattle.parts.specs.Fresh.{noChannel};
-ghost use Rattle.parts.specs.Sizes.{channels};
-ghost use Rattle.parts.specs.Updates.{withNumbers, withLast};
+ghost use lib.ListN.{length, set};
+ghost use Rattle.record.specs.Sizes.{channels};
+ghost use Rattle.record.specs.Updates.{withNumbers, withLast};
 ghost use Rattle.peer.specs.Updates.{withChannels};
 ghost use Rattle.places.specs.Whole.{whole, recordLength};
 ghost use Rattle.places.specs.Updates.{channelAt, numbersOf};

@@ -2,21 +2,21 @@
 ghost use mathlib.Core.Path.{_≡_};
 ghost use Prim.Native.Nat.{_<_, _%_};
 ghost use lib.ListN.{length};
-ghost use Rattle.parts.specs.Updates.{withFlags, withOutgoingGroup};
+ghost use Rattle.record.specs.Updates.{withFlags, withOutgoingGroup};
 ghost use Rattle.peer.specs.Updates.{withStanding, withTotals, withTimes, withLoss, withThrottling, withFlow, withGroups, withWaiting};
 ghost use Rattle.places.specs.Whole.{whole, recordLength};
 ghost use Rattle.places.specs.Updates.{withTrips};
 use numbers::counters::Group;
 use numbers::counters::Reliable;
-use parts::groups::Flow;
-use parts::groups::Limits;
-use parts::groups::Loss;
-use parts::groups::Standing;
-use parts::groups::Throttling;
-use parts::groups::Times;
-use parts::groups::Totals;
-use parts::groups::Trips;
-use parts::groups::Waiting;
+use record::groups::Flow;
+use record::groups::Limits;
+use record::groups::Loss;
+use record::groups::Standing;
+use record::groups::Throttling;
+use record::groups::Times;
+use record::groups::Totals;
+use record::groups::Trips;
+use record::groups::Waiting;
 
 pub(crate) fn low16(x: u32) -> u16
     ensures { λ r. ⌜ r ≡ x % 65536 ⌝ }
@@ -37,7 +37,7 @@ pub fn standing(words: &[u32]) -> Standing
 {
     Standing {
         state: words[5],
-        count: words[6],
+        channels: words[6],
     }
 }
 
@@ -46,7 +46,7 @@ pub fn put_standing(words: &mut [u32], x: Standing)
     ensures { λ _. ⌜ whole (now (words .exit)) ≡ withStanding (whole (now (words .entry))) x ⌝ }
 {
     words[5] = x.state;
-    words[6] = x.count;
+    words[6] = x.channels;
 }
 
 pub fn totals(words: &[u32]) -> Totals
@@ -162,7 +162,7 @@ pub fn trips(words: &[u32]) -> Trips
         lowest: words[34],
         last_variance: words[35],
         highest_variance: words[36],
-        now: words[37],
+        mean: words[37],
         variance: words[38],
     }
 }
@@ -175,7 +175,7 @@ pub fn put_trips(words: &mut [u32], x: Trips)
     words[34] = x.lowest;
     words[35] = x.last_variance;
     words[36] = x.highest_variance;
-    words[37] = x.now;
+    words[37] = x.mean;
     words[38] = x.variance;
 }
 
@@ -208,7 +208,7 @@ pub fn flow(words: &[u32]) -> Flow
         mtu: words[39],
         window: words[40],
         transit: words[41],
-        reliable,
+        own_number: reliable,
     }
 }
 
@@ -216,7 +216,7 @@ pub fn put_flow(words: &mut [u32], x: Flow)
     requires { ⌜ length (now words) ≡ recordLength ⌝ }
     ensures { λ _. ⌜ whole (now (words .exit)) ≡ withFlow (whole (now (words .entry))) x ⌝ }
 {
-    let n = x.reliable;
+    let n = x.own_number;
     let own = wide16(n.0);
     words[39] = x.mtu;
     words[40] = x.window;

@@ -1,8 +1,8 @@
 // The slots of both pools, each in its place.
 ghost use mathlib.Core.Path.{_≡_};
 ghost use lib.ListN.{length, getD, set};
-ghost use Rattle.parts.specs.Fresh.{noOutgoing, noIncoming};
-ghost use Rattle.parts.specs.Updates.{withAttempt};
+ghost use Rattle.record.specs.Fresh.{noOutgoing, noIncoming};
+ghost use Rattle.record.specs.Updates.{withAttempt};
 ghost use Rattle.peer.specs.Updates.{withOutgoing};
 ghost use Rattle.pool.specs.Slots.{briefOf};
 ghost use Rattle.places.specs.Whole.{whole, recordLength};
@@ -10,9 +10,9 @@ ghost use Rattle.places.specs.Updates.{withIncoming};
 use crate::IN_POOL;
 use crate::POOL;
 use crate::RECORD;
-use parts::groups::Incoming;
-use parts::groups::Outgoing;
 use pool::Brief;
+use record::groups::Incoming;
+use record::groups::Outgoing;
 
 // Outgoing slot i; past the pool's end an empty one.
 pub fn outgoing_at(words: &[u32], i: usize) -> Outgoing

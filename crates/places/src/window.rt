@@ -1,7 +1,7 @@
 // The unsequenced window's words, with the flags and groups beside them.
 ghost use mathlib.Core.Path.{_≡_};
 ghost use lib.ListN.{length};
-ghost use Rattle.parts.specs.Updates.{withWindow};
+ghost use Rattle.record.specs.Updates.{withWindow};
 ghost use Rattle.peer.specs.Updates.{withGroups};
 ghost use Rattle.places.specs.Whole.{whole, recordLength};
 use crate::WORDS;
@@ -9,10 +9,10 @@ use crate::groups::low16;
 use crate::groups::wide16;
 use numbers::consts::UNSEQUENCED_WORDS;
 use numbers::counters::Group;
-use parts::groups::Groups;
+use record::groups::Unsequenced;
 
 // "The 32 words go in and come back as one array": the window's words with the flags and groups beside them.
-pub fn groups(words: &[u32]) -> Groups
+pub fn groups(words: &[u32]) -> Unsequenced
     requires { ⌜ length (now words) ≡ recordLength ⌝ }
     ensures { λ r. ⌜ r ≡ whole (now (words .entry)) .groups ⌝ }
 {
@@ -20,7 +20,7 @@ pub fn groups(words: &[u32]) -> Groups
     pool::copy(&mut window, 0, words, WORDS, UNSEQUENCED_WORDS);
     let incoming = Group(low16(words[157]));
     let outgoing = Group(low16(words[158]));
-    Groups {
+    Unsequenced {
         flags: low16(words[155]),
         reserved: low16(words[156]),
         incoming,
@@ -36,7 +36,7 @@ fn put_words(words: &mut [u32], window: [u32; UNSEQUENCED_WORDS])
     pool::copy(words, WORDS, &window, 0, UNSEQUENCED_WORDS);
 }
 
-pub fn put_groups(words: &mut [u32], x: Groups)
+pub fn put_groups(words: &mut [u32], x: Unsequenced)
     requires { ⌜ length (now words) ≡ recordLength ⌝ }
     ensures { λ _. ⌜ whole (now (words .exit)) ≡ withGroups (whole (now (words .entry))) x ⌝ }
 {

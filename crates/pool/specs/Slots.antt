@@ -6,14 +6,14 @@ use mathlib.Core.List.{List, [], _∷_, _++_}
 use lib.Dec.{leb, ltb, eqb}
 use lib.ListN.{getD, take, drop}
 use Rattle.numbers.specs.Pick.{pick, both}
-use Rattle.table.specs.Layout.{known}
-use Rattle.table.specs.Bytes.{pad}
+use Rattle.command.specs.Layout.{known}
+use Rattle.command.specs.Bytes.{pad}
 use Rattle.command.specs.Rows.{kindOf, rowOf}
-use Rattle.build.specs.Decoded.{decoded}
-use Rattle.slots.specs.Lists.{outgoing, incoming}
-use Rattle.parts.specs.Sizes.{itself}
-use Rattle.parts.specs.declared.groups.Outgoing.{Outgoing}
-use Rattle.parts.specs.declared.groups.Incoming.{Incoming}
+use Rattle.wire.specs.Decoded.{decoded}
+use Rattle.record.specs.Lists.{outgoing, incoming}
+use Rattle.record.specs.Sizes.{itself}
+use Rattle.record.specs.declared.groups.Outgoing.{Outgoing}
+use Rattle.record.specs.declared.groups.Incoming.{Incoming}
 use Rattle.pool.specs.declared.Brief.{Brief}
 use Rattle.pool.specs.Rows.{rowsFrom}
 

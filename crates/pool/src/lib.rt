@@ -2,23 +2,23 @@
 ghost use mathlib.Core.Path.{_≡_};
 ghost use mathlib.Core.List.{map};
 ghost use Prim.Native.Nat.{_+_, _*_, _%_, _≤_, _<_};
-ghost use lib.ListN.{length, take, drop, getD, set};
+ghost use lib.ListN.{length, drop, getD, set};
 ghost use lib.Seq.{paste};
-ghost use Rattle.slots.specs.Lists.{outgoing};
-ghost use Rattle.parts.specs.Fresh.{noOutgoing, noIncoming};
-ghost use Rattle.parts.specs.Updates.{withAttempt};
-ghost use Rattle.damage.specs.Walks.{worthOf};
+ghost use Rattle.record.specs.Lists.{outgoing};
+ghost use Rattle.record.specs.Fresh.{noOutgoing, noIncoming};
+ghost use Rattle.record.specs.Updates.{withAttempt};
+ghost use Rattle.damage.specs.CodeOutWalks.{slotGrade};
 ghost use Rattle.pool.specs.Slots.{width, poolLength, inPoolLength, flag, slotFrom, slotsOf, briefOf, inWidth, inSlotFrom, inSlotsOf, wordsOf, kindFrom, fitOf, gradeOf};
 use command::fields::Command;
 use command::fields::Fields;
 use command::rows;
 use numbers::counters::Reliable;
 use numbers::counters::Unreliable;
-use parts::groups::ITSELF;
-use parts::groups::Incoming;
-use parts::groups::Outgoing;
-use slots::INCOMING;
-use slots::OUTGOING;
+use record::INCOMING;
+use record::OUTGOING;
+use record::groups::ITSELF;
+use record::groups::Incoming;
+use record::groups::Outgoing;
 
 // The numbers of a slot, and of the pool.
 pub const WIDTH: usize = 26;
@@ -70,7 +70,7 @@ pub fn slot_from(part: [u32; WIDTH]) -> Outgoing
 {
     let mut row = [0u32; 16];
     copy(&mut row, 0, &part, 9, 16);
-    let command = build::decode(part[25], row);
+    let command = wire::build::decoded(part[25], row);
     let reliable = Reliable(low16(part[0]));
     let unreliable = Unreliable(low16(part[1]));
     let length = low16(part[6]);
@@ -98,7 +98,7 @@ fn words(slot: Outgoing) -> [u32; WIDTH]
     let c = slot.command;
     let row = rows::of(c);
     let f = c.fields;
-    let kind = rows::kind(f) as u32;
+    let kind = rows::kind_of(f) as u32;
     let r = slot.reliable;
     let u = slot.unreliable;
     let reliable = r.0 as u32;
@@ -137,7 +137,7 @@ fn words(slot: Outgoing) -> [u32; WIDTH]
     part
 }
 
-fn none() -> Outgoing
+fn no_outgoing() -> Outgoing
     ensures { λ r. ⌜ r ≡ noOutgoing ⌝ }
 {
     let zero = Reliable(0);
@@ -202,7 +202,7 @@ pub fn slot_at(pool: &[u32], i: usize) -> Outgoing
     ensures { λ r. ⌜ r ≡ getD (slotsOf (now (pool .entry))) i noOutgoing ⌝ }
 {
     if OUTGOING <= i {
-        return none();
+        return no_outgoing();
     }
     let mut part = [0u32; WIDTH];
     copy(&mut part, 0, pool, i * WIDTH, WIDTH);
@@ -279,7 +279,7 @@ pub fn put_attempt(pool: &mut [u32], i: usize, sent: u32, timeout: u32, attempts
 }
 
 // An incoming slot's numbers, each read modulo its width.
-fn in_from(part: &[u32]) -> Incoming
+fn in_slot_from(part: &[u32]) -> Incoming
     requires { ⌜ length (now part) ≡ inWidth ⌝ }
     ensures { λ r. ⌜ r ≡ inSlotFrom (now (part .entry)) ⌝ }
 {
@@ -304,7 +304,7 @@ pub fn in_slot_at(pool: &[u32], i: usize) -> Incoming
     }
     let at = i * IN_WIDTH;
     let end = at + IN_WIDTH;
-    in_from(&pool[at..end])
+    in_slot_from(&pool[at..end])
 }
 
 // Incoming slot i becomes this one; past the pool's end nothing changes.
@@ -344,7 +344,7 @@ fn kind_from(kind: u32) -> u32
 }
 
 // Whether a slot with this byte, channel and kind may stand in a list.
-fn is_fit(byte: u32, channel: u32, kind: u32, count: u32) -> bool
+fn fit_of(byte: u32, channel: u32, kind: u32, count: u32) -> bool
     ensures { λ r. ⌜ r ≡ fitOf byte channel kind count ⌝ }
 {
     if byte % 256 % 16 != kind_from(kind) {
@@ -358,10 +358,10 @@ fn is_fit(byte: u32, channel: u32, kind: u32, count: u32) -> bool
 }
 
 // What a slot with these numbers is good for: 0 nothing, 1 a list, 2 the sent list too.
-fn grade(byte: u32, channel: u32, kind: u32, attempts: u32, count: u32) -> u8
+fn grade_of(byte: u32, channel: u32, kind: u32, attempts: u32, count: u32) -> u8
     ensures { λ r. ⌜ r ≡ gradeOf byte channel kind attempts count ⌝ }
 {
-    if !is_fit(byte, channel, kind, count) {
+    if !fit_of(byte, channel, kind, count) {
         return 0;
     }
     if attempts % 65536 < 1 {
@@ -374,10 +374,10 @@ fn grade(byte: u32, channel: u32, kind: u32, attempts: u32, count: u32) -> u8
 pub fn grade_at(pool: &[u32], s: usize, count: u32) -> u8
     requires { ⌜ length (now pool) ≡ poolLength ⌝ }
     requires { ⌜ s < outgoing ⌝ }
-    ensures { λ r. ⌜ r ≡ getD (map (worthOf count) (slotsOf (now (pool .entry)))) s 0 ⌝ }
+    ensures { λ r. ⌜ r ≡ getD (map (slotGrade count) (slotsOf (now (pool .entry)))) s 0 ⌝ }
 {
     let at = s * WIDTH;
-    grade(
+    grade_of(
         pool[at + 9],
         pool[at + 10],
         pool[at + 25],

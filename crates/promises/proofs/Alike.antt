@@ -8,12 +8,12 @@ use mathlib.Core.List.{List}
 use lib.ListN.{getD}
 use Rattle.numbers.specs.Pick.{pick}
 use Rattle.numbers.specs.declared.refusals.Refusal.the-variants.{OutOfRange}
-use Rattle.slots.proofs.Keeps.{times}
-use Rattle.parts.specs.Fresh.{noIncoming}
-use Rattle.parts.specs.declared.groups.Ids.{Ids}
-use Rattle.parts.specs.declared.groups.Groups.{Groups}
-use Rattle.parts.specs.declared.groups.Waiting.{Waiting}
-use Rattle.parts.specs.declared.groups.Incoming.{Incoming}
+use Rattle.record.proofs.Keeps.{times}
+use Rattle.record.specs.Fresh.{noIncoming}
+use Rattle.record.specs.declared.groups.Ids.{Ids}
+use Rattle.record.specs.declared.groups.Unsequenced.{Unsequenced}
+use Rattle.record.specs.declared.groups.Waiting.{Waiting}
+use Rattle.record.specs.declared.groups.Incoming.{Incoming}
 use Rattle.peer.specs.Damage.{sound}
 use Rattle.peer.specs.Fresh.{freshPeer}
 use Rattle.peer.specs.Settings.{fitSettings}
@@ -21,17 +21,17 @@ use Rattle.peer.specs.Sounds.{Whole}
 use Rattle.peer.specs.Outcome.{Outcome, finished, unchanged}
 use Rattle.peer.specs.declared.settings.Settings.{Settings}
 use Rattle.peer.specs.declared.defaults.Kept.{Kept}
-use Rattle.peer.specs.declared.record.Peer.{Peer}
-use Rattle.same.specs.Same.{Same, view}
-use Rattle.same.proofs.Views.{same-sound}
-use Rattle.same.proofs.Laws.{Like, Within, same-like, same-within, like-same}
-use Rattle.opening.specs.Calls.{kept, resets}
-use Rattle.outward.specs.Steps.{goes}
-use Rattle.outward.specs.declared.calls.Call.{Call as Outward}
-use Rattle.outward.specs.declared.calls.Call.the-variants as out
-use Rattle.inward.specs.Steps.{beside, comes}
-use Rattle.inward.specs.declared.calls.Call.{Call as Inward}
-use Rattle.inward.specs.declared.calls.Call.the-variants as inw
+use Rattle.peer.specs.declared.Peer.{Peer}
+use Rattle.laws.specs.Same.{Same, view}
+use Rattle.laws.proofs.SameViews.{same-sound}
+use Rattle.laws.proofs.SameLaws.{Like, Within, same-like, same-within, like-same}
+use Rattle.lifecycle.specs.Calls.{kept, resets}
+use Rattle.link_out.specs.Steps.{callsOut}
+use Rattle.link_out.specs.declared.calls.Call.{Call as Outward}
+use Rattle.link_out.specs.declared.calls.Call.the-variants as out
+use Rattle.link_in.specs.Steps.{beside, callsIn}
+use Rattle.link_in.specs.declared.calls.Call.{Call as Inward}
+use Rattle.link_in.specs.declared.calls.Call.the-variants as inw
 use Rattle.link.specs.declared.calls.Call.the-variants as call
 use Rattle.promises.specs.Alike.{Alike, RespectsSame}
 use Rattle.promises.proofs.Presence.{Still}
@@ -47,7 +47,7 @@ still-within j k w s n =
     ∙ w s (subst (λ (xs : List ℕ). 0 < times xs s) (j .names) n)
     ∙ sym (ap (λ (is : List Incoming). getD is s noIncoming) (k .slots))
 
-abbrev keptOf : Ids → Groups → Waiting → Kept
+abbrev keptOf : Ids → Unsequenced → Waiting → Kept
 keptOf i g t =
     record {
       «incoming_peer» = i .«incoming_peer»;
@@ -91,7 +91,7 @@ module _ (s : Settings) (datagram store : List ℕ) (p q : Peer) (whole : Whole 
           (ap (λ (c : Kept). view (freshPeer (s .mtu) c)) (ap₃ keptOf (k .ids) (k .groups) (k .waiting)))
       go false = beside-alike (unchanged OutOfRange p) (unchanged OutOfRange q) refl e
 
-  outward-twin : (c : Outward) → Twin (goes s c p) (goes s c q)
+  outward-twin : (c : Outward) → Twin (callsOut s c p) (callsOut s c q)
   outward-twin out.Ping = ping-twin p q k alike whole whole′ s
   outward-twin (out.Send channel long flags) = send-twin p q k alike whole whole′ s channel long flags
   outward-twin (out.Setup x) = setup-twin p q k alike whole whole′ s x
@@ -101,11 +101,11 @@ module _ (s : Settings) (datagram store : List ℕ) (p q : Peer) (whole : Whole 
   outward-twin (out.Throttle sample) = throttle-twin p q k alike s sample
 
   landed-alike : (c : Inward)
-      → Landed (comes s c datagram (record { peer = p; store = store })) (comes s c datagram (record { peer = q; store = store }))
-      → Alike (comes s c datagram (record { peer = p; store = store })) (comes s c datagram (record { peer = q; store = store }))
+      → Landed (callsIn s c datagram (record { peer = p; store = store })) (callsIn s c datagram (record { peer = q; store = store }))
+      → Alike (callsIn s c datagram (record { peer = p; store = store })) (callsIn s c datagram (record { peer = q; store = store }))
   landed-alike c t = record { answer = t .answer; store = t .store; same = like-same _ _ (t .like) (t .within) }
 
-  inward-alike : (c : Inward) → Alike (comes s c datagram (record { peer = p; store = store })) (comes s c datagram (record { peer = q; store = store }))
+  inward-alike : (c : Inward) → Alike (callsIn s c datagram (record { peer = p; store = store })) (callsIn s c datagram (record { peer = q; store = store }))
   inward-alike (inw.UnsequencedArrival a group) =
       landed-alike (inw.UnsequencedArrival a group) (unsequenced-landed p q k w alike whole whole′ store s a group datagram)
   inward-alike (inw.ReliableArrival a) = landed-alike (inw.ReliableArrival a) (reliable-landed p q k w alike whole whole′ store s a datagram)
@@ -120,6 +120,6 @@ respects-same s (call.Begin mtu channels) datagram store p q whole whole′ e =
 respects-same s (call.SetState state) datagram store p q whole whole′ e =
     twin-alike s datagram store p q whole whole′ e _ _ (state-twin p q (same-like p q e) (same-sound p q e) s state) (state-still s state p) (state-still s state q)
 respects-same s (call.Outward c) datagram store p q whole whole′ e =
-    twin-alike s datagram store p q whole whole′ e (goes s c p) (goes s c q) (outward-twin s datagram store p q whole whole′ e c) (outward-still s c p)
+    twin-alike s datagram store p q whole whole′ e (callsOut s c p) (callsOut s c q) (outward-twin s datagram store p q whole whole′ e c) (outward-still s c p)
     (outward-still s c q)
 respects-same s (call.Inward c) datagram store p q whole whole′ e = inward-alike s datagram store p q whole whole′ e c

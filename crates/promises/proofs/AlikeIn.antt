@@ -12,56 +12,57 @@ use lib.Seq.{take-set-lt, getD-take}
 use Rattle.numbers.specs.Pick.{pick}
 use Rattle.numbers.specs.Answers.{Answer}
 use Rattle.numbers.specs.declared.counters.Group.{Group}
-use Rattle.slots.specs.Lists.{incoming, inItems}
-use Rattle.slots.proofs.Views.{in-items-keep}
-use Rattle.slots.proofs.Keeps.{one, times, times-append, pushed-adds, inserted-adds, without-takes, times-moved}
-use Rattle.runs.specs.Runs.{first, pushed, inserted, without, movedFrom, movedTo}
-use Rattle.runs.specs.Free.{lowest}
-use Rattle.runs.specs.declared.Free.the-variants.{Lowest}
-use Rattle.runs.proofs.Lowest.{lowest-exists}
-use Rattle.parts.specs.Fresh.{noOutgoing, noIncoming, noChannel}
-use Rattle.parts.specs.Damage.{below, held, usedOut, usedIn}
-use Rattle.parts.specs.declared.groups.Standing.{Standing}
-use Rattle.parts.specs.declared.groups.Waiting.{Waiting}
-use Rattle.parts.specs.declared.groups.Groups.{Groups}
-use Rattle.parts.specs.declared.groups.Lists.{Lists}
-use Rattle.parts.specs.declared.groups.Channel.{Channel}
-use Rattle.parts.specs.declared.groups.Incoming.{Incoming}
+use Rattle.record.specs.Lists.{incoming, inItems}
+use Rattle.record.proofs.Views.{in-items-keep}
+use Rattle.record.proofs.Keeps.{one, times, times-append, pushed-adds, inserted-adds, without-takes, times-moved}
+use Rattle.cells.specs.Runs.{first, pushed, inserted, without, movedFrom, movedTo}
+use Rattle.cells.specs.Free.{lowest}
+use Rattle.cells.specs.declared.Free.the-variants.{Lowest}
+use Rattle.cells.proofs.Lowest.{lowest-exists}
+use Rattle.record.specs.Flags.{flagged}
+use Rattle.record.specs.Fresh.{noOutgoing, noIncoming, noChannel}
+use Rattle.record.specs.Damage.{below, held, usedOut, usedIn}
+use Rattle.record.specs.declared.groups.Standing.{Standing}
+use Rattle.record.specs.declared.groups.Waiting.{Waiting}
+use Rattle.record.specs.declared.groups.Unsequenced.{Unsequenced}
+use Rattle.record.specs.declared.groups.Lists.{Lists}
+use Rattle.record.specs.declared.groups.Channel.{Channel}
+use Rattle.record.specs.declared.groups.Incoming.{Incoming}
 use Rattle.peer.specs.Damage.{sound}
 use Rattle.peer.specs.Sounds.{Whole}
 use Rattle.peer.specs.Outcome.{State, Outcome, finished}
 use Rattle.peer.specs.Gate.{fits, gateOf, behind, onRecord}
 use Rattle.peer.specs.Updates.{withGroups}
 use Rattle.peer.specs.declared.settings.Settings.{Settings}
-use Rattle.peer.specs.declared.record.Peer.{Peer}
+use Rattle.peer.specs.declared.Peer.{Peer}
 use Rattle.peer.specs.declared.gate.Lent.the-variants as lent
 use Rattle.peer.specs.declared.gate.Gate.{Gate}
 use Rattle.peer.specs.declared.gate.Gate.the-variants.{Open}
 use Rattle.peer.proofs.Gates.{sound-open}
 use Rattle.peer.proofs.Ranges.{count-high}
-use Rattle.same.specs.Same.{ListView, ChannelView}
-use Rattle.same.proofs.Laws.{Agree, agree-less, agree-new, named-first, Lined, lined-named, ranked-set, ranked-at, Like, named, Within}
-use Rattle.same.proofs.Laws.{inShape, channelShape, in-items, in-kept}
-use Rattle.same.proofs.Pairs.{behind-pair, ranked-by, rebuilt-like}
-use Rattle.storing.specs.Storing.{freeSlot, delivered, awaiting}
-use Rattle.dispatching.specs.Dispatching.{follows, numberAfter, readyCount, readyLast, flagged, movedOn, dispatchedBy}
-use Rattle.dispatching.specs.declared.Dispatched.{Dispatched}
-use Rattle.holding.specs.Holding.{ahead, holds, farthest, isPassed, nearer, heldWith}
+use Rattle.laws.specs.Same.{ListView, ChannelView}
+use Rattle.laws.proofs.SameLaws.{Agree, agree-less, agree-new, named-first, Lined, lined-named, ranked-set, ranked-at, Like, named, Within}
+use Rattle.laws.proofs.SameLaws.{inShape, channelShape, in-items, in-kept}
+use Rattle.laws.proofs.SamePairs.{behind-pair, ranked-by, rebuilt-like}
+use Rattle.arrival.specs.Storing.{freeSlot, delivered, awaiting}
+use Rattle.dispatch.specs.Dispatching.{follows, numberAfter, readyCount, readyLast, movedOn, dispatchedBy}
+use Rattle.dispatch.specs.Dispatching.{Dispatched}
+use Rattle.arrive_reliable.specs.Holding.{numberDistance, holds, farthest, isPassed, placeOf, heldWith}
 use Rattle.dispatch.specs.Calls.{dispatchGate, dispatchedOn, dispatchesSound, dispatches}
 use Rattle.dispatch.proofs.Sums.{held-set, held-within}
 use Rattle.dispatch.proofs.Sound.{below-count}
 use Rattle.receive.specs.Calls as receiving
-use Rattle.arriving.specs.Arrivals.{answerOf, arrivalGate, roomFor, roomOf, replyOf, arrivedSlot, storedAt}
-use Rattle.arriving.specs.Window.{judged}
-use Rattle.arriving.specs.declared.Arrival.{Arrival}
-use Rattle.arriving.specs.declared.Fate.{Fate}
-use Rattle.arriving.specs.declared.Fate.the-variants as fate
-use Rattle.arriving.specs.declared.Judged.{Judged}
-use Rattle.arriving.proofs.Admitted.{admitted}
-use Rattle.unsequenced.specs.Calls.{sendUnsequenced, unsequencedAfter, judgedOn, unsequencedSound, arrivesUnsequenced}
-use Rattle.reliable.specs.Calls.{sendReliable, channelOf, dispatchedWith, reliableAfter, fateOf, fateOn, reliableSound, arrivesReliable}
-use Rattle.arrived.proofs.Unsequenced.{stored-free}
-use Rattle.arrived.proofs.Reliable.{held-free}
+use Rattle.arrival.specs.Arrivals.{answerOf, arrivalGate, roomFor, roomOf, replyOf, arrivedSlot, storedAt}
+use Rattle.arrival.specs.Window.{judgeWindow}
+use Rattle.arrival.specs.declared.Arrival.{Arrival}
+use Rattle.arrival.specs.declared.Fate.{Fate}
+use Rattle.arrival.specs.declared.Fate.the-variants as fate
+use Rattle.arrival.specs.declared.Judged.{Judged}
+use Rattle.arrival.proofs.Admitted.{admitted}
+use Rattle.arrive_unsequenced.specs.Calls.{sendUnsequenced, unsequencedAfter, judgedOn, unsequencedSound, arrivesUnsequenced}
+use Rattle.arrive_reliable.specs.Calls.{sendReliable, channelOf, dispatchedWith, reliableAfter, fateOf, fateOn, reliableSound, arrivesReliable}
+use Rattle.laws.proofs.Unsequenced.{stored-free}
+use Rattle.laws.proofs.Reliable.{held-free}
 use Rattle.promises.proofs.AlikeOut.{ap₃}
 
 -- two results of a call on the record: one answer, and records that are alike, the incoming pool too
@@ -102,11 +103,11 @@ module _ (a b : List Incoming) where
   holds-agree (s ∷ ss) n h =
       ap₂ (λ (i : Incoming) (c : Bool). pick (eqb (i .number .0) n) true c) (h s (named-first s ss)) (holds-agree ss n (λ x k. h x (omega (arith, k))))
 
-  nearer-agree : (xs : List ℕ) (last d : ℕ) → Agree noIncoming xs a b → nearer a xs last d ≡ nearer b xs last d
-  unfolding nearer
+  nearer-agree : (xs : List ℕ) (last d : ℕ) → Agree noIncoming xs a b → placeOf a xs last d ≡ placeOf b xs last d
+  unfolding placeOf
   nearer-agree [] last d h = refl
   nearer-agree (s ∷ ss) last d h =
-      ap₂ (λ (i : Incoming) (k : ℕ). pick (ltb d (ahead last (i .number .0))) 0 (suc k)) (h s (named-first s ss))
+      ap₂ (λ (i : Incoming) (k : ℕ). pick (ltb d (numberDistance last (i .number .0))) 0 (suc k)) (h s (named-first s ss))
       (nearer-agree ss last d (λ x k. h x (omega (arith, k))))
 
 -- ---- what is ready joins dispatched
@@ -151,7 +152,7 @@ module _ (c d : Channel) (e : channelShape c ≡ channelShape d) where
   last-same : c .«incoming_reliable» .0 ≡ d .«incoming_reliable» .0
   last-same = ap (λ (v : ChannelView). v .incomingReliable .0) e
 
-  module _ (l m : Lists) (lined : Lined l m) (g h : Groups) (same : g ≡ h) where
+  module _ (l m : Lists) (lined : Lined l m) (g h : Unsequenced) (same : g ≡ h) where
     moved-gone : (k n : ℕ) → Gone (movedOn k n c l g) (movedOn k n d m h)
     moved-gone k n =
         let joined = in-items (l .dispatched) (m .dispatched) (lined .dispatched) in
@@ -190,7 +191,7 @@ module _ (c d : Channel) (e : channelShape c ≡ channelShape d) where
         lasts = last-agree a b (inItems (c .held)) (c .«incoming_reliable» .0) agree ∙ ap₂ (readyLast b) items-same last-same
 
 -- each slot is named as often as before, and the outgoing lists are as they were
-module _ (a : List Incoming) (c : Channel) (l : Lists) (g : Groups) where
+module _ (a : List Incoming) (c : Channel) (l : Lists) (g : Unsequenced) where
   gone-names : (s : ℕ) → times (inItems (dispatchedBy a c l g .channel .held)) s + times (inItems (dispatchedBy a c l g .lists .dispatched)) s
       ≡ times (inItems (c .held)) s + times (inItems (l .dispatched)) s
   gone-names s = go (eqb (readyIn a c) 0) (readyIn a c) (lastIn a c)
@@ -213,9 +214,9 @@ module _ (a : List Incoming) (c : Channel) (l : Lists) (g : Groups) where
       go false k n = refl
 
 -- a channel that counts, and what it holds, in place of the one that was there
-module _ (p : Peer) (whole : Whole p) (good : sound p ≡ true) (i : ℕ) (on : i < p .standing .count) where
+module _ (p : Peer) (whole : Whole p) (good : sound p ≡ true) (i : ℕ) (on : i < p .standing .channels) where
   abbrev cs : List Channel
-  cs = below (p .channels) (p .standing .count)
+  cs = below (p .channels) (p .standing .channels)
 
   abbrev old : Channel
   old = getD (p .channels) i noChannel
@@ -223,10 +224,10 @@ module _ (p : Peer) (whole : Whole p) (good : sound p ≡ true) (i : ℕ) (on : 
   here : i < length cs
   here =
       let n = whole .channels in
-      omega (arith, on, n, count-high p good, length-take (p .standing .count) (p .channels))
+      omega (arith, on, n, count-high p good, length-take (p .standing .channels) (p .channels))
 
   old-is : getD cs i noChannel ≡ old
-  old-is = getD-take (p .standing .count) (p .channels) i noChannel on
+  old-is = getD-take (p .standing .channels) (p .channels) i noChannel on
 
   held-named : (s : ℕ) → times (inItems (old .held)) s ≤ times (named p) s
   held-named s =
@@ -235,9 +236,9 @@ module _ (p : Peer) (whole : Whole p) (good : sound p ≡ true) (i : ℕ) (on : 
 
   landed-names : (l : Lists) (c : Channel) (s z : ℕ)
       → times (inItems (c .held)) s + times (inItems (l .dispatched)) s ≤ z + (times (inItems (old .held)) s + times (inItems (p .lists .dispatched)) s)
-      → times (usedIn l (below (set (p .channels) i c) (p .standing .count))) s ≤ z + times (named p) s
+      → times (usedIn l (below (set (p .channels) i c) (p .standing .channels))) s ≤ z + times (named p) s
   landed-names l c s z h =
-      let now = ap (λ (ds : List Channel). times (usedIn l ds) s) (take-set-lt (p .standing .count) (p .channels) i c on) in
+      let now = ap (λ (ds : List Channel). times (usedIn l ds) s) (take-set-lt (p .standing .channels) (p .channels) i c on) in
       let one-list = rw old-is at (held-set (λ (xs : List ℕ). times xs s) (λ xs ys. times-append xs ys s) cs i c noChannel here) in
       omega (arith, h, now, one-list, used-adds l (set cs i c) s, used-adds (p .lists) cs s)
 
@@ -269,7 +270,7 @@ module _ (p q : Peer) (k : Like p q) (w : Within p q) where
     taken-within n =
         agree-less noIncoming (named p) (p .incoming) (q .incoming) w (named (receiving.taken n p))
         (λ s h.
-        let cs = below (p .channels) (p .standing .count) in
+        let cs = below (p .channels) (p .standing .channels) in
         let less = ap (λ (xs : List ℕ). times xs s) (in-items-keep (p .lists .dispatched) (without (inItems (p .lists .dispatched)) 0)) in
         omega (
           arith,
@@ -291,7 +292,7 @@ module _ (p q : Peer) (k : Like p q) (w : Within p q) where
         go [] e = record { answer = refl; like = k; within = w }
         go (n ∷ rest) e =
             let at = ap (λ (xs : List ℕ). times xs n) e in
-            let same = w n (omega (arith, at, named-first n rest, used-adds (p .lists) (below (p .channels) (p .standing .count)) n)) in
+            let same = w n (omega (arith, at, named-first n rest, used-adds (p .lists) (below (p .channels) (p .standing .channels)) n)) in
             record {
               answer = ap (λ (i : Incoming). receiving.packet (i .channel) n (i .length)) same;
               like = taken-like n same;
@@ -300,9 +301,9 @@ module _ (p q : Peer) (k : Like p q) (w : Within p q) where
 
     -- ---- dispatch
     module _ (whole : Whole p) where
-      module _ (good : sound p ≡ true) (i : ℕ) (on : i < p .standing .count) where
+      module _ (good : sound p ≡ true) (i : ℕ) (on : i < p .standing .channels) where
         shape : channelShape (getD (p .channels) i noChannel) ≡ channelShape (getD (q .channels) i noChannel)
-        shape = ranked-at (p .channels) (q .channels) (p .standing .count) i (ranked-by p q k) on
+        shape = ranked-at (p .channels) (q .channels) (p .standing .channels) i (ranked-by p q k) on
 
         in-list : Agree noIncoming (inItems (getD (p .channels) i noChannel .held)) (p .incoming) (q .incoming)
         in-list =
@@ -318,7 +319,7 @@ module _ (p q : Peer) (k : Like p q) (w : Within p q) where
         dispatched-like : Like (dispatchedOn i p) (dispatchedOn i q)
         dispatched-like =
             rebuilt-like p q k (k .standing) (k .totals) (k .times) (k .loss) (k .throttling) (k .trips) (k .flow) (gone .lists) (gone .groups) (k .waiting)
-            (ranked-set (p .channels) (q .channels) (p .standing .count) i _ _ (ranked-by p q k) (gone .channel))
+            (ranked-set (p .channels) (q .channels) (p .standing .channels) i _ _ (ranked-by p q k) (gone .channel))
             (subst (λ (xs : List ℕ). Agree noOutgoing xs (p .outgoing) (q .outgoing))
             (sym (gone-used (p .incoming) (getD (p .channels) i noChannel) (p .lists) (p .groups))) (k .outs))
 
@@ -361,7 +362,7 @@ module _ (p q : Peer) (k : Like p q) (w : Within p q) where
           ap₃ (λ (n : Standing) (t : Waiting) (xs : List ℕ). roomFor s (n .state) (t .total) (lowest incoming xs)) (k .standing) (k .waiting) names-same
 
       -- a free slot, written alike
-      module _ (a : Arrival) (n : ℕ) (free : freeSlot (p .lists) (p .channels) (p .standing .count) ≡ Lowest n) where
+      module _ (a : Arrival) (n : ℕ) (free : freeSlot (p .lists) (p .channels) (p .standing .channels) ≡ Lowest n) where
         pools : Agree noIncoming (n ∷ named p) (set (p .incoming) n (arrivedSlot a)) (set (q .incoming) n (arrivedSlot a))
         pools =
             let low = lowest-exists incoming (named p) n free in
@@ -389,7 +390,7 @@ module _ (p q : Peer) (k : Like p q) (w : Within p q) where
                   (ap (λ (xs : List ℕ). pushed incoming xs n) (in-items (p .lists .dispatched) (q .lists .dispatched) (k .lists .dispatched)));
             }
 
-        delivered-landed : (answer : Answer) (g h : Groups) (datagram : List ℕ) → g ≡ h
+        delivered-landed : (answer : Answer) (g h : Unsequenced) (datagram : List ℕ) → g ≡ h
             → Landed (record { answer = answer; after = storedAt n a datagram x (delivered (p .lists) n) g (p .channels) })
             (record { answer = answer; after = storedAt n a datagram y (delivered (q .lists) n) h (q .channels) })
         delivered-landed answer g h datagram e =
@@ -400,9 +401,9 @@ module _ (p q : Peer) (k : Like p q) (w : Within p q) where
                   rebuilt-like p q k (k .standing) (k .totals) (k .times) (k .loss) (k .throttling) (k .trips) (k .flow) delivered-lined e
                   (ap (λ (t : Waiting). awaiting t (a .length)) (k .waiting)) (ranked-by p q k) (k .outs);
               within =
-                  pooled (usedIn (delivered (p .lists) n) (below (p .channels) (p .standing .count)))
+                  pooled (usedIn (delivered (p .lists) n) (below (p .channels) (p .standing .channels)))
                   (λ s.
-                  let cs = below (p .channels) (p .standing .count) in
+                  let cs = below (p .channels) (p .standing .channels) in
                   let now = ap (λ (xs : List ℕ). times xs s) (in-items-keep (p .lists .dispatched) (pushed incoming (inItems (p .lists .dispatched)) n)) in
                   omega (
                     arith,
@@ -413,17 +414,17 @@ module _ (p q : Peer) (k : Like p q) (w : Within p q) where
                   ));
             }
 
-      regrouped-like : (g h : Groups) → g ≡ h → Like (withGroups p g) (withGroups q h)
+      regrouped-like : (g h : Unsequenced) → g ≡ h → Like (withGroups p g) (withGroups q h)
       regrouped-like g h e =
           rebuilt-like p q k (k .standing) (k .totals) (k .times) (k .loss) (k .throttling) (k .trips) (k .flow) (k .lists) e (k .waiting) (ranked-by p q k) (k .outs)
 
       module _ (s : Settings) (a : Arrival) (group : Group) (datagram : List ℕ) where
         -- what a fate comes to, by the window's groups
-        abbrev fated : Fate → Groups → State → Outcome State
+        abbrev fated : Fate → Unsequenced → State → Outcome State
         fated f g z = record { answer = answerOf (replyOf f); after = unsequencedAfter f g a datagram z }
 
         judged-same : judgedOn s group p ≡ judgedOn s group q
-        judged-same = ap₂ (λ (g : Groups) (f : Fate). judged g group f) (k .groups) (room-same s)
+        judged-same = ap₂ (λ (g : Unsequenced) (f : Fate). judgeWindow g group f) (k .groups) (room-same s)
 
         fate-landed : (f : Fate) → judgedOn s group p .fate ≡ f
             → Landed (fated f (judgedOn s group p .groups) x) (fated f (judgedOn s group q .groups) y)
@@ -452,7 +453,7 @@ module _ (p q : Peer) (k : Like p q) (w : Within p q) where
       abbrev heldBy : Arrival → List ℕ → Fate → State → Outcome State
       heldBy a datagram f z = record { answer = answerOf (replyOf f); after = reliableAfter f a datagram z }
 
-      module _ (s : Settings) (a : Arrival) (datagram : List ℕ) (good : sound p ≡ true) (on : a .channel < p .standing .count) where
+      module _ (s : Settings) (a : Arrival) (datagram : List ℕ) (good : sound p ≡ true) (on : a .channel < p .standing .channels) where
         abbrev c : Channel
         c = channelOf a p
 
@@ -467,7 +468,7 @@ module _ (p q : Peer) (k : Like p q) (w : Within p q) where
 
         passed-same : isPassed (p .incoming) c (a .number .0) ≡ isPassed (q .incoming) d (a .number .0)
         passed-same =
-            ap₂ (λ (n : ℕ) (b : Bool). pick (eqb (ahead n (a .number .0)) 0) true (pick (ltb farthest (ahead n (a .number .0))) true b))
+            ap₂ (λ (n : ℕ) (b : Bool). pick (eqb (numberDistance n (a .number .0)) 0) true (pick (ltb farthest (numberDistance n (a .number .0))) true b))
             (last-same c d alike-channels)
             (holds-agree (p .incoming) (q .incoming) (inItems (c .held)) (a .number .0) agree-held
             ∙ ap (λ (xs : List ℕ). holds (q .incoming) xs (a .number .0)) (items-same c d alike-channels))
@@ -477,14 +478,14 @@ module _ (p q : Peer) (k : Like p q) (w : Within p q) where
 
         abbrev place : List Incoming → Channel → ℕ
         place i e =
-            nearer i (inItems (e .held)) (e .«incoming_reliable» .0) (ahead (e .«incoming_reliable» .0) (a .number .0))
+            placeOf i (inItems (e .held)) (e .«incoming_reliable» .0) (numberDistance (e .«incoming_reliable» .0) (a .number .0))
 
         place-same : place (p .incoming) c ≡ place (q .incoming) d
         place-same =
-            nearer-agree (p .incoming) (q .incoming) (inItems (c .held)) (c .«incoming_reliable» .0) (ahead (c .«incoming_reliable» .0) (a .number .0)) agree-held
-            ∙ ap₂ (λ (xs : List ℕ) (n : ℕ). nearer (q .incoming) xs n (ahead n (a .number .0))) (items-same c d alike-channels) (last-same c d alike-channels)
+            nearer-agree (p .incoming) (q .incoming) (inItems (c .held)) (c .«incoming_reliable» .0) (numberDistance (c .«incoming_reliable» .0) (a .number .0)) agree-held
+            ∙ ap₂ (λ (xs : List ℕ) (n : ℕ). placeOf (q .incoming) xs n (numberDistance n (a .number .0))) (items-same c d alike-channels) (last-same c d alike-channels)
 
-        module _ (n : ℕ) (free : freeSlot (p .lists) (p .channels) (p .standing .count) ≡ Lowest n) where
+        module _ (n : ℕ) (free : freeSlot (p .lists) (p .channels) (p .standing .channels) ≡ Lowest n) where
           abbrev now : Channel
           now = heldWith (p .incoming) c (a .number .0) n
 
@@ -518,7 +519,7 @@ module _ (p q : Peer) (k : Like p q) (w : Within p q) where
                 like =
                     rebuilt-like p q k (k .standing) (k .totals) (k .times) (k .loss) (k .throttling) (k .trips) (k .flow) (then-gone .lists) (then-gone .groups)
                     (ap (λ (t : Waiting). awaiting t (a .length)) (k .waiting))
-                    (ranked-set (p .channels) (q .channels) (p .standing .count) (a .channel) _ _ (ranked-by p q k) (then-gone .channel))
+                    (ranked-set (p .channels) (q .channels) (p .standing .channels) (a .channel) _ _ (ranked-by p q k) (then-gone .channel))
                     (subst (λ (xs : List ℕ). Agree noOutgoing xs (p .outgoing) (q .outgoing))
                     (sym (gone-used (set (p .incoming) n (arrivedSlot a)) now (p .lists) (p .groups))) (k .outs));
                 within =

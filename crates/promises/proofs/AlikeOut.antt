@@ -13,67 +13,67 @@ use Rattle.numbers.specs.Pick.{pick}
 use Rattle.numbers.specs.declared.refusals.Refusal.the-variants.{OutOfRange}
 use Rattle.numbers.specs.Modulo.{sum}
 use Rattle.throttle.specs.Throttling.{byTests}
-use Rattle.slots.specs.Lists.{outgoing, outItems}
-use Rattle.slots.specs.declared.outgoing.OutList.{OutList}
-use Rattle.slots.proofs.Views.{out-items-keep}
-use Rattle.slots.proofs.Keeps.{one, times, times-append, pushed-adds, without-takes}
-use Rattle.runs.specs.Runs.{first, pushed, without}
-use Rattle.runs.specs.Free.{lowest, howMany}
-use Rattle.runs.specs.declared.Free.{Free}
-use Rattle.runs.specs.declared.Free.the-variants.{Lowest, Full}
-use Rattle.runs.proofs.Lowest.{lowest-exists}
-use Rattle.parts.specs.Sizes.{itself}
-use Rattle.parts.specs.Fresh.{noOutgoing, noChannel}
-use Rattle.parts.specs.Damage.{usedOut}
-use Rattle.parts.specs.Updates.{withState, withCount, withMtu, withReliable, withOutgoingTotal, withOutgoingGroup, withQueued}
-use Rattle.parts.specs.Updates.{withSentList, withReliableList, withOutgoingList, longer, shorter}
-use Rattle.parts.specs.declared.groups.Standing.{Standing}
-use Rattle.parts.specs.declared.groups.Flow.{Flow}
-use Rattle.parts.specs.declared.groups.Lists.{Lists}
-use Rattle.parts.specs.declared.groups.Times.{Times}
-use Rattle.parts.specs.declared.groups.Totals.{Totals}
-use Rattle.parts.specs.declared.groups.Groups.{Groups}
-use Rattle.parts.specs.declared.groups.Waiting.{Waiting}
-use Rattle.parts.specs.declared.groups.Throttling.{Throttling}
-use Rattle.parts.specs.declared.groups.Trips.{Trips}
-use Rattle.parts.specs.declared.groups.Outgoing.{Outgoing}
+use Rattle.record.specs.Lists.{outgoing, outItems}
+use Rattle.record.specs.declared.outgoing.OutList.{OutList}
+use Rattle.record.proofs.Views.{out-items-keep}
+use Rattle.record.proofs.Keeps.{one, times, times-append, pushed-adds, without-takes}
+use Rattle.cells.specs.Runs.{first, pushed, without}
+use Rattle.cells.specs.Free.{lowest, howMany}
+use Rattle.cells.specs.declared.Free.{Free}
+use Rattle.cells.specs.declared.Free.the-variants.{Lowest, Full}
+use Rattle.cells.proofs.Lowest.{lowest-exists}
+use Rattle.record.specs.Sizes.{itself}
+use Rattle.record.specs.Fresh.{noOutgoing, noChannel}
+use Rattle.record.specs.Damage.{usedOut}
+use Rattle.record.specs.Updates.{withState, withCount, withMtu, withReliable, withOutgoingTotal, withOutgoingGroup, withQueued}
+use Rattle.record.specs.Updates.{withSentList, withReliableList, withOutgoingList, longer, shorter}
+use Rattle.record.specs.declared.groups.Standing.{Standing}
+use Rattle.record.specs.declared.groups.Flow.{Flow}
+use Rattle.record.specs.declared.groups.Lists.{Lists}
+use Rattle.record.specs.declared.groups.Times.{Times}
+use Rattle.record.specs.declared.groups.Totals.{Totals}
+use Rattle.record.specs.declared.groups.Unsequenced.{Unsequenced}
+use Rattle.record.specs.declared.groups.Waiting.{Waiting}
+use Rattle.record.specs.declared.groups.Throttling.{Throttling}
+use Rattle.record.specs.declared.groups.Trips.{Trips}
+use Rattle.record.specs.declared.groups.Outgoing.{Outgoing}
 use Rattle.peer.specs.Damage.{sound}
 use Rattle.peer.specs.Sounds.{Whole}
 use Rattle.peer.specs.Outcome.{Outcome, finished, unchanged}
 use Rattle.peer.specs.States.{lastState}
 use Rattle.peer.specs.Gate.{fits, gateOf, behind, onRecord}
 use Rattle.peer.specs.declared.settings.Settings.{Settings}
-use Rattle.peer.specs.declared.record.Peer.{Peer}
+use Rattle.peer.specs.declared.Peer.{Peer}
 use Rattle.peer.specs.declared.gate.Lent.the-variants as lent
 use Rattle.peer.specs.declared.gate.Gate.{Gate}
 use Rattle.peer.specs.declared.gate.Gate.the-variants.{Open}
 use Rattle.peer.proofs.Gates.{sound-open}
-use Rattle.same.proofs.Laws.{agree-less, agree-set, agree-new, named-first, named-with, Lined, lined-used, ranked-set, ranked-at, Like}
-use Rattle.same.proofs.Laws.{outShape, channelShape, out-items, out-kept}
-use Rattle.same.specs.Same.{ChannelView}
-use Rattle.same.proofs.Pairs.{behind-pair, ranked-by, rebuilt-like}
-use Rattle.opening.specs.Calls.{beginFits, begun, beginsSound, begins, stated, setsStateSound, setsState}
-use Rattle.averages.specs.Interval.{throttleOf, throttled}
-use Rattle.throttling.specs.Calls as throttling
-use Rattle.throttling.specs.declared.Reply.the-variants as vr
-use Rattle.stamps.specs.Counting.{isItself, channelAt, stamped}
-use Rattle.stamps.specs.Pieces.{slotOf, grown, toReliable, listsWith}
-use Rattle.stamps.specs.declared.counting.Counters.{Counters}
-use Rattle.stamps.specs.declared.counting.Stamped.{Stamped}
-use Rattle.stamps.specs.declared.pieces.Piece.{Piece}
+use Rattle.laws.proofs.SameLaws.{agree-less, agree-set, agree-new, named-first, named-with, Lined, lined-used, ranked-set, ranked-at, Like}
+use Rattle.laws.proofs.SameLaws.{outShape, channelShape, out-items, out-kept}
+use Rattle.laws.specs.Same.{ChannelView}
+use Rattle.laws.proofs.SamePairs.{behind-pair, ranked-by, rebuilt-like}
+use Rattle.lifecycle.specs.Calls.{beginFits, begun, beginsSound, begins, stated, setsStateSound, setsState}
+use Rattle.round_trip.specs.Interval.{throttleOf, throttled}
+use Rattle.round_trip.specs.Calls as throttling
+use Rattle.round_trip.specs.declared.Reply.the-variants as vr
+use Rattle.outbox.specs.Counting.{isItself, channelAt, stamped}
+use Rattle.outbox.specs.Pieces.{slotOf, grown, toReliable, listsWith}
+use Rattle.outbox.specs.declared.counting.Counters.{Counters}
+use Rattle.outbox.specs.declared.counting.Stamped.{Stamped}
+use Rattle.outbox.specs.declared.pieces.Piece.{Piece}
 use Rattle.setup.specs.Queueing.{room, stampOf, made, queuedAt, queuedIn, queued, queuedAll}
 use Rattle.setup.specs.Taking.{allFit}
 use Rattle.setup.specs.Calls.{onChannel, setupGate, setsUpSound, setsUp}
 use Rattle.setup.proofs.Sound.{queued-whole, fit-on, fit-rest, setup-open}
 use Rattle.packets.specs.Packets.{fragmentLength, whole, cutBy, startOf, pieces}
-use Rattle.plans.specs.Refusals.{sendGate, queueGate}
-use Rattle.sending.specs.Calls.{fragment, commands, queuesAll, sendsSound, sends}
-use Rattle.sending.proofs.Sound.{gate-channel, commands-fit}
-use Rattle.ping.specs.Calls.{pingPiece, pingGate, pingsSound, pings}
-use Rattle.sendstep.specs.Steps.{listOf, attempted, head, isAcknowledged, withoutHead, listsSent, packetSent, flowSent, timesSent, sentAs}
-use Rattle.sendstep.specs.Calls as stepping
-use Rattle.sendstep.specs.declared.heads.Queue.{Queue}
-use Rattle.sendstep.specs.declared.heads.Queue.the-variants as queue
+use Rattle.packets.specs.Refusals.{sendGate, queueGate}
+use Rattle.send.specs.Calls.{fragment, commands, queuesAll, sendsSound, sends}
+use Rattle.send.proofs.Sound.{gate-channel, commands-fit}
+use Rattle.setup.specs.Pings.{pingPiece, pingGate, pingsSound, pings}
+use Rattle.send_step.specs.Steps.{listOf, attempted, head, isAcknowledged, withoutHead, listsSent, packetSent, flowSent, timesSent, sentAs}
+use Rattle.send_step.specs.Calls as stepping
+use Rattle.send_step.specs.declared.heads.Queue.{Queue}
+use Rattle.send_step.specs.declared.heads.Queue.the-variants as queue
 
 -- two results of a call: one answer, and records that are alike
 pub record Twin (o r : Outcome Peer) : Type 0 where
@@ -94,12 +94,12 @@ shorter-takes l s =
     let e = ap (λ (xs : List ℕ). times xs s) (out-items-keep l (without (outItems l) 0)) in
     omega (arith, e, without-takes (outItems l) 0 s)
 
-pub used-adds : (l : Lists) (s : ℕ) → times (usedOut l) s ≡ times (outItems (l .sent)) s + (times (outItems (l .reliable)) s + times (outItems (l .outgoing)) s)
+pub used-adds : (l : Lists) (s : ℕ) → times (usedOut l) s ≡ times (outItems (l .sent)) s + (times (outItems (l .«send_reliable»)) s + times (outItems (l .outgoing)) s)
 used-adds l s =
     omega (
       arith,
-      times-append (outItems (l .sent)) (outItems (l .reliable) ++ outItems (l .outgoing)) s,
-      times-append (outItems (l .reliable)) (outItems (l .outgoing)) s,
+      times-append (outItems (l .sent)) (outItems (l .«send_reliable») ++ outItems (l .outgoing)) s,
+      times-append (outItems (l .«send_reliable»)) (outItems (l .outgoing)) s,
     )
 
 -- a list of one record and that of the other, a slot longer or without its head
@@ -115,7 +115,7 @@ shorter-like l m e =
 module _ (l m : Lists) (e : Lined l m) where
   queue-same : (r : Queue) → outItems (listOf r l) ≡ outItems (listOf r m)
   queue-same queue.Outgoing = out-items (l .outgoing) (m .outgoing) (e .outgoing)
-  queue-same queue.Reliable = out-items (l .reliable) (m .reliable) (e .reliable)
+  queue-same queue.Reliable = out-items (l .«send_reliable») (m .«send_reliable») (e .reliable)
 
   without-lined : (r : Queue) → Lined (withoutHead r l) (withoutHead r m)
   without-lined queue.Outgoing =
@@ -128,7 +128,7 @@ module _ (l m : Lists) (e : Lined l m) where
   without-lined queue.Reliable =
       record {
         sent = e .sent;
-        reliable = shorter-like (l .reliable) (m .reliable) (e .reliable);
+        reliable = shorter-like (l .«send_reliable») (m .«send_reliable») (e .reliable);
         outgoing = e .outgoing;
         dispatched = e .dispatched;
       }
@@ -147,10 +147,10 @@ module _ (l m : Lists) (e : Lined l m) where
           }
       go false = without-lined r
 
-without-names : (r : Queue) (l : Lists) (s : ℕ) → times (outItems (withoutHead r l .reliable)) s + times (outItems (withoutHead r l .outgoing)) s
-    ≤ times (outItems (l .reliable)) s + times (outItems (l .outgoing)) s
+without-names : (r : Queue) (l : Lists) (s : ℕ) → times (outItems (withoutHead r l .«send_reliable»)) s + times (outItems (withoutHead r l .outgoing)) s
+    ≤ times (outItems (l .«send_reliable»)) s + times (outItems (l .outgoing)) s
 without-names queue.Outgoing l s = omega (arith, shorter-takes (l .outgoing) s)
-without-names queue.Reliable l s = omega (arith, shorter-takes (l .reliable) s)
+without-names queue.Reliable l s = omega (arith, shorter-takes (l .«send_reliable») s)
 
 without-same : (r : Queue) (l : Lists) → withoutHead r l .sent ≡ l .sent
 without-same queue.Outgoing l = refl
@@ -181,21 +181,21 @@ head-named queue.Reliable l n rest e =
 
 -- ---- a piece set up on both
 -- a channel that counts, or 255, has the same shape in both
-channel-like : (p q : Peer) → Like p q → Whole p → Whole q → (channel : ℕ) → onChannel channel (p .standing .count) ≡ true
+channel-like : (p q : Peer) → Like p q → Whole p → Whole q → (channel : ℕ) → onChannel channel (p .standing .channels) ≡ true
     → channelShape (channelAt (p .channels) channel) ≡ channelShape (channelAt (q .channels) channel)
-channel-like p q k wp wq channel on = go (ltb channel (p .standing .count)) refl on
+channel-like p q k wp wq channel on = go (ltb channel (p .standing .channels)) refl on
   where
     none : (r : Peer) → Whole r → channel ≡ itself → channelAt (r .channels) channel ≡ noChannel
     none r w e = List·getD-eq-default (r .channels) noChannel (let n = w .channels in omega (arith, n, e))
 
-    go : (b : Bool) → ltb channel (p .standing .count) ≡ b → pick b true (isItself channel) ≡ true
+    go : (b : Bool) → ltb channel (p .standing .channels) ≡ b → pick b true (isItself channel) ≡ true
         → channelShape (channelAt (p .channels) channel) ≡ channelShape (channelAt (q .channels) channel)
-    go true t o = ranked-at (p .channels) (q .channels) (p .standing .count) channel (ranked-by p q k) (ltb-true channel (p .standing .count) t)
+    go true t o = ranked-at (p .channels) (q .channels) (p .standing .channels) channel (ranked-by p q k) (ltb-true channel (p .standing .channels) t)
     go false t o = let e = eqb-true channel itself o in ap channelShape (none p wp e ∙ sym (none q wq e))
 
 -- the counters and a channel with other numbers, by the shape of the channel
-abbrev countersBy : Flow → ChannelView → Groups → Counters
-countersBy f v g = record { own = f .reliable; reliable = v .outgoingReliable; unreliable = v .outgoingUnreliable; group = g .outgoing }
+abbrev countersBy : Flow → ChannelView → Unsequenced → Counters
+countersBy f v g = record { own = f .«own_number»; reliable = v .outgoingReliable; unreliable = v .outgoingUnreliable; group = g .outgoing }
 
 abbrev renumbered : ChannelView → Counters → ChannelView
 renumbered v c =
@@ -210,22 +210,22 @@ renumbered v c =
 with-lined : (l m : Lists) → Lined l m → (x : Piece) (n : ℕ) → Lined (listsWith l x n) (listsWith m x n)
 with-lined l m e x n = go (toReliable x)
   where
-    go : (b : Bool) → Lined (pick b (withReliableList l (longer (l .reliable) n)) (withOutgoingList l (longer (l .outgoing) n)))
-        (pick b (withReliableList m (longer (m .reliable) n)) (withOutgoingList m (longer (m .outgoing) n)))
+    go : (b : Bool) → Lined (pick b (withReliableList l (longer (l .«send_reliable») n)) (withOutgoingList l (longer (l .outgoing) n)))
+        (pick b (withReliableList m (longer (m .«send_reliable») n)) (withOutgoingList m (longer (m .outgoing) n)))
     go true =
-        record { sent = e .sent; reliable = longer-like (l .reliable) (m .reliable) n (e .reliable); outgoing = e .outgoing; dispatched = e .dispatched }
+        record { sent = e .sent; reliable = longer-like (l .«send_reliable») (m .«send_reliable») n (e .reliable); outgoing = e .outgoing; dispatched = e .dispatched }
     go false =
         record { sent = e .sent; reliable = e .reliable; outgoing = longer-like (l .outgoing) (m .outgoing) n (e .outgoing); dispatched = e .dispatched }
 
 with-names : (l : Lists) (x : Piece) (n s : ℕ) → times (usedOut (listsWith l x n)) s ≤ one n s + times (usedOut l) s
 with-names l x n s = go (toReliable x)
   where
-    go : (b : Bool) → times (usedOut (pick b (withReliableList l (longer (l .reliable) n)) (withOutgoingList l (longer (l .outgoing) n)))) s
+    go : (b : Bool) → times (usedOut (pick b (withReliableList l (longer (l .«send_reliable») n)) (withOutgoingList l (longer (l .outgoing) n)))) s
         ≤ one n s + times (usedOut l) s
-    go true = omega (arith, used-adds (withReliableList l (longer (l .reliable) n)) s, used-adds l s, longer-adds (l .reliable) n s)
+    go true = omega (arith, used-adds (withReliableList l (longer (l .«send_reliable») n)) s, used-adds l s, longer-adds (l .«send_reliable») n s)
     go false = omega (arith, used-adds (withOutgoingList l (longer (l .outgoing) n)) s, used-adds l s, longer-adds (l .outgoing) n s)
 
-module _ (x : Piece) (p q : Peer) (k : Like p q) (wp : Whole p) (wq : Whole q) (on : onChannel (x .command .channel) (p .standing .count) ≡ true) where
+module _ (x : Piece) (p q : Peer) (k : Like p q) (wp : Whole p) (wq : Whole q) (on : onChannel (x .command .channel) (p .standing .channels) ≡ true) where
   shape-same : channelShape (channelAt (p .channels) (x .command .channel)) ≡ channelShape (channelAt (q .channels) (x .command .channel))
   shape-same = channel-like p q k wp wq (x .command .channel) on
 
@@ -244,9 +244,9 @@ module _ (x : Piece) (p q : Peer) (k : Like p q) (wp : Whole p) (wq : Whole q) (
   queued-at-like n low =
       rebuilt-like p q k (k .standing) (ap (λ (t : Totals). withOutgoingTotal t (grown (t .outgoing) x)) (k .totals)) (k .times) (k .loss) (k .throttling)
       (k .trips) (ap₂ (λ (f : Flow) (c : Counters). withReliable f (c .own)) (k .flow) counters-same) (with-lined (p .lists) (q .lists) (k .lists) x n)
-      (ap₂ (λ (g : Groups) (c : Counters). withOutgoingGroup g (c .group)) (k .groups) counters-same)
+      (ap₂ (λ (g : Unsequenced) (c : Counters). withOutgoingGroup g (c .group)) (k .groups) counters-same)
       (ap (λ (w : Waiting). withQueued w (sum 32 (w .queued) 1)) (k .waiting))
-      (ranked-set (p .channels) (q .channels) (p .standing .count) (x .command .channel) _ _ (ranked-by p q k) (ap₂ renumbered shape-same counters-same))
+      (ranked-set (p .channels) (q .channels) (p .standing .channels) (x .command .channel) _ _ (ranked-by p q k) (ap₂ renumbered shape-same counters-same))
       (agree-less noOutgoing (n ∷ usedOut (p .lists)) (set (p .outgoing) n (made x p)) (set (q .outgoing) n (made x q))
       (agree-new noOutgoing (usedOut (p .lists)) (p .outgoing) (q .outgoing) (k .outs) n (made x p) (made x q)
       (let e = wp .outgoing in omega (arith, e, low)) (let e = wq .outgoing in omega (arith, e, low)) made-same)
@@ -262,7 +262,7 @@ module _ (x : Piece) (p q : Peer) (k : Like p q) (wp : Whole p) (wq : Whole q) (
       go (Lowest n) e = queued-at-like n (lowest-exists outgoing (usedOut (p .lists)) n e)
       go Full e = k
 
-all-like : (xs : List Piece) (p q : Peer) → Like p q → Whole p → Whole q → allFit (p .standing .count) xs ≡ true → Like (queuedAll xs p) (queuedAll xs q)
+all-like : (xs : List Piece) (p q : Peer) → Like p q → Whole p → Whole q → allFit (p .standing .channels) xs ≡ true → Like (queuedAll xs p) (queuedAll xs q)
 unfolding queuedAll
 all-like [] p q k wp wq fit = k
 all-like (x ∷ xs) p q k wp wq fit =
@@ -299,8 +299,8 @@ module _ (p q : Peer) (k : Like p q) where
     begin-twin s mtu count =
         on-twin s (beginsSound mtu count p) (beginsSound mtu count q)
         (λ good.
-        subst (λ (n : Standing). Twin (beginsSound mtu count p) (pick (beginFits mtu count (n .count)) (finished (begun mtu count q)) (unchanged OutOfRange q)))
-        (k .standing) (go (beginFits mtu count (p .standing .count))))
+        subst (λ (n : Standing). Twin (beginsSound mtu count p) (pick (beginFits mtu count (n .channels)) (finished (begun mtu count q)) (unchanged OutOfRange q)))
+        (k .standing) (go (beginFits mtu count (p .standing .channels))))
       where
         begun-like : Like (begun mtu count p) (begun mtu count q)
         begun-like =
@@ -379,8 +379,8 @@ module _ (p q : Peer) (k : Like p q) where
       setup-twin s x =
           on-twin s (setsUpSound x p) (setsUpSound x q)
           (λ good.
-          behind-twin (setupGate x (p .standing .count) (room p)) (setupGate x (q .standing .count) (room q)) (finished (queued x p)) (finished (queued x q))
-          (ap₂ (λ (n : Standing) (r : ℕ). setupGate x (n .count) r) (k .standing) room-same)
+          behind-twin (setupGate x (p .standing .channels) (room p)) (setupGate x (q .standing .channels) (room q)) (finished (queued x p)) (finished (queued x q))
+          (ap₂ (λ (n : Standing) (r : ℕ). setupGate x (n .channels) r) (k .standing) room-same)
           (λ e. record { answer = refl; like = queued-like x p q k wp wq (setup-open x p e .0) }))
 
       pub ping-twin : (s : Settings) → Twin (pings s p) (pings s q)
@@ -389,9 +389,9 @@ module _ (p q : Peer) (k : Like p q) where
           (λ good.
           behind-twin (pingGate (p .standing) (room p)) (pingGate (q .standing) (room q)) (finished (queued pingPiece p)) (finished (queued pingPiece q))
           (ap₂ pingGate (k .standing) room-same)
-          (λ e. record { answer = refl; like = queued-like pingPiece p q k wp wq (itself-on (p .standing .count)) }))
+          (λ e. record { answer = refl; like = queued-like pingPiece p q k wp wq (itself-on (p .standing .channels)) }))
 
-      commands-same : (s : Settings) (channel long flags : ℕ) → ltb channel (p .standing .count) ≡ true
+      commands-same : (s : Settings) (channel long flags : ℕ) → ltb channel (p .standing .channels) ≡ true
           → commands (fragment s p) channel long flags p ≡ commands (fragment s q) channel long flags q
       commands-same s channel long flags on =
           ap₂ (λ (f : Flow) (v : ChannelView). commandsBy (fragmentLength (f .mtu) (s .checksum)) channel long flags v) (k .flow)
@@ -410,7 +410,7 @@ module _ (p q : Peer) (k : Like p q) where
           xs : Peer → List Piece
           xs r = commands (fragment s r) channel long flags r
 
-          all-twin : ltb channel (p .standing .count) ≡ true → Twin (queuesAll (xs p) p) (queuesAll (xs p) q)
+          all-twin : ltb channel (p .standing .channels) ≡ true → Twin (queuesAll (xs p) p) (queuesAll (xs p) q)
           all-twin on =
               behind-twin (queueGate (length (xs p)) (room p)) (queueGate (length (xs p)) (room q)) (finished (queuedAll (xs p) p))
               (finished (queuedAll (xs p) q)) (ap (queueGate (length (xs p))) room-same)

@@ -10,48 +10,48 @@ use lib.ListN.{length, getD, set, length-set}
 use Rattle.numbers.specs.Pick.{pick}
 use Rattle.numbers.specs.declared.clock.Trip.{Trip}
 use Rattle.numbers.specs.declared.clock.Trip.the-variants.{PassedOver, Taken}
-use Rattle.slots.specs.Lists.{outgoing, outItems}
-use Rattle.slots.specs.declared.outgoing.OutList.{OutList}
-use Rattle.slots.proofs.Views.{out-items-keep}
-use Rattle.slots.proofs.Keeps.{times, times-without, without-takes, prepended-adds}
-use Rattle.runs.specs.Runs.{first, isEmpty, without, prepended}
-use Rattle.runs.specs.declared.First.{First}
-use Rattle.runs.specs.declared.First.the-variants.{Slot, Empty}
-use Rattle.runs.specs.declared.Found.{Found}
-use Rattle.runs.specs.declared.Found.the-variants.{At, Nowhere}
-use Rattle.parts.specs.Fresh.{noOutgoing}
-use Rattle.parts.specs.Damage.{usedOut}
-use Rattle.parts.specs.Updates.{withTimeouts, withPacketsLost, withTransit}
-use Rattle.parts.specs.declared.groups.Standing.{Standing}
-use Rattle.parts.specs.declared.groups.Limits.{Limits}
-use Rattle.parts.specs.declared.groups.Flow.{Flow}
-use Rattle.parts.specs.declared.groups.Loss.{Loss}
-use Rattle.parts.specs.declared.groups.Lists.{Lists}
-use Rattle.parts.specs.declared.groups.Times.{Times}
-use Rattle.parts.specs.declared.groups.Throttling.{Throttling}
-use Rattle.parts.specs.declared.groups.Trips.{Trips}
-use Rattle.parts.specs.declared.groups.Outgoing.{Outgoing}
+use Rattle.record.specs.Lists.{outgoing, outItems}
+use Rattle.record.specs.declared.outgoing.OutList.{OutList}
+use Rattle.record.proofs.Views.{out-items-keep}
+use Rattle.record.proofs.Keeps.{times, times-without, without-takes, prepended-adds}
+use Rattle.cells.specs.Runs.{first, isEmpty, without, prepended}
+use Rattle.cells.specs.declared.First.{First}
+use Rattle.cells.specs.declared.First.the-variants.{Slot, Empty}
+use Rattle.cells.specs.declared.Found.{Found}
+use Rattle.cells.specs.declared.Found.the-variants.{At, Nowhere}
+use Rattle.record.specs.Fresh.{noOutgoing}
+use Rattle.record.specs.Damage.{usedOut}
+use Rattle.record.specs.Updates.{withTimeouts, withPacketsLost, withTransit}
+use Rattle.record.specs.declared.groups.Standing.{Standing}
+use Rattle.record.specs.declared.groups.Limits.{Limits}
+use Rattle.record.specs.declared.groups.Flow.{Flow}
+use Rattle.record.specs.declared.groups.Loss.{Loss}
+use Rattle.record.specs.declared.groups.Lists.{Lists}
+use Rattle.record.specs.declared.groups.Times.{Times}
+use Rattle.record.specs.declared.groups.Throttling.{Throttling}
+use Rattle.record.specs.declared.groups.Trips.{Trips}
+use Rattle.record.specs.declared.groups.Outgoing.{Outgoing}
 use Rattle.peer.specs.Damage.{sound}
 use Rattle.peer.specs.States.{acknowledgingConnect, disconnectLater, disconnecting}
 use Rattle.peer.specs.declared.settings.Settings.{Settings}
-use Rattle.peer.specs.declared.record.Peer.{Peer}
-use Rattle.same.proofs.Laws.{Agree, agree-less, agree-set, Lined, lined-used, outShape, out-items, out-kept, named-first, Like}
-use Rattle.same.proofs.Pairs.{ranked-by, rebuilt-like}
-use Rattle.averages.specs.Interval.{measured}
-use Rattle.averages.specs.declared.Measured.{Measured}
-use Rattle.removal.specs.Removal.{inSent, inQueue, seek, orElse, spotOf, cut, listsWithout, slotAt, heldBy, flowWithout, isSome, timesWithout, commandAt}
-use Rattle.removal.specs.declared.Spot.{Spot}
-use Rattle.removal.specs.declared.Spot.the-variants as spot
-use Rattle.removal.proofs.Laws.{Placed}
-use Rattle.answered.proofs.Acknowledged.{found-placed}
-use Rattle.answered.proofs.Marking.{bearing-some}
+use Rattle.peer.specs.declared.Peer.{Peer}
+use Rattle.laws.proofs.SameLaws.{Agree, agree-less, agree-set, Lined, lined-used, outShape, out-items, out-kept, named-first, Like}
+use Rattle.laws.proofs.SamePairs.{ranked-by, rebuilt-like}
+use Rattle.round_trip.specs.Interval.{measured}
+use Rattle.round_trip.specs.declared.averages.Measured.{Measured}
+use Rattle.acknowledge.specs.Removal.{inSent, inQueue, seek, orElse, spotOf, cut, listsWithout, slotAt, heldBy, flowWithout, isSome, timesWithout, commandAt}
+use Rattle.acknowledge.specs.declared.removal.Spot.{Spot}
+use Rattle.acknowledge.specs.declared.removal.Spot.the-variants as spot
+use Rattle.acknowledge.proofs.RemovalLaws.{Placed}
+use Rattle.laws.proofs.Acknowledged.{found-placed}
+use Rattle.laws.proofs.Marking.{bearing-some}
 use Rattle.acknowledge.specs.Calls as acknowledging
 use Rattle.acknowledge.specs.declared.Reply.{Reply as Heard}
 use Rattle.acknowledge.specs.declared.Reply.the-variants as heard
 use Rattle.overdue.specs.Overdue.{stays, backOutgoing, backReliable}
 use Rattle.overdue.specs.Walking.{turnBy, atEntry, Walked, markedBy, walked, bearing, ahead, listsBy}
 use Rattle.overdue.specs.declared.step.Walk.{Walk}
-use Rattle.overdue.specs.declared.turn.Turned.{Turned}
+use Rattle.overdue.specs.Walking.{Turned}
 use Rattle.timeouts.specs.Calls as checking
 use Rattle.promises.proofs.AlikeOut.{Twin, ap₃, used-adds, on-twin}
 
@@ -69,7 +69,7 @@ module _ (l m : Lists) (e : Lined l m) (a b : List Outgoing) (h : Agree noOutgoi
       ap₃ (λ (x y z : Found). orElse x spot.Sent (orElse y spot.Outgoing (orElse z spot.Reliable spot.Nowhere)))
       (by (inSent number channel) (l .sent) (m .sent) (e .sent) (λ s n. omega (arith, n, used-adds l s)))
       (by (inQueue number channel) (l .outgoing) (m .outgoing) (e .outgoing) (λ s n. omega (arith, n, used-adds l s)))
-      (by (inQueue number channel) (l .reliable) (m .reliable) (e .reliable) (λ s n. omega (arith, n, used-adds l s)))
+      (by (inQueue number channel) (l .«send_reliable») (m .«send_reliable») (e .reliable) (λ s n. omega (arith, n, used-adds l s)))
     where
       by : (f : Outgoing → ℕ) (x y : OutList) → outShape x ≡ outShape y → ((s : ℕ) → 0 < times (outItems x) s → 0 < times (usedOut l) s)
           → seek (λ (s : ℕ). f (getD a s noOutgoing)) 0 (outItems x) ≡ seek (λ (s : ℕ). f (getD b s noOutgoing)) 0 (outItems y)
@@ -88,7 +88,7 @@ module _ (l m : Lists) (e : Lined l m) (a b : List Outgoing) (h : Agree noOutgoi
   slot-same : (w : Spot) → slotAt w l ≡ slotAt w m
   slot-same (spot.Sent k) = ap (λ (xs : List ℕ). Slot (getD xs k 0)) (out-items (l .sent) (m .sent) (e .sent))
   slot-same (spot.Outgoing k) = ap (λ (xs : List ℕ). Slot (getD xs k 0)) (out-items (l .outgoing) (m .outgoing) (e .outgoing))
-  slot-same (spot.Reliable k) = ap (λ (xs : List ℕ). Slot (getD xs k 0)) (out-items (l .reliable) (m .reliable) (e .reliable))
+  slot-same (spot.Reliable k) = ap (λ (xs : List ℕ). Slot (getD xs k 0)) (out-items (l .«send_reliable») (m .«send_reliable») (e .reliable))
   slot-same spot.Nowhere = refl
 
   cut-like : (x y : OutList) (k : ℕ) → outShape x ≡ outShape y → outShape (cut x k) ≡ outShape (cut y k)
@@ -100,7 +100,7 @@ module _ (l m : Lists) (e : Lined l m) (a b : List Outgoing) (h : Agree noOutgoi
   without-lined (spot.Outgoing k) =
       record { sent = e .sent; reliable = e .reliable; outgoing = cut-like (l .outgoing) (m .outgoing) k (e .outgoing); dispatched = e .dispatched }
   without-lined (spot.Reliable k) =
-      record { sent = e .sent; reliable = cut-like (l .reliable) (m .reliable) k (e .reliable); outgoing = e .outgoing; dispatched = e .dispatched }
+      record { sent = e .sent; reliable = cut-like (l .«send_reliable») (m .«send_reliable») k (e .reliable); outgoing = e .outgoing; dispatched = e .dispatched }
   without-lined spot.Nowhere = e
 
 -- what is at a place is named
@@ -126,7 +126,7 @@ module _ (l : Lists) where
       (omega (arith, used-adds l (getD (outItems (l .outgoing)) k 0), at-named (outItems (l .outgoing)) k h))
   spot-named (spot.Reliable k) h s d =
       subst (λ (x : ℕ). 0 < times (usedOut l) x) (slot-of d)
-      (omega (arith, used-adds l (getD (outItems (l .reliable)) k 0), at-named (outItems (l .reliable)) k h))
+      (omega (arith, used-adds l (getD (outItems (l .«send_reliable»)) k 0), at-named (outItems (l .«send_reliable»)) k h))
   spot-named spot.Nowhere h s d = absurd (let z : _≡_ {A = ℕ} 0 1 = cc in omega arith)
 
   cut-names : (x : OutList) (k s : ℕ) → times (outItems (cut x k)) s ≤ times (outItems x) s
@@ -136,7 +136,7 @@ module _ (l : Lists) where
   without-names : (w : Spot) (s : ℕ) → times (usedOut (listsWithout w l)) s ≤ times (usedOut l) s
   without-names (spot.Sent k) s = omega (arith, used-adds (listsWithout (spot.Sent k) l) s, used-adds l s, cut-names (l .sent) k s)
   without-names (spot.Outgoing k) s = omega (arith, used-adds (listsWithout (spot.Outgoing k) l) s, used-adds l s, cut-names (l .outgoing) k s)
-  without-names (spot.Reliable k) s = omega (arith, used-adds (listsWithout (spot.Reliable k) l) s, used-adds l s, cut-names (l .reliable) k s)
+  without-names (spot.Reliable k) s = omega (arith, used-adds (listsWithout (spot.Reliable k) l) s, used-adds l s, cut-names (l .«send_reliable») k s)
   without-names spot.Nowhere s = omega arith
 
   first-named : (xs : List ℕ) (s : ℕ) → first xs ≡ Slot s → 0 < times xs s
@@ -246,7 +246,7 @@ by-lined : (ms : List ℕ) (l m : Lists) → Lined l m → Lined (listsBy ms l) 
 by-lined ms l m e =
     record {
       sent = out-kept (l .sent) (m .sent) (bearing stays ms (outItems (l .sent))) (bearing stays ms (outItems (m .sent))) (ap (bearing stays ms) items);
-      reliable = ahead-like (l .reliable) (m .reliable) backReliable (e .reliable);
+      reliable = ahead-like (l .«send_reliable») (m .«send_reliable») backReliable (e .reliable);
       outgoing = ahead-like (l .outgoing) (m .outgoing) backOutgoing (e .outgoing);
       dispatched = e .dispatched;
     }
@@ -262,7 +262,7 @@ by-lined ms l m e =
 
 by-names : (ms : List ℕ) (l : Lists) (s : ℕ) → 0 < times (usedOut (listsBy ms l)) s → 0 < times (usedOut l) s
 by-names ms l s h =
-    omega (arith, h, used-adds (listsBy ms l) s, used-adds l s, stay, bearing-some stays ms sent s, before (l .reliable) backReliable, before (l .outgoing) backOutgoing)
+    omega (arith, h, used-adds (listsBy ms l) s, used-adds l s, stay, bearing-some stays ms sent s, before (l .«send_reliable») backReliable, before (l .outgoing) backOutgoing)
   where
     sent : List ℕ
     sent = outItems (l .sent)

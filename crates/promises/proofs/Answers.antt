@@ -12,23 +12,23 @@ use Rattle.numbers.specs.Answers.{Answer, numberOf, refused, numbersOf}
 use Rattle.numbers.specs.declared.counters.Group.{Group}
 use Rattle.numbers.specs.declared.refusals.Refusal.{Refusal}
 use Rattle.numbers.proofs.Settled.{refused-not-done}
-use Rattle.slots.specs.Lists.{inItems}
-use Rattle.runs.specs.Runs.{first}
-use Rattle.runs.specs.declared.First.{First}
-use Rattle.runs.specs.declared.First.the-variants.{Slot, Empty}
+use Rattle.record.specs.Lists.{inItems}
+use Rattle.cells.specs.Runs.{first}
+use Rattle.cells.specs.declared.First.{First}
+use Rattle.cells.specs.declared.First.the-variants.{Slot, Empty}
 use Rattle.peer.specs.Damage.{sound}
 use Rattle.peer.specs.Gate.{fits, gateOf}
 use Rattle.peer.specs.Outcome.{State, Outcome}
 use Rattle.peer.specs.declared.settings.Settings.{Settings}
-use Rattle.peer.specs.declared.record.Peer.{Peer}
+use Rattle.peer.specs.declared.Peer.{Peer}
 use Rattle.peer.specs.declared.gate.Lent.the-variants as lent
 use Rattle.peer.proofs.Gates.{behind-has}
-use Rattle.arriving.specs.Arrivals.{stored, answerOf, arrivalGate, replyOf}
-use Rattle.arriving.specs.declared.Arrival.{Arrival}
-use Rattle.arriving.specs.declared.Reply.{Reply}
-use Rattle.arriving.specs.declared.Reply.the-variants as reply
-use Rattle.unsequenced.specs.Calls.{sendUnsequenced, judgedOn, unsequencedSound, arrivesUnsequenced}
-use Rattle.reliable.specs.Calls.{sendReliable, fateOn, reliableSound, arrivesReliable}
+use Rattle.arrival.specs.Arrivals.{stored, answerOf, arrivalGate, replyOf}
+use Rattle.arrival.specs.declared.Arrival.{Arrival}
+use Rattle.arrival.specs.declared.Reply.{Reply}
+use Rattle.arrival.specs.declared.Reply.the-variants as reply
+use Rattle.arrive_unsequenced.specs.Calls.{sendUnsequenced, judgedOn, unsequencedSound, arrivesUnsequenced}
+use Rattle.arrive_reliable.specs.Calls.{sendReliable, fateOn, reliableSound, arrivesReliable}
 use Rattle.receive.specs.Calls.{packet, receivesFrom, receivesSound, receives}
 use Rattle.link.specs.Runs.{saysOne}
 

@@ -12,25 +12,25 @@ use lib.ListN.{length, length-append, length-map}
 use borrow.Author.Tests.{eqb-true}
 use Rattle.numbers.specs.Pick.{pick}
 use Rattle.numbers.specs.declared.refusals.Refusal.the-variants.{OutOfRange}
-use Rattle.parts.specs.Fresh.{noLists}
-use Rattle.parts.specs.Damage.{below, held}
+use Rattle.record.specs.Fresh.{noLists}
+use Rattle.record.specs.Damage.{below, held}
 use Rattle.peer.specs.Settings.{fitSettings}
 use Rattle.peer.specs.Fresh.{freshPeer}
 use Rattle.peer.specs.Outcome.{State, Outcome, finished, unchanged}
 use Rattle.peer.specs.Sounds.{Whole}
 use Rattle.peer.specs.declared.settings.Settings.{Settings}
-use Rattle.peer.specs.declared.record.Peer.{Peer}
+use Rattle.peer.specs.declared.Peer.{Peer}
 use Rattle.peer.specs.declared.defaults.Kept.{Kept}
-use Rattle.opening.specs.Calls.{kept, begins, setsState}
+use Rattle.lifecycle.specs.Calls.{kept, begins, setsState}
 use Rattle.dispatch.specs.Calls.{dispatches}
 use Rattle.receive.specs.Calls.{receives}
-use Rattle.unsequenced.specs.Calls.{arrivesUnsequenced}
-use Rattle.reliable.specs.Calls.{arrivesReliable}
-use Rattle.outward.specs.Steps.{goes}
-use Rattle.inward.specs.Steps.{beside}
-use Rattle.link.specs.Steps.{step}
+use Rattle.arrive_unsequenced.specs.Calls.{arrivesUnsequenced}
+use Rattle.arrive_reliable.specs.Calls.{arrivesReliable}
+use Rattle.link_out.specs.Steps.{callsOut}
+use Rattle.link_in.specs.Steps.{beside}
+use Rattle.link.specs.Steps.{calls}
 use Rattle.link.specs.Runs.{Asked, comesTo, Packet, handed, packetsOf, run, resetState}
-use Rattle.inward.specs.declared.calls.Call.the-variants as inw
+use Rattle.link_in.specs.declared.calls.Call.the-variants as inw
 use Rattle.link.specs.declared.calls.Call.{Call}
 use Rattle.link.specs.declared.calls.Call.the-variants as call
 use Rattle.promises.specs.Counts.{count, those}
@@ -56,7 +56,7 @@ abbrev written : Call → List ℕ → State → Outcome State → Ledger → Le
 written c datagram x o l = pick (isReset c (o .answer)) freshLedger (with l x (o .after) (putIn c (o .answer) datagram) (packetsOf c (o .answer) x))
 
 abbrev Holds : Settings → Call → List ℕ → State → Ledger → Type 0
-Holds s c datagram x l = let o = step s c datagram x in Booked (written c datagram x o l) (o .after)
+Holds s c datagram x l = let o = calls s c datagram x in Booked (written c datagram x o l) (o .after)
 
 reset-holds : (s : Settings) (datagram : List ℕ) (x : State) (l : Ledger) → Booked l x → Holds s call.Reset datagram x l
 reset-holds s datagram x l h = go (fitSettings s)
@@ -70,7 +70,7 @@ call-holds : (c : Call) (s : Settings) (datagram : List ℕ) (x : State) (l : Le
 call-holds call.Reset s datagram x l w h = reset-holds s datagram x l h
 call-holds (call.Begin mtu channels) s datagram x l w h = passed l h (still-passes x (begins s mtu channels (x .peer) .after) (begin-still s mtu channels (x .peer)))
 call-holds (call.SetState state) s datagram x l w h = passed l h (still-passes x (setsState s state (x .peer) .after) (state-still s state (x .peer)))
-call-holds (call.Outward c) s datagram x l w h = passed l h (still-passes x (goes s c (x .peer) .after) (outward-still s c (x .peer)))
+call-holds (call.Outward c) s datagram x l w h = passed l h (still-passes x (callsOut s c (x .peer) .after) (outward-still s c (x .peer)))
 call-holds (call.Inward (inw.UnsequencedArrival a group)) s datagram x l w h = passed l h (unsequenced-passes s a group datagram x w)
 call-holds (call.Inward (inw.ReliableArrival a)) s datagram x l w h = passed l h (reliable-passes s a datagram x w)
 call-holds (call.Inward (inw.Dispatch channel)) s datagram x l w h = passed l h (dispatch-passes s channel x w)
@@ -106,7 +106,7 @@ late-reliable : (l : Ledger) (x y : State) (put out : List Packet) → Sorted l 
     → count other (newly x y) ≡ 0
 late-reliable l x y put out h b none =
     let there = dispatchedIn y in
-    let inside = held (below (y .peer .channels) (y .peer .standing .count)) in
+    let inside = held (below (y .peer .channels) (y .peer .standing .channels)) in
     omega (
       arith,
       none,
@@ -154,7 +154,7 @@ unfolding those
 none-numbers channel = refl
 
 reset-next : (s : Settings) (datagram : List ℕ) (x : State) (l : Ledger) → Sorted l x
-    → Next call.Reset datagram x (step s call.Reset datagram x) l
+    → Next call.Reset datagram x (calls s call.Reset datagram x) l
 reset-next s datagram x l h = go (fitSettings s)
   where
     go : (b : Bool) → Next call.Reset datagram x (beside x (pick b (finished (freshPeer (s .mtu) (kept (x .peer)))) (unchanged OutOfRange (x .peer)))) l
@@ -164,7 +164,7 @@ reset-next s datagram x l h = go (fitSettings s)
         record { sorted = sorted-none l x x [] h (λ z. none) (λ z. z); logs = λ channel. none-log channel (l .joined) (newly x x) none }
 
 begin-next : (s : Settings) (mtu count : ℕ) (datagram : List ℕ) (x : State) (l : Ledger) → Sorted l x
-    → Next (call.Begin mtu count) datagram x (step s (call.Begin mtu count) datagram x) l
+    → Next (call.Begin mtu count) datagram x (calls s (call.Begin mtu count) datagram x) l
 begin-next s mtu count datagram x l h =
     record {
       sorted = sorted-none l x y [] h (λ z. none) (begin-at s mtu count (x .peer) .before);
@@ -186,7 +186,7 @@ begin-next s mtu count datagram x l h =
     go channel false e = refl
 
 call-next : (c : Call) (s : Settings) (datagram : List ℕ) (x : State) (l : Ledger) → Whole (x .peer) → Sorted l x → Holds s c datagram x l
-    → Next c datagram x (step s c datagram x) l
+    → Next c datagram x (calls s c datagram x) l
 call-next call.Reset s datagram x l w h b = reset-next s datagram x l h
 call-next (call.Begin mtu channels) s datagram x l w h b = begin-next s mtu channels datagram x l h
 call-next (call.SetState state) s datagram x l w h b =
@@ -197,7 +197,7 @@ call-next (call.SetState state) s datagram x l w h b =
       logs = λ channel. none-log channel (l .joined) _ none;
     }
 call-next (call.Outward c) s datagram x l w h b =
-    let q = goes s c (x .peer) .after in
+    let q = callsOut s c (x .peer) .after in
     let none = still-newly x q (outward-still s c (x .peer)) in
     record {
       sorted = sorted-none l x (record { peer = q; store = x .store }) [] h (λ z. none) (outward-before s c (x .peer));

@@ -17,8 +17,8 @@ use Rattle.numbers.specs.declared.clock.Trip.the-variants.{PassedOver, Taken}
 use Rattle.numbers.specs.declared.counters.Group.{Group}
 use Rattle.numbers.specs.declared.refusals.Refusal.the-variants.{NotReceiving, LengthTooLarge, BadCommand}
 use Rattle.window.specs.Window.{first, cleared}
-use Rattle.parts.specs.Updates.{withWindow}
-use Rattle.parts.specs.declared.groups.Groups.{Groups}
+use Rattle.record.specs.Updates.{withWindow}
+use Rattle.record.specs.declared.groups.Unsequenced.{Unsequenced}
 use Rattle.peer.specs.Damage.{sound}
 use Rattle.peer.specs.Outcome.{State, Outcome}
 use Rattle.peer.specs.Gate.{fits, gateOf, then, behind}
@@ -28,16 +28,16 @@ use Rattle.peer.specs.declared.gate.Lent.the-variants.{Nothing, Store}
 use Rattle.peer.specs.declared.gate.Gate.{Gate}
 use Rattle.peer.specs.declared.gate.Gate.the-variants.{Open, Shut}
 use Rattle.acknowledge.specs.Calls.{acknowledgesBy, acknowledgesSound}
-use Rattle.arriving.specs.Arrivals.{answerOf, names, isReceiving, isWhole, arrivalGate, roomOf, replyOf}
-use Rattle.arriving.specs.Window.{takenAt, passedBy}
-use Rattle.arriving.specs.declared.Arrival.{Arrival}
-use Rattle.arriving.specs.declared.Fate.{Fate}
-use Rattle.arriving.specs.declared.Fate.the-variants as fate
-use Rattle.arriving.specs.declared.Judged.{Judged}
-use Rattle.holding.specs.Holding.{isPassed}
-use Rattle.unsequenced.specs.Calls.{sendUnsequenced, regrouped, judgedOn, unsequencedAfter, unsequencedSound}
-use Rattle.reliable.specs.Calls.{channelOf, fateOf, arrivesReliable}
-use Rattle.arrived.proofs.Reliable.{reliable-has}
+use Rattle.arrival.specs.Arrivals.{answerOf, names, isReceiving, isWhole, arrivalGate, roomOf, replyOf}
+use Rattle.arrival.specs.Window.{takenAt, passedBy}
+use Rattle.arrival.specs.declared.Arrival.{Arrival}
+use Rattle.arrival.specs.declared.Fate.{Fate}
+use Rattle.arrival.specs.declared.Fate.the-variants as fate
+use Rattle.arrival.specs.declared.Judged.{Judged}
+use Rattle.arrive_reliable.specs.Holding.{isPassed}
+use Rattle.arrive_unsequenced.specs.Calls.{sendUnsequenced, regrouped, judgedOn, unsequencedAfter, unsequencedSound}
+use Rattle.arrive_reliable.specs.Calls.{channelOf, fateOf, arrivesReliable}
+use Rattle.laws.proofs.Reliable.{reliable-has}
 use Rattle.promises.specs.Refusals.{EightLeaves, movedFor, EightMoves, Heard, TenKeeps}
 use Rattle.promises.proofs.Picks.{tested}
 
@@ -76,7 +76,7 @@ gate-spares n a b false good = a
 
 -- ---- 8 of an unsequenced arrival
 module _ (s : Settings) (a : Arrival) (g : Group) (datagram : List ℕ) (x : State) where
-  abbrev gs : Groups
+  abbrev gs : Unsequenced
   gs = x .peer .groups
 
   arrival-spares : Spares 8 (arrivalGate sendUnsequenced a s (x .peer .standing) (length datagram))

@@ -8,17 +8,17 @@ use native.Mathlib.Omega.{arith}
 use lib.ListN.{replicate}
 use Rattle.numbers.specs.Bits.{withBit}
 use Rattle.window.specs.Window.{marked, marking}
-use Rattle.runs.specs.Free.{firstFrom, exist, once}
-use Rattle.parts.specs.Fresh.{noLists, noChannel, noOutgoing, noIncoming}
-use Rattle.parts.specs.Damage.{all, held, heldFit, own as ownSlots, lengths}
-use Rattle.parts.specs.Sizes.{storeLength}
+use Rattle.cells.specs.Free.{firstFrom, exist, once}
+use Rattle.record.specs.Fresh.{noLists, noChannel, noOutgoing, noIncoming}
+use Rattle.record.specs.Damage.{all, held, heldFit, own as ownSlots, lengths}
+use Rattle.record.specs.Sizes.{storeLength}
 use Rattle.peer.specs.Fresh.{freshPeer}
 use Rattle.peer.specs.Damage.{sound}
 use Rattle.peer.specs.Outcome.{State}
 use Rattle.peer.specs.declared.settings.Settings.{Settings}
 use Rattle.peer.specs.declared.defaults.Kept.{Kept}
 use Rattle.link.specs.Runs.{Asked, Packet, run, resetState}
-use Rattle.inward.specs.declared.calls.Call.the-variants as inw
+use Rattle.link_in.specs.declared.calls.Call.the-variants as inw
 use Rattle.link.specs.declared.calls.Call.{Call}
 use Rattle.link.specs.declared.calls.Call.the-variants as call
 use Rattle.promises.specs.History.{Event, moved, delivered, since, history, AllInRange}

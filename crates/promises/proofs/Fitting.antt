@@ -6,9 +6,9 @@ use mathlib.Core.List.{List}
 use native.Mathlib.Omega.{arith}
 use lib.ListN.{length}
 use borrow.Author.Tests.{eq-eqb, ne-eqb, lt-ltb, lt-leb}
-use Rattle.runs.specs.declared.Free.{Free}
-use Rattle.runs.specs.declared.Free.the-variants.{Lowest, Full}
-use Rattle.parts.specs.Sizes.{storeLength}
+use Rattle.cells.specs.declared.Free.{Free}
+use Rattle.cells.specs.declared.Free.the-variants.{Lowest, Full}
+use Rattle.record.specs.Sizes.{storeLength}
 use Rattle.peer.specs.Damage.{sound}
 use Rattle.peer.specs.Gate.{fits, gateOf}
 use Rattle.peer.specs.States.{connected, disconnectLater}
@@ -16,10 +16,10 @@ use Rattle.peer.specs.Outcome.{State}
 use Rattle.peer.specs.declared.settings.Settings.{Settings}
 use Rattle.peer.specs.declared.gate.Lent.the-variants.{Store}
 use Rattle.peer.specs.declared.gate.Gate.the-variants.{Open}
-use Rattle.storing.specs.Storing.{freeSlot}
-use Rattle.arriving.specs.Arrivals.{arrivalGate, roomFor, roomOf}
-use Rattle.arriving.specs.declared.Arrival.{Arrival}
-use Rattle.arriving.specs.declared.Fate.the-variants as fate
+use Rattle.arrival.specs.Storing.{freeSlot}
+use Rattle.arrival.specs.Arrivals.{arrivalGate, roomFor, roomOf}
+use Rattle.arrival.specs.declared.Arrival.{Arrival}
+use Rattle.arrival.specs.declared.Fate.the-variants as fate
 use Rattle.promises.specs.Next.{Fits}
 
 module _ (command : ℕ) (s : Settings) (a : Arrival) (datagram : List ℕ) (x : State) (f : Fits command s a datagram x) where
@@ -28,15 +28,15 @@ module _ (command : ℕ) (s : Settings) (a : Arrival) (datagram : List ℕ) (x :
 
   pub fits-admitted : arrivalGate command a s (x .peer .standing) (length datagram) ≡ Open
   fits-admitted =
-      let here = lt-ltb (a .channel) (x .peer .standing .count) (f .on) in
+      let here = lt-ltb (a .channel) (x .peer .standing .channels) (f .on) in
       let five = eq-eqb (x .peer .standing .state) connected (f .state) in
       rw (f .byte, here, five, f .whole)
 
   -- its slot is the lowest free one
   pub fits-room : (n : ℕ) × (roomOf s (x .peer) ≡ fate.Stored n)
-  fits-room = go (freeSlot (x .peer .lists) (x .peer .channels) (x .peer .standing .count)) refl
+  fits-room = go (freeSlot (x .peer .lists) (x .peer .channels) (x .peer .standing .channels)) refl
     where
-      go : (free : Free) → freeSlot (x .peer .lists) (x .peer .channels) (x .peer .standing .count) ≡ free
+      go : (free : Free) → freeSlot (x .peer .lists) (x .peer .channels) (x .peer .standing .channels) ≡ free
           → (n : ℕ) × (roomFor s (x .peer .standing .state) (x .peer .waiting .total) free ≡ fate.Stored n)
       go Full e = absurd (f .slot e)
       go (Lowest n) e =

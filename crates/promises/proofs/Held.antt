@@ -14,15 +14,15 @@ use Rattle.numbers.specs.Pick.{pick}
 use Rattle.numbers.specs.declared.counters.Group.{Group}
 use Rattle.numbers.specs.declared.counters.Reliable.{Reliable}
 use Rattle.numbers.specs.declared.refusals.Refusal.the-variants.{OutOfRange}
-use Rattle.slots.specs.Lists.{incoming, inItems}
-use Rattle.slots.specs.declared.incoming.InList.{InList}
-use Rattle.slots.proofs.Keeps.{times, times-append}
-use Rattle.runs.specs.declared.Free.the-variants.{Lowest}
-use Rattle.parts.specs.Sizes.{channels}
-use Rattle.parts.specs.Damage.{below, held}
-use Rattle.parts.specs.Fresh.{noChannel, noIncoming}
-use Rattle.parts.specs.declared.groups.Channel.{Channel}
-use Rattle.parts.specs.declared.groups.Incoming.{Incoming}
+use Rattle.record.specs.Lists.{incoming, inItems}
+use Rattle.record.specs.declared.incoming.InList.{InList}
+use Rattle.record.proofs.Keeps.{times, times-append}
+use Rattle.cells.specs.declared.Free.the-variants.{Lowest}
+use Rattle.record.specs.Sizes.{channels}
+use Rattle.record.specs.Damage.{below, held}
+use Rattle.record.specs.Fresh.{noChannel, noIncoming}
+use Rattle.record.specs.declared.groups.Channel.{Channel}
+use Rattle.record.specs.declared.groups.Incoming.{Incoming}
 use Rattle.peer.specs.Damage.{sound}
 use Rattle.peer.specs.Gate.{fits, gateOf}
 use Rattle.peer.specs.Sounds.{Whole}
@@ -30,36 +30,36 @@ use Rattle.peer.specs.Settings.{fitSettings}
 use Rattle.peer.specs.Fresh.{freshPeer}
 use Rattle.peer.specs.Outcome.{State, Outcome, finished, unchanged}
 use Rattle.peer.specs.declared.settings.Settings.{Settings}
-use Rattle.peer.specs.declared.record.Peer.{Peer}
+use Rattle.peer.specs.declared.Peer.{Peer}
 use Rattle.peer.specs.declared.defaults.Kept.{Kept}
 use Rattle.peer.specs.declared.gate.Lent.the-variants as lent
 use Rattle.peer.proofs.Gates.{sound-open, behind-has}
 use Rattle.peer.proofs.Ranges.{count-high}
 use Rattle.peer.proofs.InClauses.{incoming-clauses}
-use Rattle.opening.specs.Calls.{kept, beginFits, begun, beginsSound, begins, setsState, resets}
-use Rattle.dispatching.specs.Dispatching.{readyLast}
+use Rattle.lifecycle.specs.Calls.{kept, beginFits, begun, beginsSound, begins, setsState, resets}
+use Rattle.dispatch.specs.Dispatching.{readyLast}
 use Rattle.dispatch.specs.Calls.{dispatchGate, dispatchedOn, dispatchesSound, dispatches}
 use Rattle.dispatch.proofs.Sound.{below-count}
 use Rattle.dispatch.proofs.Sums.{held-within}
 use Rattle.dispatch.proofs.Moving.{dispatch-order}
 use Rattle.receive.specs.Calls.{receives}
-use Rattle.storing.specs.Storing.{freeSlot}
-use Rattle.arriving.specs.Arrivals.{arrivedSlot, roomOf}
-use Rattle.arriving.specs.declared.Arrival.{Arrival}
-use Rattle.arriving.specs.declared.Fate.{Fate}
-use Rattle.arriving.specs.declared.Fate.the-variants as fate
-use Rattle.arriving.proofs.Admitted.{Admitted}
-use Rattle.holding.specs.Holding.{ahead, holds, farthest, isPassed, heldWith}
-use Rattle.unsequenced.specs.Calls.{arrivesUnsequenced}
-use Rattle.reliable.specs.Calls.{channelOf, fateOf, fateOn, reliableAfter, arrivesReliable}
-use Rattle.arrived.proofs.Pools.{free-exists, free-unnamed}
-use Rattle.arrived.proofs.Unsequenced.{unsequenced-has, stored-free}
-use Rattle.arrived.proofs.Reliable.{reliable-has, held-free, between, between-whole, between-sound, left-dispatched, held-items}
-use Rattle.transit.proofs.Carrying.{same-all}
-use Rattle.outward.specs.Steps.{goes}
-use Rattle.link.specs.Steps.{step}
+use Rattle.arrival.specs.Storing.{freeSlot}
+use Rattle.arrival.specs.Arrivals.{arrivedSlot, roomOf}
+use Rattle.arrival.specs.declared.Arrival.{Arrival}
+use Rattle.arrival.specs.declared.Fate.{Fate}
+use Rattle.arrival.specs.declared.Fate.the-variants as fate
+use Rattle.arrival.proofs.Admitted.{Admitted}
+use Rattle.arrive_reliable.specs.Holding.{numberDistance, holds, farthest, isPassed, heldWith}
+use Rattle.arrive_unsequenced.specs.Calls.{arrivesUnsequenced}
+use Rattle.arrive_reliable.specs.Calls.{channelOf, fateOf, fateOn, reliableAfter, arrivesReliable}
+use Rattle.laws.proofs.Pools.{free-exists, free-unnamed}
+use Rattle.laws.proofs.Unsequenced.{unsequenced-has, stored-free}
+use Rattle.laws.proofs.Reliable.{reliable-has, held-free, between, between-whole, between-sound, left-dispatched, held-items}
+use Rattle.laws.proofs.Carrying.{same-all}
+use Rattle.link_out.specs.Steps.{callsOut}
+use Rattle.link.specs.Steps.{calls}
 use Rattle.link.specs.Runs.{Asked, comesTo, run, resetState}
-use Rattle.inward.specs.declared.calls.Call.the-variants as inw
+use Rattle.link_in.specs.declared.calls.Call.the-variants as inw
 use Rattle.link.specs.declared.calls.Call.{Call}
 use Rattle.link.specs.declared.calls.Call.the-variants as call
 use Rattle.promises.specs.Held.{NoneReady, Numbered, AllNumbered, NothingStuck}
@@ -70,12 +70,12 @@ use Rattle.promises.proofs.HeldLaws.{Stands, climbs-rising, next-free, 
 
 -- ---- an arrival that is stored was not passed over: it is not the last number, nor held
 record New (slots : List Incoming) (c : Channel) (n : ℕ) : Type 0 where
-  pub past : 0 < ahead (c .«incoming_reliable» .0) n
+  pub past : 0 < numberDistance (c .«incoming_reliable» .0) n
   pub free : holds slots (inItems (c .held)) n ≡ false
 
 stored-new : (slots : List Incoming) (c : Channel) (n : ℕ) (room : Fate) (s : ℕ) → fateOf (isPassed slots c n) room ≡ fate.Stored s → New slots c n
 stored-new slots c n room s e =
-    let d = ahead (c .«incoming_reliable» .0) n in
+    let d = numberDistance (c .«incoming_reliable» .0) n in
     let none = tests (eqb d 0) (ltb farthest d) (holds slots (inItems (c .held)) n) (not-passed (isPassed slots c n) e) in
     record { past = omega (arith, eqb-false d 0 (none .0)); free = none .1 }
   where
@@ -99,7 +99,7 @@ module _ (channel : ℕ) where
 
   pub record Orderly (p : Peer) : Type 0 where
     pub plain : Plain (p .incoming)
-    pub stands : channel < p .standing .count → StandsAt 1 p
+    pub stands : channel < p .standing .channels → StandsAt 1 p
 
   -- the slots, the last number and the held list as they were
   stands-same : (p q : Peer) (k : ℕ) → q .incoming ≡ p .incoming → on q .«incoming_reliable» ≡ on p .«incoming_reliable» → on q .held ≡ on p .held
@@ -118,7 +118,7 @@ module _ (channel : ℕ) where
 
   -- ---- a dispatch, on the channel and on another
   module _ (p : Peer) (whole : Whole p) (good : sound p ≡ true) (plain : Plain (p .incoming)) where
-    own-dispatched : channel < p .standing .count → StandsAt 0 p → Orderly (dispatchedOn channel p)
+    own-dispatched : channel < p .standing .channels → StandsAt 0 p → Orderly (dispatchedOn channel p)
     own-dispatched h c =
         let ss = inItems (on p .held) in
         let last-is = now-last channel p whole good h plain ∙ sym (ready-last (p .incoming) plain ss (lastOn channel p)) in
@@ -149,10 +149,10 @@ module _ (channel : ℕ) where
       Done : Outcome Peer → Type 0
       Done o = Orderly (o .after)
 
-      go : sound p ≡ true → i < p .standing .count → (b : Bool) → eqb channel i ≡ b → Orderly (dispatchedOn i p)
+      go : sound p ≡ true → i < p .standing .channels → (b : Bool) → eqb channel i ≡ b → Orderly (dispatchedOn i p)
       go good h true e =
           let is : channel ≡ i = eqb-true channel i e in
-          let here : channel < p .standing .count = omega (arith, is, h) in
+          let here : channel < p .standing .channels = omega (arith, is, h) in
           subst (λ (j : ℕ). Orderly (dispatchedOn j p)) is
           (own-dispatched p w good (k .plain) here
           (stands-from (p .incoming) (lastOn channel p) 0 1 (inItems (on p .held)) (omega arith) (k .stands here)))
@@ -160,18 +160,18 @@ module _ (channel : ℕ) where
 
   -- ---- arrivals: the slot that is written was free, so that the channel's list does not name it
   module _ (a : Arrival) (datagram : List ℕ) (x : State) (n : ℕ) (w : Whole (x .peer)) (good : sound (x .peer) ≡ true)
-      (free : freeSlot (x .peer .lists) (x .peer .channels) (x .peer .standing .count) ≡ Lowest n) (k : Orderly (x .peer)) where
+      (free : freeSlot (x .peer .lists) (x .peer .channels) (x .peer .standing .channels) ≡ Lowest n) (k : Orderly (x .peer)) where
     abbrev p : Peer
     p = x .peer
 
     abbrev cs : List Channel
-    cs = below (p .channels) (p .standing .count)
+    cs = below (p .channels) (p .standing .channels)
 
-    unnamed : channel < p .standing .count → times (inItems (on p .held)) n ≡ 0
+    unnamed : channel < p .standing .channels → times (inItems (on p .held)) n ≡ 0
     unnamed h =
-        let here : channel < length cs = omega (arith, h, count-high p good, w .channels, length-take (p .standing .count) (p .channels)) in
-        let is : getD cs channel noChannel ≡ on p = getD-take (p .standing .count) (p .channels) channel noChannel h in
-        let all = free-unnamed (p .incoming) (p .lists) cs (p .standing .count) (p .waiting .total) (incoming-clauses p good) n free in
+        let here : channel < length cs = omega (arith, h, count-high p good, w .channels, length-take (p .standing .channels) (p .channels)) in
+        let is : getD cs channel noChannel ≡ on p = getD-take (p .standing .channels) (p .channels) channel noChannel h in
+        let all = free-unnamed (p .incoming) (p .lists) cs (p .standing .channels) (p .waiting .total) (incoming-clauses p good) n free in
         let named : List ℕ → ℕ = λ xs. times xs n in
         let within = held-within named (λ xs ys. times-append xs ys n) cs channel noChannel here in
         let within-now = subst (λ (c : Channel). times (inItems (c .held)) n ≤ times (held cs) n) is within in
@@ -181,7 +181,7 @@ module _ (channel : ℕ) where
     in-pool =
         omega (
           arith,
-          free-exists (p .incoming) (p .lists) cs (p .standing .count) (p .waiting .total) (incoming-clauses p good) n free,
+          free-exists (p .incoming) (p .lists) cs (p .standing .channels) (p .waiting .total) (incoming-clauses p good) n free,
           w .incoming,
         )
 
@@ -189,7 +189,7 @@ module _ (channel : ℕ) where
     written = plain-set (p .incoming) n (arrivedSlot a) refl (k .plain)
 
     -- another slot, and the channel's number and list as they were
-    written-stands : channel < p .standing .count → Stands (set (p .incoming) n (arrivedSlot a)) (lastOn channel p) 1 (inItems (on p .held))
+    written-stands : channel < p .standing .channels → Stands (set (p .incoming) n (arrivedSlot a)) (lastOn channel p) 1 (inItems (on p .held))
     written-stands h =
         let c = k .stands h in
         record { low = c .low; climbs = written-climbs (p .incoming) n (arrivedSlot a) (lastOn channel p) 1 (inItems (on p .held)) (unnamed h) (c .climbs) }
@@ -218,7 +218,7 @@ module _ (s : Settings) (a : Arrival) (datagram : List ℕ) (x : State) (n : ℕ
   abbrev old : Channel
   old = channelOf a q
 
-  pub free-now : freeSlot (q .lists) (q .channels) (q .standing .count) ≡ Lowest n
+  pub free-now : freeSlot (q .lists) (q .channels) (q .standing .channels) ≡ Lowest n
   free-now = held-free s a datagram x n e
 
   abbrev pub longer : Peer
@@ -300,7 +300,7 @@ module _ (channel : ℕ) where
   begin-orderly : (s : Settings) (mtu count : ℕ) (p : Peer) → Orderly channel p → Orderly channel (begins s mtu count p .after)
   begin-orderly s mtu count p k =
       behind-has (gateOf (fits s lent.Nothing) (sound p)) p (beginsSound mtu count p) Left (λ why. k)
-      (λ e. picked Left (beginFits mtu count (p .standing .count)) (finished (begun mtu count p)) (unchanged OutOfRange p)
+      (λ e. picked Left (beginFits mtu count (p .standing .channels)) (finished (begun mtu count p)) (unchanged OutOfRange p)
       (record { plain = k .plain; stands = λ h. anew (p .incoming) }) k)
 
   reliable-orderly : (s : Settings) (a : Arrival) (datagram : List ℕ) (x : State) → a .number .0 < 65536 → Whole (x .peer) → Orderly channel (x .peer)
@@ -310,13 +310,13 @@ module _ (channel : ℕ) where
       (λ n good long may e. stored-orderly s a datagram x n low w good may e channel k)
 
   pub call-orderly : (a : Call) (s : Settings) (datagram : List ℕ) (x : State) → Numbered a → Whole (x .peer) → Orderly channel (x .peer)
-      → Orderly channel (step s a datagram x .after .peer)
+      → Orderly channel (calls s a datagram x .after .peer)
   call-orderly call.Reset s datagram x m w k = reset-orderly s (x .peer) k
   call-orderly (call.Begin mtu count) s datagram x m w k = begin-orderly s mtu count (x .peer) k
   call-orderly (call.SetState state) s datagram x m w k =
       still-orderly channel (x .peer) (setsState s state (x .peer) .after) (state-still channel s state (x .peer)) k
   call-orderly (call.Outward a) s datagram x m w k =
-      still-orderly channel (x .peer) (goes s a (x .peer) .after) (outward-still channel s a (x .peer)) k
+      still-orderly channel (x .peer) (callsOut s a (x .peer) .after) (outward-still channel s a (x .peer)) k
   call-orderly (call.Inward (inw.UnsequencedArrival a group)) s datagram x m w k = unsequenced-orderly channel s a group datagram x w k
   call-orderly (call.Inward (inw.ReliableArrival a)) s datagram x m w k = reliable-orderly s a datagram x m w k
   call-orderly (call.Inward (inw.Dispatch i)) s datagram x m w k = dispatch-orderly channel s i (x .peer) w k
@@ -332,7 +332,7 @@ module _ (channel : ℕ) where
       (call-sounds (a .settings) (a .call) (a .datagram) (x .store) .whole (x .peer) w)
       (call-orderly (a .call) (a .settings) (a .datagram) x (m .0) w k)
 
-  pub none-ready : (x : State) → Orderly channel (x .peer) → channel < x .peer .standing .count → NoneReady x channel
+  pub none-ready : (x : State) → Orderly channel (x .peer) → channel < x .peer .standing .channels → NoneReady x channel
   none-ready x k h =
       let p = x .peer in
       let c = k .stands h in

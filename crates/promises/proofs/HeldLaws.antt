@@ -13,25 +13,25 @@ use borrow.Author.Tests.{eqb-true, eq-eqb, ne-eqb, ltb-true, ltb-false, lt-ltb}
 use Rattle.numbers.specs.Pick.{pick}
 use Rattle.numbers.specs.Counters.{step}
 use Rattle.numbers.proofs.BoolLaws.{both-right, both-true}
-use Rattle.slots.proofs.Keeps.{one, times}
-use Rattle.parts.specs.Fresh.{noIncoming}
-use Rattle.parts.specs.declared.groups.Incoming.{Incoming}
-use Rattle.dispatching.specs.Dispatching.{follows, numberAfter, readyCount, readyLast}
-use Rattle.holding.specs.Holding.{ahead, numberAt, holds, nearer}
+use Rattle.record.proofs.Keeps.{one, times}
+use Rattle.record.specs.Fresh.{noIncoming}
+use Rattle.record.specs.declared.groups.Incoming.{Incoming}
+use Rattle.dispatch.specs.Dispatching.{follows, numberAfter, readyCount, readyLast}
+use Rattle.arrive_reliable.specs.Holding.{numberDistance, numberAt, holds, placeOf}
 use Rattle.promises.specs.Held.{Rising}
 use Rattle.promises.proofs.Reporting.{Plain, after-plain}
 
 -- ---- numbers below 65,536
-pub next-near : (last : ℕ) → last < 65536 → ahead last (step last) ≡ 1
+pub next-near : (last : ℕ) → last < 65536 → numberDistance last (step last) ≡ 1
 next-near last h = omega (arith, h)
 
-near-next : (last n : ℕ) → last < 65536 → n < 65536 → ahead last n ≡ 1 → n ≡ step last
+near-next : (last n : ℕ) → last < 65536 → n < 65536 → numberDistance last n ≡ 1 → n ≡ step last
 near-next last n h k e = omega (arith, h, k, e)
 
-one-nearer : (last n : ℕ) → last < 65536 → n < 65536 → 0 < ahead last n → ahead (step last) n + 1 ≡ ahead last n
+one-nearer : (last n : ℕ) → last < 65536 → n < 65536 → 0 < numberDistance last n → numberDistance (step last) n + 1 ≡ numberDistance last n
 one-nearer last n h k e = omega (arith, h, k, e)
 
-same-ahead : (last m n : ℕ) → last < 65536 → m < 65536 → n < 65536 → ahead last m ≡ ahead last n → m ≡ n
+same-ahead : (last m n : ℕ) → last < 65536 → m < 65536 → n < 65536 → numberDistance last m ≡ numberDistance last n → m ≡ n
 same-ahead last m n h k l e = omega (arith, h, k, l, e)
 
 -- ---- what is held stands past k, each past the one before
@@ -39,11 +39,11 @@ same-ahead last m n h k l e = omega (arith, h, k, l, e)
 pub record Past (last k : ℕ) (i : Incoming) : Type 0 where
   pub low : i .number .0 < 65536
   pub complete : i .remaining ≡ 0
-  pub past : k < ahead last (i .number .0)
+  pub past : k < numberDistance last (i .number .0)
 
 abbrev pub Climbs : List Incoming → ℕ → ℕ → List ℕ → Type 0
 Climbs slots last k [] = Unit {0}
-Climbs slots last k (s ∷ ss) = Past last k (getD slots s noIncoming) × Climbs slots last (ahead last (numberAt slots s)) ss
+Climbs slots last k (s ∷ ss) = Past last k (getD slots s noIncoming) × Climbs slots last (numberDistance last (numberAt slots s)) ss
 
 -- of a channel with this last number
 pub record Stands (slots : List Incoming) (last k : ℕ) (ss : List ℕ) : Type 0 where
@@ -51,9 +51,9 @@ pub record Stands (slots : List Incoming) (last k : ℕ) (ss : List ℕ) : Type 
   pub climbs : Climbs slots last k ss
 
 pub climbs-rising : (slots : List Incoming) (last k : ℕ) (ss : List ℕ) → Climbs slots last k ss
-    → Rising k (map (λ (s : ℕ). ahead last (numberAt slots s)) ss)
+    → Rising k (map (λ (s : ℕ). numberDistance last (numberAt slots s)) ss)
 climbs-rising slots last k [] c = tt
-climbs-rising slots last k (s ∷ ss) c = (c .0 .past, climbs-rising slots last (ahead last (numberAt slots s)) ss (c .1))
+climbs-rising slots last k (s ∷ ss) c = (c .0 .past, climbs-rising slots last (numberDistance last (numberAt slots s)) ss (c .1))
 
 -- what is past k is past less
 pub stands-from : (slots : List Incoming) (last j k : ℕ) (ss : List ℕ) → j ≤ k → Stands slots last k ss → Stands slots last j ss
@@ -76,8 +76,8 @@ module _ (slots : List Incoming) where
   next-free last k (s ∷ ss) h w c =
       let far = c .0 .past in
       rw (
-        ne-eqb (numberAt slots s) (step last) (λ z. omega (arith, far, w, ap (ahead last) z, next-near last h)),
-        next-free last (ahead last (numberAt slots s)) ss h (omega (arith, far, w)) (c .1),
+        ne-eqb (numberAt slots s) (step last) (λ z. omega (arith, far, w, ap (numberDistance last) z, next-near last h)),
+        next-free last (numberDistance last (numberAt slots s)) ss h (omega (arith, far, w)) (c .1),
       )
 
   -- ---- a dispatch
@@ -89,17 +89,17 @@ module _ (slots : List Incoming) where
       let far = c .0 .past in
       let less = one-nearer last n h (c .0 .low) (omega (arith, far, e)) in (
         record { low = c .0 .low; complete = c .0 .complete; past = omega (arith, far, e, less) },
-        stepped last (ahead last n) (ahead (step last) n) ss h less (c .1),
+        stepped last (numberDistance last n) (numberDistance (step last) n) ss h less (c .1),
       )
 
   -- what does not follow is farther than 1
-  not-next : (last : ℕ) (i : Incoming) → last < 65536 → Past last 0 i → follows last i ≡ false → 1 < ahead last (i .number .0)
+  not-next : (last : ℕ) (i : Incoming) → last < 65536 → Past last 0 i → follows last i ≡ false → 1 < numberDistance last (i .number .0)
   not-next last i h c e =
       let far = c .past in
-      let other : ahead last (i .number .0) ≡ 1 → ⊥ = λ z. is-next z in
+      let other : numberDistance last (i .number .0) ≡ 1 → ⊥ = λ z. is-next z in
       omega (arith, far, other)
     where
-      is-next : ahead last (i .number .0) ≡ 1 → ⊥
+      is-next : numberDistance last (i .number .0) ≡ 1 → ⊥
       is-next z =
           let n = i .number .0 in
           let t : follows last i ≡ true =
@@ -126,12 +126,12 @@ module _ (slots : List Incoming) where
           (drop (pick b (suc (readyCount slots ss (numberAfter (at s)))) 0) (s ∷ ss))
       go true e rest =
           let is : n ≡ step last = eqb-true n (step last) (both-right (eqb (at s .remaining) 0) (eqb n (step last)) e) in
-          let one-past = ap (ahead last) is ∙ next-near last (c .low) in
+          let one-past = ap (numberDistance last) is ∙ next-near last (c .low) in
           rw (after-plain (at s) (p s))
           (rest
           (record {
             low = first .low;
-            climbs = subst (λ (m : ℕ). Climbs slots m 0 ss) (sym is) (stepped last (ahead last n) 0 ss (c .low) (sym one-past) (c .climbs .1));
+            climbs = subst (λ (m : ℕ). Climbs slots m 0 ss) (sym is) (stepped last (numberDistance last n) 0 ss (c .low) (sym one-past) (c .climbs .1));
           }))
       go false e rest =
           record {
@@ -149,10 +149,10 @@ rest-not : (m n : ℕ) (rest : Bool) → pick (eqb m n) true rest ≡ false → 
 rest-not m n rest e = rw (ne-eqb m n (first-not m n rest e)) at e
 
 -- what is no farther than all that is held stands before it
-pub nearest : (slots : List Incoming) (last k : ℕ) (ss : List ℕ) → Climbs slots last k ss → nearer slots ss last k ≡ 0
-unfolding nearer
+pub nearest : (slots : List Incoming) (last k : ℕ) (ss : List ℕ) → Climbs slots last k ss → placeOf slots ss last k ≡ 0
+unfolding placeOf
 nearest slots last k [] c = refl
-nearest slots last k (s ∷ ss) c = rw (lt-ltb k (ahead last (numberAt slots s)) (c .0 .past))
+nearest slots last k (s ∷ ss) c = rw (lt-ltb k (numberDistance last (numberAt slots s)) (c .0 .past))
 
 -- ---- a slot written that the list does not name, and then named in its place
 module _ (slots : List Incoming) (n : ℕ) (i : Incoming) where
@@ -167,47 +167,47 @@ module _ (slots : List Incoming) (n : ℕ) (i : Incoming) where
   written-climbs last k (s ∷ ss) e c =
       let is = other s ss e in (
         subst (Past last k) (sym is) (c .0),
-        subst (λ (j : Incoming). Climbs with last (ahead last (j .number .0)) ss) (sym is)
-            (written-climbs last (ahead last (numberAt slots s)) ss (omega (arith, e)) (c .1)),
+        subst (λ (j : Incoming). Climbs with last (numberDistance last (j .number .0)) ss) (sym is)
+            (written-climbs last (numberDistance last (numberAt slots s)) ss (omega (arith, e)) (c .1)),
       )
 
   module _ (last : ℕ) (h : last < 65536) (here : n < length slots) (low : i .number .0 < 65536) (complete : i .remaining ≡ 0) where
     abbrev d : ℕ
-    d = ahead last (i .number .0)
+    d = numberDistance last (i .number .0)
 
     own : getD with n noIncoming ≡ i
     own = getD-set-same slots n i noIncoming here
 
     abbrev place : List ℕ → ℕ
-    place ss = nearer slots ss last d
+    place ss = placeOf slots ss last d
 
     abbrev Placed : ℕ → List ℕ → Type 0
     Placed k ss = Climbs with last k (take (place ss) ss ++ (n ∷ drop (place ss) ss))
 
     pub placed-climbs : (k : ℕ) (ss : List ℕ) → times ss n ≡ 0 → holds slots ss (i .number .0) ≡ false → k < d → Climbs slots last k ss → Placed k ss
-    unfolding nearer holds
+    unfolding placeOf holds
     placed-climbs k [] e f z c = (subst (Past last k) (sym own) (record { low = low; complete = complete; past = z }), tt)
     placed-climbs k (s ∷ ss) e f z c =
-        go (ltb d (ahead last (numberAt slots s))) refl
-        (λ free near. placed-climbs (ahead last (numberAt slots s)) ss (omega (arith, e)) free near (c .1))
+        go (ltb d (numberDistance last (numberAt slots s))) refl
+        (λ free near. placed-climbs (numberDistance last (numberAt slots s)) ss (omega (arith, e)) free near (c .1))
       where
         m : ℕ
         m = numberAt slots s
 
-        go : (b : Bool) → ltb d (ahead last m) ≡ b
-            → (holds slots ss (i .number .0) ≡ false → ahead last m < d → Placed (ahead last m) ss)
+        go : (b : Bool) → ltb d (numberDistance last m) ≡ b
+            → (holds slots ss (i .number .0) ≡ false → numberDistance last m < d → Placed (numberDistance last m) ss)
             → let at = pick b 0 (suc (place ss)) in Climbs with last k (take at (s ∷ ss) ++ (n ∷ drop at (s ∷ ss)))
         go true t rest = (
           subst (Past last k) (sym own) (record { low = low; complete = complete; past = z }),
-          subst (λ (j : Incoming). Climbs with last (ahead last (j .number .0)) (s ∷ ss)) (sym own)
+          subst (λ (j : Incoming). Climbs with last (numberDistance last (j .number .0)) (s ∷ ss)) (sym own)
               (written-climbs last d (s ∷ ss) e
-              (record { low = c .0 .low; complete = c .0 .complete; past = ltb-true d (ahead last m) t }, c .1)),
+              (record { low = c .0 .low; complete = c .0 .complete; past = ltb-true d (numberDistance last m) t }, c .1)),
         )
         go false t rest =
             let is = other s ss e in
             let differs : m ≡ i .number .0 → ⊥ = first-not m (i .number .0) (holds slots ss (i .number .0)) f in
-            let apart : ahead last m ≡ d → ⊥ = λ q. differs (same-ahead last m (i .number .0) h (c .0 .low) low q) in (
+            let apart : numberDistance last m ≡ d → ⊥ = λ q. differs (same-ahead last m (i .number .0) h (c .0 .low) low q) in (
               subst (Past last k) (sym is) (c .0),
-              subst (λ (j : Incoming). Placed (ahead last (j .number .0)) ss) (sym is)
-                  (rest (rest-not m (i .number .0) (holds slots ss (i .number .0)) f) (omega (arith, apart, ltb-false d (ahead last m) t))),
+              subst (λ (j : Incoming). Placed (numberDistance last (j .number .0)) ss) (sym is)
+                  (rest (rest-not m (i .number .0) (holds slots ss (i .number .0)) f) (omega (arith, apart, ltb-false d (numberDistance last m) t))),
             )

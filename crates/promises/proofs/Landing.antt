@@ -9,12 +9,12 @@ use Rattle.window.specs.Window.{first, cleared}
 use Rattle.peer.specs.Gate.{fits}
 use Rattle.peer.specs.Outcome.{State, Outcome}
 use Rattle.peer.specs.declared.settings.Settings.{Settings}
-use Rattle.arriving.specs.Arrivals.{roomOf}
-use Rattle.arriving.specs.Window.{takenAt, passedBy}
-use Rattle.arriving.specs.declared.Arrival.{Arrival}
-use Rattle.unsequenced.specs.Calls.{arrivesUnsequenced}
-use Rattle.arrived.specs.Landing as landing
-use Rattle.arrived.proofs.Landing.{unsequenced-lands, unsequenced-quiet}
+use Rattle.arrival.specs.Arrivals.{roomOf}
+use Rattle.arrival.specs.Window.{takenAt, passedBy}
+use Rattle.arrival.specs.declared.Arrival.{Arrival}
+use Rattle.arrive_unsequenced.specs.Calls.{arrivesUnsequenced}
+use Rattle.laws.specs.Landing as landing
+use Rattle.laws.proofs.Landing.{unsequenced-lands, unsequenced-quiet}
 use Rattle.link.specs.Runs.{saysOne}
 use Rattle.promises.proofs.Answers.{Says, unsequenced-says, one-stored, one-not}
 use Rattle.promises.proofs.Windows.{windowOf, Known, Took, passes}

@@ -18,12 +18,12 @@ use Rattle.numbers.specs.declared.refusals.Refusal.{Refusal}
 use Rattle.numbers.specs.declared.refusals.Refusal.the-variants.{NotReceiving, LengthTooLarge, BadCommand}
 use Rattle.numbers.proofs.Settled.{refused-not-done}
 use Rattle.numbers.proofs.BoolLaws.{both-false}
-use Rattle.runs.specs.Runs.{has}
-use Rattle.runs.specs.declared.Free.{Free}
-use Rattle.runs.specs.declared.Free.the-variants.{Lowest, Full}
+use Rattle.cells.specs.Runs.{has}
+use Rattle.cells.specs.declared.Free.{Free}
+use Rattle.cells.specs.declared.Free.the-variants.{Lowest, Full}
 use Rattle.window.specs.Window.{first, distant, marked, marking, cleared}
 use Rattle.window.proofs.Marks.{marked-cleared, marked-same, marked-other}
-use Rattle.parts.specs.declared.groups.Groups.{Groups}
+use Rattle.record.specs.declared.groups.Unsequenced.{Unsequenced}
 use Rattle.peer.specs.Damage.{sound}
 use Rattle.peer.specs.Gate.{fits, gateOf, then, behind}
 use Rattle.peer.specs.Settings.{fitSettings}
@@ -31,27 +31,27 @@ use Rattle.peer.specs.States.{disconnectLater}
 use Rattle.peer.specs.Fresh.{freshPeer}
 use Rattle.peer.specs.Outcome.{State, Outcome, unchanged}
 use Rattle.peer.specs.declared.settings.Settings.{Settings}
-use Rattle.peer.specs.declared.record.Peer.{Peer}
+use Rattle.peer.specs.declared.Peer.{Peer}
 use Rattle.peer.specs.declared.defaults.Kept.{Kept}
 use Rattle.peer.specs.declared.gate.Lent.the-variants.{Store}
 use Rattle.peer.specs.declared.gate.Gate.the-variants.{Open, Shut}
 use Rattle.peer.proofs.Gates.{behind-open, behind-has}
-use Rattle.opening.specs.Calls.{kept, resets}
-use Rattle.storing.specs.Storing.{freeSlot}
-use Rattle.arriving.specs.Arrivals.{answerOf, names, isReceiving, isWhole, arrivalGate, inSlot, roomOf, replyOf}
-use Rattle.arriving.specs.Window.{takenAt, passedBy, judged}
-use Rattle.arriving.specs.declared.Arrival.{Arrival}
-use Rattle.arriving.specs.declared.Fate.{Fate}
-use Rattle.arriving.specs.declared.Fate.the-variants as fate
-use Rattle.arriving.specs.declared.Judged.{Judged}
-use Rattle.unsequenced.specs.Calls.{sendUnsequenced, judgedOn, unsequencedAfter, unsequencedSound, arrivesUnsequenced}
-use Rattle.arrived.proofs.Landing.{judged-has}
-use Rattle.steady.specs.Steady.{SameWindow}
-use Rattle.steady.proofs.Steady.{begin-steady, state-steady, dispatch-steady, receive-window, reliable-window}
-use Rattle.inward.specs.Steps.{beside}
-use Rattle.link.specs.Steps.{step}
+use Rattle.lifecycle.specs.Calls.{kept, resets}
+use Rattle.arrival.specs.Storing.{freeSlot}
+use Rattle.arrival.specs.Arrivals.{answerOf, names, isReceiving, isWhole, arrivalGate, inSlot, roomOf, replyOf}
+use Rattle.arrival.specs.Window.{takenAt, passedBy, judgeWindow}
+use Rattle.arrival.specs.declared.Arrival.{Arrival}
+use Rattle.arrival.specs.declared.Fate.{Fate}
+use Rattle.arrival.specs.declared.Fate.the-variants as fate
+use Rattle.arrival.specs.declared.Judged.{Judged}
+use Rattle.arrive_unsequenced.specs.Calls.{sendUnsequenced, judgedOn, unsequencedAfter, unsequencedSound, arrivesUnsequenced}
+use Rattle.laws.proofs.Landing.{judged-has}
+use Rattle.laws.specs.Steady.{SameWindow}
+use Rattle.laws.proofs.Steady.{begin-steady, state-steady, dispatch-steady, receive-window, reliable-window}
+use Rattle.link_in.specs.Steps.{beside}
+use Rattle.link.specs.Steps.{calls}
 use Rattle.link.specs.Runs.{Asked, comesTo, run, resetState}
-use Rattle.inward.specs.declared.calls.Call.the-variants as inw
+use Rattle.link_in.specs.declared.calls.Call.the-variants as inw
 use Rattle.link.specs.declared.calls.Call.{Call}
 use Rattle.link.specs.declared.calls.Call.the-variants as call
 use Rattle.promises.specs.History.{Concern, resetting, arriving, neither, concern, baseOf}
@@ -64,9 +64,9 @@ use Rattle.promises.proofs.Windows.{Window, windowIn, windowOf, length-
 use Rattle.promises.proofs.Sending.{outward-steady}
 
 -- a group that is near, in another window than the base's or not marked, is taken
-near-taken : (gs : Groups) (g : Group) (n : ℕ) → distant (gs .incoming .0) (g .0) ≡ false
+near-taken : (gs : Unsequenced) (g : Group) (n : ℕ) → distant (gs .incoming .0) (g .0) ≡ false
     → (first (g .0) ≡ gs .incoming .0 → ⊥) ⊎ (marked (gs .words) (g .0) ≡ false)
-    → judged gs g (fate.Stored n) .fate ≡ fate.Stored n
+    → judgeWindow gs g (fate.Stored n) .fate ≡ fate.Stored n
 near-taken gs g n near free = rw near (⊎-elim elsewhere unmarked free)
   where
     P : Bool → Bool → Type 0
@@ -88,7 +88,7 @@ near-stored s a g datagram x good f near free =
     let p = x .peer in
     let room = fits-room sendUnsequenced s a datagram x f in
     let fated : judgedOn s g p .fate ≡ fate.Stored (room .0) =
-    ap (λ (r : Fate). judged (p .groups) g r .fate) (room .1) ∙ near-taken (p .groups) g (room .0) near free in
+    ap (λ (r : Fate). judgeWindow (p .groups) g r .fate) (room .1) ∙ near-taken (p .groups) g (room .0) near free in
     ap (λ (o : Outcome State). o .answer)
     (behind-open (gateOf (fits s (Store (length (x .store)))) (sound p)) x (unsequencedSound s a g datagram x)
     (fits-open sendUnsequenced s a datagram x f good)
@@ -102,7 +102,7 @@ data Deals (c : Call) (x y : State) : Type 0 where
   brings : (a : Arrival) (g : Group) → c ≡ call.Inward (inw.UnsequencedArrival a g) → Deals c x y
   leaves : concern c ≡ neither → SameWindow (x .peer) (y .peer) → Deals c x y
 
-deals : (s : Settings) (c : Call) (datagram : List ℕ) (x : State) → Deals c x (step s c datagram x .after)
+deals : (s : Settings) (c : Call) (datagram : List ℕ) (x : State) → Deals c x (calls s c datagram x .after)
 deals s call.Reset datagram x = clears refl
 deals s (call.Begin mtu channels) datagram x = leaves refl (begin-steady s mtu channels (x .peer) .window)
 deals s (call.SetState state) datagram x = leaves refl (state-steady s state (x .peer) .window)
@@ -221,7 +221,7 @@ again-marks w log g here m = grown-marks w log g (m .full) here (λ h n home. m 
 -- an arrival with a group to take is passed over in state 6 alone
 room-passed : (s : Settings) (p : Peer) → roomOf s p ≡ fate.Passed → eqb (p .standing .state) disconnectLater ≡ true
 room-passed s p =
-    go (eqb (p .standing .state) disconnectLater) (leb (s .waiting) (p .waiting .total)) (freeSlot (p .lists) (p .channels) (p .standing .count))
+    go (eqb (p .standing .state) disconnectLater) (leb (s .waiting) (p .waiting .total)) (freeSlot (p .lists) (p .channels) (p .standing .channels))
   where
     go : (later full : Bool) (free : Free) → pick later fate.Passed (pick full fate.NoRoom (inSlot free)) ≡ fate.Passed → later ≡ true
     go true full free e = refl
@@ -288,17 +288,17 @@ reset-marks s x log m =
     (fresh-marks (s .mtu) (kept (x .peer))) m
 
 step-marks : (s : Settings) (c : Call) (datagram : List ℕ) (x : State) (log : List ℕ) → Marks (windowOf x) log
-    → let o = step s c datagram x in Marks (windowOf (o .after)) (tookBy (concern c) x o log)
+    → let o = calls s c datagram x in Marks (windowOf (o .after)) (tookBy (concern c) x o log)
 step-marks s c datagram x log m = go (deals s c datagram x)
   where
     Then : Call → Type 0
-    Then k = let o = step s k datagram x in Marks (windowOf (o .after)) (tookBy (concern k) x o log)
+    Then k = let o = calls s k datagram x in Marks (windowOf (o .after)) (tookBy (concern k) x o log)
 
-    go : Deals c x (step s c datagram x .after) → Then c
+    go : Deals c x (calls s c datagram x .after) → Then c
     go (clears e) = subst Then (sym e) (reset-marks s x log m)
     go (brings a g e) = subst Then (sym e) (arrival-marks s a g datagram x log m)
     go (leaves n w) =
-        let o = step s c datagram x in
+        let o = calls s c datagram x in
         subst (λ (k : Concern). Marks (windowOf (o .after)) (tookBy k x o log)) (sym n)
         (subst (λ (v : Window). Marks v log) (sym (same-window (x .peer) (o .after .peer) w)) m)
 

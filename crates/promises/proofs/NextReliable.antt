@@ -12,27 +12,27 @@ use lib.Seq.{getD-set-same}
 use borrow.Author.Tests.{eq-eqb}
 use Rattle.numbers.specs.Pick.{pick}
 use Rattle.numbers.specs.Counters.{step}
-use Rattle.slots.specs.Lists.{inItems}
-use Rattle.parts.specs.Fresh.{noIncoming}
-use Rattle.parts.specs.declared.groups.Channel.{Channel}
-use Rattle.parts.specs.declared.groups.Incoming.{Incoming}
+use Rattle.record.specs.Lists.{inItems}
+use Rattle.record.specs.Fresh.{noIncoming}
+use Rattle.record.specs.declared.groups.Channel.{Channel}
+use Rattle.record.specs.declared.groups.Incoming.{Incoming}
 use Rattle.peer.specs.Damage.{sound}
 use Rattle.peer.specs.Gate.{fits, gateOf}
 use Rattle.peer.specs.Sounds.{Whole}
 use Rattle.peer.specs.Outcome.{State}
 use Rattle.peer.specs.declared.settings.Settings.{Settings}
-use Rattle.peer.specs.declared.record.Peer.{Peer}
+use Rattle.peer.specs.declared.Peer.{Peer}
 use Rattle.peer.specs.declared.gate.Lent.the-variants.{Store}
 use Rattle.peer.proofs.Gates.{behind-open}
-use Rattle.dispatching.specs.Dispatching.{follows, numberAfter, readyCount}
-use Rattle.arriving.specs.Arrivals.{stored, answerOf, arrivalGate, replyOf, roomOf, arrivedSlot}
-use Rattle.arriving.specs.declared.Arrival.{Arrival}
-use Rattle.arriving.specs.declared.Fate.{Fate}
-use Rattle.arriving.specs.declared.Fate.the-variants as fate
-use Rattle.arriving.proofs.Admitted.{Admitted, admitted}
-use Rattle.holding.specs.Holding.{ahead, holds, farthest, isPassed, nearer, heldWith}
-use Rattle.reliable.specs.Calls.{sendReliable, channelOf, fateOf, fateOn, reliableAfter, reliableSound, arrivesReliable}
-use Rattle.arrived.proofs.Reliable.{between-whole, between-sound, left-dispatched, held-items}
+use Rattle.dispatch.specs.Dispatching.{follows, numberAfter, readyCount}
+use Rattle.arrival.specs.Arrivals.{stored, answerOf, arrivalGate, replyOf, roomOf, arrivedSlot}
+use Rattle.arrival.specs.declared.Arrival.{Arrival}
+use Rattle.arrival.specs.declared.Fate.{Fate}
+use Rattle.arrival.specs.declared.Fate.the-variants as fate
+use Rattle.arrival.proofs.Admitted.{Admitted, admitted}
+use Rattle.arrive_reliable.specs.Holding.{numberDistance, holds, farthest, isPassed, placeOf, heldWith}
+use Rattle.arrive_reliable.specs.Calls.{sendReliable, channelOf, fateOf, fateOn, reliableAfter, reliableSound, arrivesReliable}
+use Rattle.laws.proofs.Reliable.{between-whole, between-sound, left-dispatched, held-items}
 use Rattle.link.specs.Runs.{run, resetState}
 use Rattle.promises.specs.Reports.{numbersJoined, series}
 use Rattle.promises.specs.Held.{lastIn}
@@ -61,14 +61,14 @@ module _ (s : Settings) (a : Arrival) (datagram : List ℕ) (x : State) (w : Who
   stands : Stands (p .incoming) last 1 items
   stands = k .stands (f .on)
 
-  one-past : ahead last (a .number .0) ≡ 1
-  one-past = ap (ahead last) e ∙ next-near last (stands .low)
+  one-past : numberDistance last (a .number .0) ≡ 1
+  one-past = ap (numberDistance last) e ∙ next-near last (stands .low)
 
   not-held : holds (p .incoming) items (a .number .0) ≡ false
   not-held = ap (holds (p .incoming) items) e ∙ next-free (p .incoming) last 1 items (stands .low) (omega arith) (stands .climbs)
 
   not-passed : isPassed (p .incoming) (channelOf a p) (a .number .0) ≡ false
-  not-passed = by (ahead last (a .number .0)) (holds (p .incoming) items (a .number .0)) one-past not-held
+  not-passed = by (numberDistance last (a .number .0)) (holds (p .incoming) items (a .number .0)) one-past not-held
     where
       by : (d : ℕ) (b : Bool) → d ≡ 1 → b ≡ false → pick (eqb d 0) true (pick (ltb farthest d) true b) ≡ false
       by d b z q = rw (z, q)
@@ -104,8 +104,8 @@ module _ (s : Settings) (a : Arrival) (datagram : List ℕ) (x : State) (w : Who
       held-items a datagram x n w good may (free-now s a datagram x n low w good may stored-there)
       ∙ ap (λ (j : ℕ). take j items ++ (n ∷ drop j items)) nearest-now
     where
-      nearest-now : nearer (p .incoming) items last (ahead last (a .number .0)) ≡ 0
-      nearest-now = ap (nearer (p .incoming) items last) one-past ∙ nearest (p .incoming) last 1 items (stands .climbs)
+      nearest-now : placeOf (p .incoming) items last (numberDistance last (a .number .0)) ≡ 0
+      nearest-now = ap (placeOf (p .incoming) items last) one-past ∙ nearest (p .incoming) last 1 items (stands .climbs)
 
   own : getD pool n noIncoming ≡ arrivedSlot a
   own =

@@ -10,40 +10,40 @@ use Rattle.numbers.specs.Pick.{pick}
 use Rattle.numbers.specs.declared.counters.Group.{Group}
 use Rattle.numbers.specs.declared.counters.Reliable.{Reliable}
 use Rattle.numbers.specs.declared.refusals.Refusal.the-variants.{OutOfRange}
-use Rattle.slots.specs.Lists.{inItems}
-use Rattle.runs.specs.Runs.{first}
-use Rattle.runs.specs.declared.First.{First}
-use Rattle.runs.specs.declared.First.the-variants.{Slot, Empty}
-use Rattle.parts.specs.Damage.{usedOut}
-use Rattle.parts.specs.Fresh.{noChannel, noOutgoing}
-use Rattle.parts.specs.declared.groups.Lists.{Lists}
-use Rattle.parts.specs.declared.groups.Groups.{Groups}
-use Rattle.parts.specs.declared.groups.Channel.{Channel}
-use Rattle.parts.specs.declared.groups.Incoming.{Incoming}
-use Rattle.parts.specs.declared.groups.Outgoing.{Outgoing}
+use Rattle.record.specs.Lists.{inItems}
+use Rattle.cells.specs.Runs.{first}
+use Rattle.cells.specs.declared.First.{First}
+use Rattle.cells.specs.declared.First.the-variants.{Slot, Empty}
+use Rattle.record.specs.Damage.{usedOut}
+use Rattle.record.specs.Fresh.{noChannel, noOutgoing}
+use Rattle.record.specs.declared.groups.Lists.{Lists}
+use Rattle.record.specs.declared.groups.Unsequenced.{Unsequenced}
+use Rattle.record.specs.declared.groups.Channel.{Channel}
+use Rattle.record.specs.declared.groups.Incoming.{Incoming}
+use Rattle.record.specs.declared.groups.Outgoing.{Outgoing}
 use Rattle.peer.specs.Damage.{sound}
 use Rattle.peer.specs.Gate.{fits, gateOf, behind}
 use Rattle.peer.specs.States.{lastState}
 use Rattle.peer.specs.Outcome.{State, Outcome, finished, unchanged}
 use Rattle.peer.specs.declared.settings.Settings.{Settings}
-use Rattle.peer.specs.declared.record.Peer.{Peer}
+use Rattle.peer.specs.declared.Peer.{Peer}
 use Rattle.peer.specs.declared.gate.Lent.the-variants as lent
 use Rattle.peer.specs.declared.gate.Gate.{Gate}
 use Rattle.peer.proofs.Gates.{behind-has}
-use Rattle.opening.specs.Calls.{beginFits, begun, beginsSound, begins, stated, setsStateSound, setsState}
-use Rattle.throttling.specs.Calls.{throttlesSound, throttles}
-use Rattle.dispatching.specs.Dispatching.{readyCount, readyLast, movedOn, dispatchedBy}
-use Rattle.dispatching.specs.declared.Dispatched.{Dispatched}
+use Rattle.lifecycle.specs.Calls.{beginFits, begun, beginsSound, begins, stated, setsStateSound, setsState}
+use Rattle.round_trip.specs.Calls.{throttlesSound, throttles}
+use Rattle.dispatch.specs.Dispatching.{readyCount, readyLast, movedOn, dispatchedBy}
+use Rattle.dispatch.specs.Dispatching.{Dispatched}
 use Rattle.dispatch.specs.Calls.{dispatchGate, dispatchedOn, dispatchesSound, dispatches}
 use Rattle.receive.specs.Calls.{receivesFrom, receivesSound, receives}
-use Rattle.arriving.specs.Arrivals.{arrivedSlot}
-use Rattle.arriving.specs.declared.Arrival.{Arrival}
-use Rattle.arriving.specs.declared.Fate.the-variants as fate
-use Rattle.holding.specs.Holding.{heldWith}
-use Rattle.unsequenced.specs.Calls.{arrivesUnsequenced}
-use Rattle.reliable.specs.Calls.{channelOf, reliableAfter, arrivesReliable}
-use Rattle.arrived.proofs.Unsequenced.{unsequenced-has}
-use Rattle.arrived.proofs.Reliable.{reliable-has}
+use Rattle.arrival.specs.Arrivals.{arrivedSlot}
+use Rattle.arrival.specs.declared.Arrival.{Arrival}
+use Rattle.arrival.specs.declared.Fate.the-variants as fate
+use Rattle.arrive_reliable.specs.Holding.{heldWith}
+use Rattle.arrive_unsequenced.specs.Calls.{arrivesUnsequenced}
+use Rattle.arrive_reliable.specs.Calls.{channelOf, reliableAfter, arrivesReliable}
+use Rattle.laws.proofs.Unsequenced.{unsequenced-has}
+use Rattle.laws.proofs.Reliable.{reliable-has}
 use Rattle.promises.specs.Outbook.{itemOf, waiting}
 use Rattle.promises.proofs.Reporting.{part-set}
 
@@ -53,8 +53,8 @@ givenOn cs c = getD cs c noChannel .«outgoing_reliable»
 
 -- the counters of reliable numbers, and how many channels count
 pub record Uncounted (p q : Peer) : Type 0 where
-  pub own : q .flow .reliable ≡ p .flow .reliable
-  pub many : q .standing .count ≡ p .standing .count
+  pub own : q .flow .«own_number» ≡ p .flow .«own_number»
+  pub many : q .standing .channels ≡ p .standing .channels
   pub given : (c : ℕ) → givenOn (q .channels) c ≡ givenOn (p .channels) c
 
 pub record Aside (p q : Peer) : Type 0 where
@@ -89,7 +89,7 @@ state-aside s state p = behind-aside p (gate s p) (setsStateSound state p) (go (
 pub begin-leaves : (s : Settings) (mtu many : ℕ) (p : Peer) → waiting (begins s mtu many p .after) ≡ waiting p
 begin-leaves s mtu many p =
     behind-has (gate s p) p (beginsSound mtu many p) (λ (o : Outcome Peer). waiting (o .after) ≡ waiting p) (λ why. refl)
-    (λ e. go (beginFits mtu many (p .standing .count)))
+    (λ e. go (beginFits mtu many (p .standing .channels)))
   where
     go : (b : Bool) → waiting (pick b (finished (begun mtu many p)) (unchanged OutOfRange p) .after) ≡ waiting p
     go true = refl
@@ -116,7 +116,7 @@ record Inward (c : Channel) (l : Lists) (d : Dispatched) : Type 0 where
   names : usedOut (d .lists) ≡ usedOut l
   given : d .channel .«outgoing_reliable» ≡ c .«outgoing_reliable»
 
-by-dispatch : (slots : List Incoming) (c : Channel) (l : Lists) (g : Groups) → Inward c l (dispatchedBy slots c l g)
+by-dispatch : (slots : List Incoming) (c : Channel) (l : Lists) (g : Unsequenced) → Inward c l (dispatchedBy slots c l g)
 by-dispatch slots c l g =
     let n = readyCount slots (inItems (c .held)) (c .«incoming_reliable» .0) in
     let d = movedOn n (readyLast slots (inItems (c .held)) (c .«incoming_reliable» .0)) c l g in

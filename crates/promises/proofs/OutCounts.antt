@@ -9,12 +9,12 @@ use lib.Dec.{eqb}
 use lib.ListN.{length}
 use borrow.Author.Tests.{eqb-true, eq-eqb}
 use Rattle.numbers.specs.Pick.{pick}
-use Rattle.runs.specs.Runs.{has}
-use Rattle.runs.specs.Free.{once}
-use Rattle.slots.specs.Lists.{outItems}
-use Rattle.slots.proofs.Keeps.{one, times, times-append, times-none, times-some, some-times, once-at-most}
-use Rattle.parts.specs.Damage.{usedOut}
-use Rattle.parts.specs.declared.groups.Lists.{Lists}
+use Rattle.cells.specs.Runs.{has}
+use Rattle.cells.specs.Free.{once}
+use Rattle.record.specs.Lists.{outItems}
+use Rattle.record.proofs.Keeps.{one, times, times-append, times-none, times-some, some-times, once-at-most}
+use Rattle.record.specs.Damage.{usedOut}
+use Rattle.record.specs.declared.groups.Lists.{Lists}
 use Rattle.promises.specs.Counts.{count}
 use Rattle.promises.specs.Outbook.{missing}
 
@@ -157,10 +157,10 @@ pub counts-sums : {A : Type 0} (f : A → Bool) (g : ℕ → A) → Sums (λ (ss
 counts-sums f g xs ys = ap (count f) (map-append g xs ys) ∙ count-append f (map g xs) (map g ys)
 
 pub sums-used : (f : List ℕ → ℕ) → Sums f → (l : Lists)
-    → f (usedOut l) ≡ f (outItems (l .sent)) + (f (outItems (l .reliable)) + f (outItems (l .outgoing)))
+    → f (usedOut l) ≡ f (outItems (l .sent)) + (f (outItems (l .«send_reliable»)) + f (outItems (l .outgoing)))
 sums-used f adds l =
     omega (
       arith,
-      adds (outItems (l .sent)) (outItems (l .reliable) ++ outItems (l .outgoing)),
-      adds (outItems (l .reliable)) (outItems (l .outgoing)),
+      adds (outItems (l .sent)) (outItems (l .«send_reliable») ++ outItems (l .outgoing)),
+      adds (outItems (l .«send_reliable»)) (outItems (l .outgoing)),
     )

@@ -8,38 +8,38 @@ use mathlib.Core.List.{List, [], _∷_}
 use native.Mathlib.Omega.{arith}
 use lib.ListN.{length, getD, set}
 use Rattle.numbers.specs.Pick.{pick}
-use Rattle.runs.specs.Runs.{first}
-use Rattle.runs.specs.Free.{once}
-use Rattle.slots.specs.Lists.{outItems}
-use Rattle.slots.proofs.Keeps.{one, times, times-append}
-use Rattle.parts.specs.Damage.{usedOut}
-use Rattle.parts.specs.Fresh.{noOutgoing}
-use Rattle.parts.specs.declared.groups.Lists.{Lists}
-use Rattle.parts.specs.declared.groups.Outgoing.{Outgoing}
+use Rattle.cells.specs.Runs.{first}
+use Rattle.cells.specs.Free.{once}
+use Rattle.record.specs.Lists.{outItems}
+use Rattle.record.proofs.Keeps.{one, times, times-append}
+use Rattle.record.specs.Damage.{usedOut}
+use Rattle.record.specs.Fresh.{noOutgoing}
+use Rattle.record.specs.declared.groups.Lists.{Lists}
+use Rattle.record.specs.declared.groups.Outgoing.{Outgoing}
 use Rattle.peer.specs.Damage.{sound}
 use Rattle.peer.specs.Gate.{fits, gateOf}
 use Rattle.peer.specs.Outcome.{Outcome}
 use Rattle.peer.specs.Sounds.{Whole}
 use Rattle.peer.specs.declared.settings.Settings.{Settings}
-use Rattle.peer.specs.declared.record.Peer.{Peer}
+use Rattle.peer.specs.declared.Peer.{Peer}
 use Rattle.peer.specs.declared.gate.Lent.the-variants as lent
 use Rattle.peer.specs.declared.gate.Gate.{Gate}
 use Rattle.peer.proofs.Gates.{sound-open, behind-has}
 use Rattle.peer.proofs.Clauses.{Clauses, sound-clauses}
-use Rattle.stamps.specs.Counting.{acknowledged}
-use Rattle.sendstep.specs.Steps.{listOf, isAcknowledged, head, sentAs}
-use Rattle.sendstep.specs.Calls.{stepsFrom, stepsSound, steps}
-use Rattle.sendstep.specs.declared.heads.Queue.{Queue}
-use Rattle.sendstep.proofs.Freeing.{sentBy, sent-by, without-takes, joined-keeps}
+use Rattle.command.specs.Flags.{acknowledged}
+use Rattle.send_step.specs.Steps.{listOf, isAcknowledged, head, sentAs}
+use Rattle.send_step.specs.Calls.{stepsFrom, stepsSound, steps}
+use Rattle.send_step.specs.declared.heads.Queue.{Queue}
+use Rattle.send_step.proofs.Freeing.{sentBy, sent-by, without-takes, joined-keeps}
 use Rattle.acknowledge.specs.Calls.{acknowledgesSound, acknowledges}
 use Rattle.timeouts.specs.Calls.{checksSound, checks}
-use Rattle.answered.specs.Freeing.{Removes}
-use Rattle.answered.specs.Freeing as freeing
-use Rattle.answered.specs.Moving.{Moves}
-use Rattle.answered.proofs.Acknowledged.{acknowledge-removes}
-use Rattle.answered.proofs.Checked.{check-moves, check-sounds}
+use Rattle.laws.specs.Freeing.{Removes}
+use Rattle.laws.specs.Freeing as freeing
+use Rattle.laws.specs.Moving.{Moves}
+use Rattle.laws.proofs.Acknowledged.{acknowledge-removes}
+use Rattle.laws.proofs.Checked.{check-moves, check-sounds}
 use Rattle.promises.specs.Counts.{count}
-use Rattle.promises.specs.Outbook.{Item, itemOf, itemsAt, waiting, missing, gone, Removed, heard, isNamed}
+use Rattle.promises.specs.Outbook.{Item, itemOf, itemsAt, waiting, missing, gone, heard, isNamed}
 use Rattle.promises.proofs.Reporting.{part-set}
 use Rattle.promises.proofs.OutCounts.{count-map, count-all, map-same, count-same, once-times, missing-none, missing-count}
 

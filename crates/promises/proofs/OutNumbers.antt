@@ -19,47 +19,48 @@ use Rattle.numbers.specs.declared.clock.Trip.{Trip}
 use Rattle.numbers.specs.declared.clock.Trip.the-variants.{PassedOver, Taken}
 use Rattle.numbers.specs.declared.refusals.Refusal.the-variants.{OutOfRange}
 use Rattle.numbers.proofs.BoolLaws.{both-right}
-use Rattle.slots.specs.Lists.{outItems}
-use Rattle.runs.specs.Runs.{first}
-use Rattle.runs.specs.declared.First.{First}
-use Rattle.runs.specs.declared.First.the-variants.{Slot, Empty}
-use Rattle.parts.specs.Fresh.{noChannel}
-use Rattle.parts.specs.Sizes.{channels, itself}
-use Rattle.parts.specs.Updates.{withNumbers, withTransit}
-use Rattle.parts.specs.declared.groups.Channel.{Channel}
-use Rattle.parts.specs.declared.groups.Flow.{Flow}
-use Rattle.parts.specs.declared.groups.Outgoing.{Outgoing}
-use Rattle.parts.specs.declared.groups.Standing.{Standing}
+use Rattle.record.specs.Lists.{outItems}
+use Rattle.cells.specs.Runs.{first}
+use Rattle.cells.specs.declared.First.{First}
+use Rattle.cells.specs.declared.First.the-variants.{Slot, Empty}
+use Rattle.record.specs.Fresh.{noChannel}
+use Rattle.record.specs.Sizes.{channels, itself}
+use Rattle.record.specs.Updates.{withNumbers, withTransit}
+use Rattle.record.specs.declared.groups.Channel.{Channel}
+use Rattle.record.specs.declared.groups.Flow.{Flow}
+use Rattle.record.specs.declared.groups.Outgoing.{Outgoing}
+use Rattle.record.specs.declared.groups.Standing.{Standing}
 use Rattle.peer.specs.Damage.{sound}
 use Rattle.peer.specs.Fresh.{freshPeer}
 use Rattle.peer.specs.Gate.{fits, gateOf, onRecord}
 use Rattle.peer.specs.Outcome.{Outcome, finished, unchanged}
 use Rattle.peer.specs.Sounds.{Whole}
 use Rattle.peer.specs.declared.settings.Settings.{Settings}
-use Rattle.peer.specs.declared.record.Peer.{Peer}
+use Rattle.peer.specs.declared.Peer.{Peer}
 use Rattle.peer.specs.declared.defaults.Kept.{Kept}
 use Rattle.peer.specs.declared.gate.Lent.the-variants as lent
 use Rattle.peer.proofs.Gates.{behind-has}
 use Rattle.peer.proofs.Ranges.{count-high}
-use Rattle.opening.specs.Calls.{beginFits, begun, beginsSound, begins}
-use Rattle.stamps.specs.Counting.{acknowledged, unsequenced, isItself, groupStep, unreliableStep, countersAfter, reliableOf, channelAt, countersAt, numbered}
-use Rattle.stamps.specs.declared.counting.Counters.{Counters}
-use Rattle.stamps.specs.declared.pieces.Piece.{Piece}
+use Rattle.lifecycle.specs.Calls.{beginFits, begun, beginsSound, begins}
+use Rattle.command.specs.Flags.{acknowledged, unsequenced}
+use Rattle.outbox.specs.Counting.{isItself, groupStep, unreliableStep, countersAfter, reliableOf, channelAt, countersAt, numbered}
+use Rattle.outbox.specs.declared.counting.Counters.{Counters}
+use Rattle.outbox.specs.declared.pieces.Piece.{Piece}
 use Rattle.setup.specs.Queueing.{stampOf, made, queuedAt, queued, queuedAll}
 use Rattle.setup.specs.Calls.{onChannel}
 use Rattle.setup.specs.Taking.{Ready, filled}
 use Rattle.setup.proofs.Sound.{fit-on, queued-standing}
 use Rattle.setup.proofs.Taking.{queued-at}
 use Rattle.setup.proofs.Taking.{step as setup}
-use Rattle.sendstep.specs.Steps.{listOf, isAcknowledged, carrying, head, sentAs}
-use Rattle.sendstep.specs.Calls.{stepsFrom, stepsSound, steps}
-use Rattle.sendstep.specs.declared.heads.Queue.{Queue}
-use Rattle.removal.specs.Removal.{spotOf, flowWithout}
-use Rattle.removal.specs.declared.Spot.{Spot}
-use Rattle.removal.specs.declared.Spot.the-variants as spot
+use Rattle.send_step.specs.Steps.{listOf, isAcknowledged, carrying, head, sentAs}
+use Rattle.send_step.specs.Calls.{stepsFrom, stepsSound, steps}
+use Rattle.send_step.specs.declared.heads.Queue.{Queue}
+use Rattle.acknowledge.specs.Removal.{spotOf, flowWithout}
+use Rattle.acknowledge.specs.declared.removal.Spot.{Spot}
+use Rattle.acknowledge.specs.declared.removal.Spot.the-variants as spot
 use Rattle.acknowledge.specs.Calls.{heardIn, acknowledgesBy, acknowledgesSound, acknowledges}
 use Rattle.timeouts.specs.Calls.{checksSound, checks}
-use Rattle.transit.proofs.Carrying.{same-all}
+use Rattle.laws.proofs.Carrying.{same-all}
 use Rattle.promises.specs.Counts.{those}
 use Rattle.promises.specs.Outbook.{Item, itemOf, numberedOn}
 use Rattle.promises.proofs.Reporting.{Rises, lastFrom, rises-on, last-on}
@@ -98,12 +99,12 @@ abbrev lastBy : ℕ → Reliable → List Channel → ℕ
 lastBy c own cs = pick (eqb c itself) (own .0) (givenOn cs c .0)
 
 abbrev lastOn : ℕ → Peer → ℕ
-lastOn c p = lastBy c (p .flow .reliable) (p .channels)
+lastOn c p = lastBy c (p .flow .«own_number») (p .channels)
 
 pub record Counted (c : ℕ) (is : List Item) (p : Peer) : Type 0 where
   pub rises : Rises 0 (numbersOn c is)
   pub last : lastOn c p ≡ lastFrom 0 (numbersOn c is)
-  pub early : p .standing .count ≡ 0 → eqb c itself ≡ false → numbersOn c is ≡ []
+  pub early : p .standing .channels ≡ 0 → eqb c itself ≡ false → numbersOn c is ≡ []
 
 pub uncounted-counted : (c : ℕ) (is : List Item) (p q : Peer) → Uncounted p q → Counted c is p → Counted c is q
 uncounted-counted c is p q u k =
@@ -168,8 +169,8 @@ by-own c own cs e = rw e
 by-given : (c : ℕ) (own : Reliable) (cs : List Channel) → eqb c itself ≡ false → lastBy c own cs ≡ givenOn cs c .0
 by-given c own cs e = rw e
 
-module _ (x : Piece) (p : Peer) (whole : Whole p) (most : p .standing .count ≤ channels)
-    (on : onChannel (x .command .channel) (p .standing .count) ≡ true) (c : ℕ) where
+module _ (x : Piece) (p : Peer) (whole : Whole p) (most : p .standing .channels ≤ channels)
+    (on : onChannel (x .command .channel) (p .standing .channels) ≡ true) (c : ℕ) where
   abbrev byte : ℕ
   byte = x .command .byte
 
@@ -177,7 +178,7 @@ module _ (x : Piece) (p : Peer) (whole : Whole p) (most : p .standing .count ≤
   channel = x .command .channel
 
   abbrev k : Counters
-  k = countersAt (p .flow .reliable) (p .channels) channel (p .groups .outgoing)
+  k = countersAt (p .flow .«own_number») (p .channels) channel (p .groups .outgoing)
 
   abbrev after : Counters
   after = stampOf x p .counters
@@ -200,20 +201,20 @@ module _ (x : Piece) (p : Peer) (whole : Whole p) (most : p .standing .count ≤
   own-other d n e =
       other n
       (by-own c (after .own) (numbered (p .channels) channel after) d ∙ ap (λ (r : Reliable). r .0) e
-      ∙ sym (by-own c (p .flow .reliable) (p .channels) d))
+      ∙ sym (by-own c (p .flow .«own_number») (p .channels) d))
 
   given-other : eqb c itself ≡ false → numberedOn c item ≡ false → givenOn (numbered (p .channels) channel after) c ≡ givenOn (p .channels) c
       → Gives c item (lastOn c p) now
   given-other d n e =
       other n
       (by-given c (after .own) (numbered (p .channels) channel after) d ∙ ap (λ (r : Reliable). r .0) e
-      ∙ sym (by-given c (p .flow .reliable) (p .channels) d))
+      ∙ sym (by-given c (p .flow .«own_number») (p .channels) d))
 
   own-gives : isItself channel ≡ true → (d : Bool) → eqb c itself ≡ d → Gives c item (lastOn c p) now
   own-gives a true d =
       let same : channel ≡ c = eqb-true channel itself a ∙ sym (eqb-true c itself d) in
       let number = own-number byte channel (x .offset) k a in
-      next (rw (eq-eqb channel c same, d)) (number ∙ ap step (sym (by-own c (p .flow .reliable) (p .channels) d)))
+      next (rw (eq-eqb channel c same, d)) (number ∙ ap step (sym (by-own c (p .flow .«own_number») (p .channels) d)))
       (by-own c (after .own) (numbered (p .channels) channel after) d ∙ own-steps byte channel (x .offset) k a ∙ sym number)
   own-gives a false d =
       given-other d (off (ne-eqb channel c (λ z. eqb-false c itself d (sym z ∙ eqb-true channel itself a))))
@@ -226,9 +227,9 @@ module _ (x : Piece) (p : Peer) (whole : Whole p) (most : p .standing .count ≤
   asking-gives a b false d true t =
       let same : channel ≡ c = eqb-true channel c t in
       let number = asking-number byte channel (x .offset) k a b in
-      let there : channel < length (p .channels) = omega (arith, on-there channel (p .standing .count) on a, most, whole .channels) in
+      let there : channel < length (p .channels) = omega (arith, on-there channel (p .standing .channels) on a, most, whole .channels) in
       next (rw (t, d, b))
-      (number ∙ ap (λ (n : ℕ). step (givenOn (p .channels) n .0)) same ∙ ap step (sym (by-given c (p .flow .reliable) (p .channels) d)))
+      (number ∙ ap (λ (n : ℕ). step (givenOn (p .channels) n .0)) same ∙ ap step (sym (by-given c (p .flow .«own_number») (p .channels) d)))
       (by-given c (after .own) (numbered (p .channels) channel after) d
       ∙ ap (λ (n : ℕ). givenOn (numbered (p .channels) channel after) n .0) (sym same)
       ∙ ap (λ (y : Channel). y .«outgoing_reliable» .0) (getD-set-same (p .channels) channel _ noChannel there)
@@ -258,16 +259,16 @@ module _ (x : Piece) (p : Peer) (whole : Whole p) (most : p .standing .count ≤
       go false a false h = rest-gives a h (eqb c itself) refl
 
   -- before begin only the peer's own numbers are given out
-  early-off : p .standing .count ≡ 0 → eqb c itself ≡ false → numberedOn c item ≡ false
+  early-off : p .standing .channels ≡ 0 → eqb c itself ≡ false → numberedOn c item ≡ false
   early-off z far = go (isItself channel) refl
     where
       go : (a : Bool) → isItself channel ≡ a → numberedOn c item ≡ false
       go true a = off (ne-eqb channel c (λ e. eqb-false c itself far (sym e ∙ eqb-true channel itself a)))
-      go false a = absurd (omega (arith, z, on-there channel (p .standing .count) on a))
+      go false a = absurd (omega (arith, z, on-there channel (p .standing .channels) on a))
 
 -- ---- a command more
-gives-counted : (c : ℕ) (is : List Item) (i : Item) (p q : Peer) → q .standing .count ≡ p .standing .count
-    → (p .standing .count ≡ 0 → eqb c itself ≡ false → numberedOn c i ≡ false) → Gives c i (lastOn c p) (lastOn c q) → Counted c is p
+gives-counted : (c : ℕ) (is : List Item) (i : Item) (p q : Peer) → q .standing .channels ≡ p .standing .channels
+    → (p .standing .channels ≡ 0 → eqb c itself ≡ false → numberedOn c i ≡ false) → Gives c i (lastOn c p) (lastOn c q) → Counted c is p
     → Counted c (is ++ (i ∷ [])) q
 gives-counted c is i p q many early (next n r a) k =
     let log = numbersOn c is in
@@ -299,7 +300,7 @@ piece-counted c is x xs p r k =
     let t = setup x xs p r in
     let on = fit-on x xs p (r .fit) in
     let most = count-high p (r .good) in
-    gives-counted c is (itemOf (made x p)) p (queued x p) (ap (λ (s : Standing). s .count) (queued-standing x p))
+    gives-counted c is (itemOf (made x p)) p (queued x p) (ap (λ (s : Standing). s .channels) (queued-standing x p))
     (early-off x p (r .whole) most on c)
     (subst (λ (q : Peer). Gives c (itemOf (made x p)) (lastOn c p) (lastOn c q)) (sym (queued-at x p (t .slot) (t .low)))
     (gives x p (r .whole) most on c)) k
@@ -326,24 +327,24 @@ fresh-counted c mtu k = record { rises = tt; last = go (eqb c itself); early = �
     go true = refl
     go false = new-given c
 
-begun-counted : (c : ℕ) (is : List Item) (mtu count : ℕ) (p : Peer) → p .standing .count ≡ 0 → Counted c is p → Counted c is (begun mtu count p)
+begun-counted : (c : ℕ) (is : List Item) (mtu count : ℕ) (p : Peer) → p .standing .channels ≡ 0 → Counted c is p → Counted c is (begun mtu count p)
 begun-counted c is mtu count p zero k = record { rises = k .rises; last = go (eqb c itself) refl; early = λ z far. k .early zero far }
   where
-    go : (b : Bool) → eqb c itself ≡ b → pick b (p .flow .reliable .0) (givenOn (replicate channels noChannel) c .0) ≡ lastFrom 0 (numbersOn c is)
-    go true e = sym (by-own c (p .flow .reliable) (p .channels) e) ∙ k .last
+    go : (b : Bool) → eqb c itself ≡ b → pick b (p .flow .«own_number» .0) (givenOn (replicate channels noChannel) c .0) ≡ lastFrom 0 (numbersOn c is)
+    go true e = sym (by-own c (p .flow .«own_number») (p .channels) e) ∙ k .last
     go false e = new-given c ∙ sym (ap (lastFrom 0) (k .early zero e))
 
 pub begin-counted : (s : Settings) (mtu count : ℕ) (p : Peer) (c : ℕ) (is : List Item) → Counted c is p → Counted c is (begins s mtu count p .after)
 begin-counted s mtu count p c is k =
     behind-has (gateOf (fits s lent.Nothing) (sound p)) p (beginsSound mtu count p) (λ (o : Outcome Peer). Counted c is (o .after)) (λ why. k)
-    (λ e. go (beginFits mtu count (p .standing .count)) refl)
+    (λ e. go (beginFits mtu count (p .standing .channels)) refl)
   where
-    go : (b : Bool) → beginFits mtu count (p .standing .count) ≡ b
+    go : (b : Bool) → beginFits mtu count (p .standing .channels) ≡ b
         → Counted c is (pick b (finished (begun mtu count p)) (unchanged OutOfRange p) .after)
     go true e =
         let zero-now = both-right (leb count channels) _
         (both-right (leb 1 count) _ (both-right (leb mtu mostMtu) _ (both-right (leb leastMtu mtu) _ e))) in
-        begun-counted c is mtu count p (eqb-true (p .standing .count) 0 zero-now) k
+        begun-counted c is mtu count p (eqb-true (p .standing .channels) 0 zero-now) k
     go false e = k
 
 -- ---- send step, acknowledgement and timeout check give out none
@@ -355,7 +356,7 @@ pub step-uncounted : (s : Settings) (k : Queue) (time : ℕ) (p : Peer) → Unco
 unfolding sentAs
 step-uncounted s k time p = behind-uncounted s p (stepsSound k time p) (go (first (outItems (listOf k (p .lists)))))
   where
-    own : (o : Outgoing) (b : Bool) → pick b (carrying (p .flow) o) (p .flow) .reliable ≡ p .flow .reliable
+    own : (o : Outgoing) (b : Bool) → pick b (carrying (p .flow) o) (p .flow) .«own_number» ≡ p .flow .«own_number»
     own o true = refl
     own o false = refl
 
@@ -363,10 +364,10 @@ step-uncounted s k time p = behind-uncounted s p (stepsSound k time p) (go (firs
     go Empty = uncounted p
     go (Slot n) = record { own = own (head p n time) (isAcknowledged (head p n time)); many = refl; given = λ c. refl }
 
-removal-own : (w : Spot) (o : Outgoing) (f : Flow) → flowWithout w o f .reliable ≡ f .reliable
+removal-own : (w : Spot) (o : Outgoing) (f : Flow) → flowWithout w o f .«own_number» ≡ f .«own_number»
 removal-own (spot.Sent k) o f = go (o .packet)
   where
-    go : (b : Bool) → pick b (withTransit f (minus 32 (f .transit) (o .length))) f .reliable ≡ f .reliable
+    go : (b : Bool) → pick b (withTransit f (minus 32 (f .transit) (o .length))) f .«own_number» ≡ f .«own_number»
     go true = refl
     go false = refl
 removal-own (spot.Reliable k) o f = refl

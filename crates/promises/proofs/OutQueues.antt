@@ -7,23 +7,22 @@ use mathlib.Core.List.{List, [], _∷_, _++_, map, append-nil}
 use native.Mathlib.Omega.{arith}
 use lib.ListN.{length, drop, getD, length-map, List·getD-map}
 use lib.Seq.{drop-length, drop-append-seam, ext-getD}
-use Rattle.runs.specs.Runs.{has}
-use Rattle.runs.proofs.Views.{at-any}
-use Rattle.slots.specs.Lists.{outItems}
-use Rattle.slots.specs.declared.outgoing.OutList.{OutList}
-use Rattle.slots.proofs.Keeps.{times, none-times, once-at-most}
-use Rattle.parts.specs.Damage.{usedOut}
-use Rattle.parts.specs.Fresh.{noOutgoing}
-use Rattle.peer.specs.declared.record.Peer.{Peer}
+use Rattle.cells.specs.Runs.{has}
+use Rattle.cells.proofs.Views.{at-any}
+use Rattle.record.specs.Lists.{outItems}
+use Rattle.record.specs.declared.outgoing.OutList.{OutList}
+use Rattle.record.proofs.Keeps.{times, none-times, once-at-most}
+use Rattle.record.specs.Damage.{usedOut}
+use Rattle.record.specs.Fresh.{noOutgoing}
+use Rattle.peer.specs.declared.Peer.{Peer}
 use Rattle.peer.proofs.Clauses.{sound-clauses}
-use Rattle.stamps.specs.declared.pieces.Piece.{Piece}
+use Rattle.outbox.specs.declared.pieces.Piece.{Piece}
 use Rattle.setup.specs.Queueing.{queued, queuedAll}
 use Rattle.setup.specs.Taking.{Ready, taken, filled}
 use Rattle.setup.proofs.Sound.{queuedAll-sound}
 use Rattle.setup.proofs.Taking.{taken-step, taken-filled, taken-others}
 use Rattle.setup.proofs.Taking.{step as setup}
-use Rattle.sent.specs.Done.{joined}
-use Rattle.sent.proofs.Ends.{Ends}
+use Rattle.laws.proofs.Ends.{Ends}
 use Rattle.promises.specs.Counts.{count}
 use Rattle.promises.specs.Outbook.{Item, itemOf, itemsAt, waiting, joinedOut}
 use Rattle.promises.proofs.OutCounts.{map-same, Sums, sums-used, times-sums, counts-sums}
@@ -77,11 +76,11 @@ module _ (xs : List Piece) (p : Peer) (r : Ready xs p) where
         go : (c : Bool) → Ends c (p .lists) (q .lists) (taken xs p) → joinedOut p q ≡ itemsAt q (taken xs p)
         go true e =
             ap₂ (λ (ys zs : List ℕ). itemsAt q ys ++ itemsAt q zs) (stayed (p .lists .outgoing) (q .lists .outgoing) (e .other))
-            (grew (outItems (p .lists .reliable)) (outItems (q .lists .reliable)) (taken xs p) (e .ends))
+            (grew (outItems (p .lists .«send_reliable»)) (outItems (q .lists .«send_reliable»)) (taken xs p) (e .ends))
         go false e =
             ap₂ (λ (ys zs : List ℕ). itemsAt q ys ++ itemsAt q zs)
             (grew (outItems (p .lists .outgoing)) (outItems (q .lists .outgoing)) (taken xs p) (e .ends))
-            (stayed (p .lists .reliable) (q .lists .reliable) (e .other))
+            (stayed (p .lists .«send_reliable») (q .lists .«send_reliable») (e .other))
             ∙ append-nil (itemsAt q (taken xs p))
 
     pub joined-news : joinedOut p q ≡ news
@@ -99,7 +98,7 @@ module _ (xs : List Piece) (p : Peer) (r : Ready xs p) where
               sums-used f adds (p .lists),
               ap (λ (l : OutList). f (outItems l)) (e .sent),
               ap (λ (l : OutList). f (outItems l)) (e .other),
-              ap f (e .ends) ∙ adds (outItems (p .lists .reliable)) (taken xs p),
+              ap f (e .ends) ∙ adds (outItems (p .lists .«send_reliable»)) (taken xs p),
             )
         go false e =
             omega (

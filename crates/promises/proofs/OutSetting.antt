@@ -10,30 +10,30 @@ use borrow.Author.Tests.{leb-true}
 use Rattle.numbers.specs.Pick.{pick}
 use Rattle.numbers.proofs.BoolLaws.{both-true}
 use Rattle.command.specs.Rows.{namesFields}
-use Rattle.parts.specs.Sizes.{itself}
+use Rattle.record.specs.Sizes.{itself}
 use Rattle.peer.specs.Damage.{sound}
 use Rattle.peer.specs.Gate.{fits, gateOf}
 use Rattle.peer.specs.Outcome.{Outcome, finished}
 use Rattle.peer.specs.Sounds.{Whole}
 use Rattle.peer.specs.declared.settings.Settings.{Settings}
-use Rattle.peer.specs.declared.record.Peer.{Peer}
+use Rattle.peer.specs.declared.Peer.{Peer}
 use Rattle.peer.specs.declared.gate.Lent.the-variants as lent
 use Rattle.peer.specs.declared.gate.Gate.{Gate}
 use Rattle.peer.proofs.Gates.{sound-open, behind-has, behind-open}
-use Rattle.stamps.specs.Counting.{isItself}
-use Rattle.stamps.specs.Pieces.{toReliable}
-use Rattle.stamps.specs.declared.pieces.Piece.{Piece}
+use Rattle.outbox.specs.Counting.{isItself}
+use Rattle.outbox.specs.Pieces.{toReliable}
+use Rattle.outbox.specs.declared.pieces.Piece.{Piece}
 use Rattle.setup.specs.Queueing.{room, queued, queuedAll}
 use Rattle.setup.specs.Calls.{onChannel, setupGate, setsUpSound, setsUp}
 use Rattle.setup.specs.Taking.{allFit, Ready, taken}
 use Rattle.setup.proofs.Sound.{setup-open}
-use Rattle.plans.specs.Refusals.{sendGate, queueGate}
-use Rattle.sending.specs.Calls.{fragment, commands, queuesAll, sendsSound, sends}
-use Rattle.ping.specs.Calls.{pingPiece, pingGate, pingsSound, pings}
-use Rattle.ping.proofs.Pings.{ping-some}
-use Rattle.sent.specs.Done.{Sent, reliably}
-use Rattle.sent.proofs.Ends.{Ends, all-ends}
-use Rattle.sent.proofs.Sends.{send-done}
+use Rattle.packets.specs.Refusals.{sendGate, queueGate}
+use Rattle.send.specs.Calls.{fragment, commands, queuesAll, sendsSound, sends}
+use Rattle.setup.specs.Pings.{pingPiece, pingGate, pingsSound, pings}
+use Rattle.setup.proofs.Pings.{ping-some}
+use Rattle.laws.specs.Done.{Sent, reliably}
+use Rattle.laws.proofs.Ends.{Ends, all-ends}
+use Rattle.laws.proofs.Sends.{send-done}
 
 -- pieces that are set up in turn, and all join one list
 pub record Sets (p q : Peer) : Type 0 where
@@ -65,7 +65,7 @@ one-sets x p r = record { pieces = x ∷ []; ready = r; to = toReliable x; ends 
 pub setup-queues : (s : Settings) (x : Piece) (p : Peer) → Whole p → Queues p (setsUp s x p .after)
 setup-queues s x p whole =
     behind-has (gate s p) p (setsUpSound x p) (After p) (λ why. none refl)
-    (λ e. behind-has (setupGate x (p .standing .count) (room p)) p (finished (queued x p)) (After p) (λ why. none refl)
+    (λ e. behind-has (setupGate x (p .standing .channels) (room p)) p (finished (queued x p)) (After p) (λ why. none refl)
     (λ own.
     let f = setup-open x p own in
     some
@@ -73,7 +73,7 @@ setup-queues s x p whole =
     (record {
       whole = whole;
       good = sound-open (fits s lent.Nothing) (sound p) e;
-      fit = one-fit x (p .standing .count) (f .0) (f .2);
+      fit = one-fit x (p .standing .channels) (f .0) (f .2);
       few = leb-true 1 (room p) (f .1);
     }))))
 
@@ -94,7 +94,7 @@ ping-queues s p whole =
     (record {
       whole = whole;
       good = sound-open (fits s lent.Nothing) (sound p) e;
-      fit = one-fit pingPiece (p .standing .count) (ping-on (p .standing .count)) refl;
+      fit = one-fit pingPiece (p .standing .channels) (ping-on (p .standing .channels)) refl;
       few = ping-some p own;
     }))))
 

@@ -11,23 +11,23 @@ use lib.ListN.{length, length-map, length-append}
 use lib.Seq.{drop-length}
 use Rattle.numbers.specs.Pick.{pick}
 use Rattle.numbers.specs.declared.refusals.Refusal.the-variants.{OutOfRange}
-use Rattle.slots.specs.Lists.{outItems}
-use Rattle.parts.specs.Fresh.{noLists}
+use Rattle.record.specs.Lists.{outItems}
+use Rattle.record.specs.Fresh.{noLists}
 use Rattle.peer.specs.Fresh.{freshPeer}
 use Rattle.peer.specs.Settings.{fitSettings}
 use Rattle.peer.specs.Sounds.{Whole}
 use Rattle.peer.specs.Outcome.{State, finished, unchanged}
 use Rattle.peer.specs.declared.settings.Settings.{Settings}
-use Rattle.peer.specs.declared.record.Peer.{Peer}
+use Rattle.peer.specs.declared.Peer.{Peer}
 use Rattle.peer.specs.declared.defaults.Kept.{Kept}
-use Rattle.opening.specs.Calls.{kept, begins, setsState}
+use Rattle.lifecycle.specs.Calls.{kept, begins, setsState}
 use Rattle.setup.specs.Queueing.{queuedAll}
-use Rattle.outward.specs.Steps.{goes}
-use Rattle.outward.specs.declared.calls.Call.{Call as Outward}
-use Rattle.outward.specs.declared.calls.Call.the-variants as out
-use Rattle.inward.specs.Steps.{beside}
-use Rattle.inward.specs.declared.calls.Call.the-variants as inw
-use Rattle.link.specs.Steps.{step}
+use Rattle.link_out.specs.Steps.{callsOut}
+use Rattle.link_out.specs.declared.calls.Call.{Call as Outward}
+use Rattle.link_out.specs.declared.calls.Call.the-variants as out
+use Rattle.link_in.specs.Steps.{beside}
+use Rattle.link_in.specs.declared.calls.Call.the-variants as inw
+use Rattle.link.specs.Steps.{calls}
 use Rattle.link.specs.Runs.{Asked, comesTo, run, resetState}
 use Rattle.link.specs.declared.calls.Call.{Call}
 use Rattle.link.specs.declared.calls.Call.the-variants as call
@@ -67,7 +67,7 @@ aside-books b p q a k = kept-books b p q (λ f. ap (count f) (aside-waiting p q 
 -- ---- a call that queues
 none-joined : (p : Peer) → joinedOut p p ≡ []
 none-joined p =
-    ap₂ (λ (ys zs : List ℕ). itemsAt p ys ++ itemsAt p zs) (drop-length (outItems (p .lists .outgoing))) (drop-length (outItems (p .lists .reliable)))
+    ap₂ (λ (ys zs : List ℕ). itemsAt p ys ++ itemsAt p zs) (drop-length (outItems (p .lists .outgoing))) (drop-length (outItems (p .lists .«send_reliable»)))
 
 queued-books : (b : Outbook) (p q : Peer) → Queues p q → Books b p → Books (queues (joinedOut p q) b) q
 queued-books b p q (none e) k =
@@ -122,20 +122,20 @@ removed-books number channel b p q h u k =
     }
 
 -- ---- each call
-outward-books : (a : Outward) (s : Settings) (p : Peer) (b : Outbook) → Whole p → Books b p → let q = goes s a p .after in Books (enters a p q b) q
-outward-books out.Ping s p b w k = queued-books b p (goes s out.Ping p .after) (ping-queues s p w) k
+outward-books : (a : Outward) (s : Settings) (p : Peer) (b : Outbook) → Whole p → Books b p → let q = callsOut s a p .after in Books (enters a p q b) q
+outward-books out.Ping s p b w k = queued-books b p (callsOut s out.Ping p .after) (ping-queues s p w) k
 outward-books (out.Send channel long flags) s p b w k =
-    queued-books b p (goes s (out.Send channel long flags) p .after) (send-queues s channel long flags p w) k
-outward-books (out.Setup x) s p b w k = queued-books b p (goes s (out.Setup x) p .after) (setup-queues s x p w) k
+    queued-books b p (callsOut s (out.Send channel long flags) p .after) (send-queues s channel long flags p w) k
+outward-books (out.Setup x) s p b w k = queued-books b p (callsOut s (out.Setup x) p .after) (setup-queues s x p w) k
 outward-books (out.SendStep queue time) s p b w k =
     let j = step-leaves s queue time p in
-    freed-books b p (goes s (out.SendStep queue time) p .after) (j .leaves) (j .plain) (step-uncounted s queue time p) k
+    freed-books b p (callsOut s (out.SendStep queue time) p .after) (j .leaves) (j .plain) (step-uncounted s queue time p) k
 outward-books (out.Acknowledgement channel number sent clock) s p b w k =
-    removed-books (number .0) channel b p (goes s (out.Acknowledgement channel number sent clock) p .after)
+    removed-books (number .0) channel b p (callsOut s (out.Acknowledgement channel number sent clock) p .after)
     (acknowledge-hears s channel (number .0) sent clock p) (acknowledge-uncounted s channel (number .0) sent clock p) k
 outward-books (out.TimeoutCheck clock) s p b w k =
-    kept-books b p (goes s (out.TimeoutCheck clock) p .after) (check-keeps s clock p w) (check-uncounted s clock p) k
-outward-books (out.Throttle sample) s p b w k = aside-books b p (goes s (out.Throttle sample) p .after) (throttle-aside s sample p) k
+    kept-books b p (callsOut s (out.TimeoutCheck clock) p .after) (check-keeps s clock p w) (check-uncounted s clock p) k
+outward-books (out.Throttle sample) s p b w k = aside-books b p (callsOut s (out.Throttle sample) p .after) (throttle-aside s sample p) k
 
 fresh-books : (mtu : ℕ) (k : Kept) → Books freshOutbook (freshPeer mtu k)
 unfolding freshPeer noLists count
@@ -153,7 +153,7 @@ begin-books s mtu many p b k =
 
 abbrev After : Settings → Call → List ℕ → State → Outbook → Type 0
 After s c datagram x b =
-    let o = step s c datagram x in
+    let o = calls s c datagram x in
     Books (pick (isReset c (o .answer)) freshOutbook (booked c (x .peer) (o .after .peer) b)) (o .after .peer)
 
 reset-books : (s : Settings) (datagram : List ℕ) (x : State) (b : Outbook) → Books b (x .peer) → After s call.Reset datagram x b
@@ -170,13 +170,13 @@ call-books (call.Begin mtu many) s datagram x b w k = begin-books s mtu many (x 
 call-books (call.SetState state) s datagram x b w k = aside-books b (x .peer) (setsState s state (x .peer) .after) (state-aside s state (x .peer)) k
 call-books (call.Outward a) s datagram x b w k = outward-books a s (x .peer) b w k
 call-books (call.Inward (inw.UnsequencedArrival a group)) s datagram x b w k =
-    aside-books b (x .peer) (step s (call.Inward (inw.UnsequencedArrival a group)) datagram x .after .peer) (unsequenced-aside s a datagram x group) k
+    aside-books b (x .peer) (calls s (call.Inward (inw.UnsequencedArrival a group)) datagram x .after .peer) (unsequenced-aside s a datagram x group) k
 call-books (call.Inward (inw.ReliableArrival a)) s datagram x b w k =
-    aside-books b (x .peer) (step s (call.Inward (inw.ReliableArrival a)) datagram x .after .peer) (reliable-aside s a datagram x) k
+    aside-books b (x .peer) (calls s (call.Inward (inw.ReliableArrival a)) datagram x .after .peer) (reliable-aside s a datagram x) k
 call-books (call.Inward (inw.Dispatch channel)) s datagram x b w k =
-    aside-books b (x .peer) (step s (call.Inward (inw.Dispatch channel)) datagram x .after .peer) (dispatch-aside s channel (x .peer)) k
+    aside-books b (x .peer) (calls s (call.Inward (inw.Dispatch channel)) datagram x .after .peer) (dispatch-aside s channel (x .peer)) k
 call-books (call.Inward inw.Receive) s datagram x b w k =
-    aside-books b (x .peer) (step s (call.Inward inw.Receive) datagram x .after .peer) (receive-aside s (x .peer)) k
+    aside-books b (x .peer) (calls s (call.Inward inw.Receive) datagram x .after .peer) (receive-aside s (x .peer)) k
 
 -- ---- a run
 run-books : (calls : List Asked) (x : State) (b : Outbook) → Whole (x .peer) → Books b (x .peer) → Books (outbook calls x b) (run calls x .end .peer)

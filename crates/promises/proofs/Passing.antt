@@ -10,54 +10,54 @@ use lib.Seq.{take-set-lt}
 use Rattle.numbers.specs.Pick.{pick}
 use Rattle.numbers.specs.declared.counters.Group.{Group}
 use Rattle.numbers.specs.declared.refusals.Refusal.{Refusal}
-use Rattle.slots.specs.Lists.{inItems}
-use Rattle.runs.specs.Runs.{first}
-use Rattle.runs.specs.declared.Free.{Free}
-use Rattle.runs.specs.declared.Free.the-variants.{Lowest}
-use Rattle.parts.specs.Damage.{below, held, usedIn}
-use Rattle.parts.specs.declared.groups.Channel.{Channel}
+use Rattle.record.specs.Lists.{inItems}
+use Rattle.cells.specs.Runs.{first}
+use Rattle.cells.specs.declared.Free.{Free}
+use Rattle.cells.specs.declared.Free.the-variants.{Lowest}
+use Rattle.record.specs.Damage.{below, held, usedIn}
+use Rattle.record.specs.declared.groups.Channel.{Channel}
 use Rattle.peer.specs.Damage.{sound}
 use Rattle.peer.specs.Gate.{fits, gateOf}
 use Rattle.peer.specs.Outcome.{State, Outcome, finished, unchanged}
 use Rattle.peer.specs.Sounds.{Whole}
 use Rattle.peer.specs.Updates.{withGroups}
 use Rattle.peer.specs.declared.settings.Settings.{Settings}
-use Rattle.peer.specs.declared.record.Peer.{Peer}
+use Rattle.peer.specs.declared.Peer.{Peer}
 use Rattle.peer.specs.declared.gate.Lent.the-variants as lent
 use Rattle.peer.proofs.Gates.{sound-open, behind-has}
 use Rattle.peer.proofs.InClauses.{shorter-items, used-from}
-use Rattle.storing.specs.Storing.{freeSlot, delivered}
+use Rattle.arrival.specs.Storing.{freeSlot, delivered}
 use Rattle.dispatch.specs.Calls.{dispatchGate, dispatchedOn, dispatchesSound, dispatches}
 use Rattle.dispatch.proofs.Calling.{ready as readyIn, last, gone, dispatched-has}
 use Rattle.dispatch.proofs.Sums.{used-same}
 use Rattle.dispatch.proofs.Sound.{moves, below-count}
 use Rattle.dispatch.proofs.Moving.{dispatch-order}
-use Rattle.arriving.specs.Arrivals.{stored, storedAt}
-use Rattle.arriving.specs.declared.Arrival.{Arrival}
-use Rattle.arriving.specs.declared.Fate.the-variants as fate
-use Rattle.arriving.proofs.Admitted.{Admitted}
-use Rattle.unsequenced.specs.Calls.{regrouped, judgedOn, arrivesUnsequenced}
-use Rattle.reliable.specs.Calls.{reliableAfter, arrivesReliable}
-use Rattle.arrived.specs.Stores.{Arrives, leaves, stores, Adds}
-use Rattle.arrived.proofs.Stores.{unsequenced-stores, unsequenced-adds, reliable-stores, reliable-adds}
-use Rattle.arrived.proofs.Unsequenced.{unsequenced-has, stored-free, more-by as delivered-by}
-use Rattle.arrived.proofs.Reliable.{reliable-has, held-free, between, between-whole, between-sound, left-dispatched, more-by as held-by}
+use Rattle.arrival.specs.Arrivals.{stored, storedAt}
+use Rattle.arrival.specs.declared.Arrival.{Arrival}
+use Rattle.arrival.specs.declared.Fate.the-variants as fate
+use Rattle.arrival.proofs.Admitted.{Admitted}
+use Rattle.arrive_unsequenced.specs.Calls.{regrouped, judgedOn, arrivesUnsequenced}
+use Rattle.arrive_reliable.specs.Calls.{reliableAfter, arrivesReliable}
+use Rattle.laws.specs.Stores.{Arrives, leaves, stores, Adds}
+use Rattle.laws.proofs.Stores.{unsequenced-stores, unsequenced-adds, reliable-stores, reliable-adds}
+use Rattle.laws.proofs.Unsequenced.{unsequenced-has, stored-free, more-by as delivered-by}
+use Rattle.laws.proofs.Reliable.{reliable-has, held-free, between, between-whole, between-sound, left-dispatched, more-by as held-by}
 use Rattle.receive.specs.Calls.{withoutFirst, taken, receivesFrom, receivesSound, receives}
-use Rattle.inward.specs.Steps.{beside}
+use Rattle.link_in.specs.Steps.{beside}
 use Rattle.link.specs.Runs.{saysOne, handed}
 use Rattle.promises.specs.Packets.{payload}
 use Rattle.promises.proofs.Answers.{refused-one}
 use Rattle.promises.proofs.Presence.{named, Sums, Passes, still, still-passes, joins-passes, takes-passes, stored-passes}
 
 -- ---- dispatch: any sum over what is named is as it was
-module _ (channel : ℕ) (p : Peer) (whole : Whole p) (good : sound p ≡ true) (h : channel < p .standing .count) where
+module _ (channel : ℕ) (p : Peer) (whole : Whole p) (good : sound p ≡ true) (h : channel < p .standing .channels) where
   abbrev cs : List Channel
-  cs = below (p .channels) (p .standing .count)
+  cs = below (p .channels) (p .standing .channels)
 
   dispatched-same : (g : List ℕ → ℕ) → Sums g → g (named (dispatchedOn channel p)) ≡ g (named p)
   dispatched-same g adds =
       dispatched-has channel p (λ (q : Peer). g (named q) ≡ g (named p)) (λ none. refl)
-      (ap (λ (ds : List Channel). g (usedIn (gone channel p .lists) ds)) (take-set-lt (p .standing .count) (p .channels) channel (gone channel p .channel) h)
+      (ap (λ (ds : List Channel). g (usedIn (gone channel p .lists) ds)) (take-set-lt (p .standing .channels) (p .channels) channel (gone channel p .channel) h)
       ∙ used-same g adds (p .lists) cs channel (readyIn channel p) (gone channel p .lists) (gone channel p .channel)
       (moves channel p whole good h (readyIn channel p) (last channel p)))
 
@@ -88,7 +88,7 @@ receive-passes s x =
     go [] e = still-passes x (x .peer) (still (x .peer))
     go (n ∷ rest) e =
         let l = x .peer .lists in
-        let cs = below (x .peer .channels) (x .peer .standing .count) in
+        let cs = below (x .peer .channels) (x .peer .standing .channels) in
         let left = shorter-items (l .dispatched) n rest e in
         takes-passes x (taken n (x .peer)) n rest (rest ++ held cs) refl e left (used-from l cs (n ∷ rest) e) (used-from (withoutFirst l) cs rest left)
 
@@ -109,7 +109,7 @@ module _ (a : Arrival) (datagram : List ℕ) (x : State) where
   refused-comes why k js = rw (refused-one why) (still-passes x (x .peer) (still (x .peer)))
 
   module _ (n : ℕ) (y : State) (good : sound (x .peer) ≡ true) (may : Admitted a (x .peer .standing) (length datagram))
-      (free : freeSlot (x .peer .lists) (x .peer .channels) (x .peer .standing .count) ≡ Lowest n) (more : More x y n) where
+      (free : freeSlot (x .peer .lists) (x .peer .channels) (x .peer .standing .channels) ≡ Lowest n) (more : More x y n) where
     stored-comes : Comes a datagram x (record { answer = stored; after = y })
     stored-comes (leaves l not) js = absurd (not refl)
     stored-comes (stores k is) js =
@@ -117,7 +117,7 @@ module _ (a : Arrival) (datagram : List ℕ) (x : State) where
         (λ g adds. more g adds ∙ ap (λ (m : ℕ). g (m ∷ []) + g (named (x .peer))) (same-slot n (k .slot) free (k .free)))
 
   module _ (n : ℕ) (whole : Whole (x .peer)) (good : sound (x .peer) ≡ true) (may : Admitted a (x .peer .standing) (length datagram))
-      (free : freeSlot (x .peer .lists) (x .peer .channels) (x .peer .standing .count) ≡ Lowest n) where
+      (free : freeSlot (x .peer .lists) (x .peer .channels) (x .peer .standing .channels) ≡ Lowest n) where
     -- in its channel's list, and some of that list then in dispatched
     held-more : More x (reliableAfter (fate.Stored n) a datagram x) n
     held-more g adds =
@@ -125,7 +125,7 @@ module _ (a : Arrival) (datagram : List ℕ) (x : State) where
         ap (λ (r : Peer). g (named r)) (left-dispatched a datagram x n whole good may free)
         ∙ dispatched-same (a .channel) q (between-whole a datagram x n whole good may free) (between-sound a datagram x n whole good may free) (may .on) g adds
         ∙ ap (λ (ds : List Channel). g (usedIn (x .peer .lists) ds))
-        (take-set-lt (x .peer .standing .count) (x .peer .channels) (a .channel) _ (may .on))
+        (take-set-lt (x .peer .standing .channels) (x .peer .channels) (a .channel) _ (may .on))
         ∙ held-by a datagram x n whole good may free g adds
 
 pub unsequenced-passes : (s : Settings) (a : Arrival) (group : Group) (datagram : List ℕ) (x : State) → Whole (x .peer)

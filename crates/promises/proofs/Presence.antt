@@ -12,28 +12,28 @@ use lib.ListN.{length, take, drop, getD, length-take, length-drop}
 use lib.Seq.{drop-append-seam, ext-getD, getD-take, getD-drop}
 use borrow.Author.Tests.{eq-eqb, leb-true, ltb-true, ltb-false}
 use Rattle.numbers.proofs.BoolLaws.{both-left}
-use Rattle.slots.specs.Lists.{inItems}
-use Rattle.slots.proofs.Keeps.{one, times, times-append}
-use Rattle.parts.specs.Sizes.{cell}
-use Rattle.parts.specs.Fresh.{noIncoming}
-use Rattle.parts.specs.Damage.{below, held, inFit, usedIn}
-use Rattle.parts.specs.declared.groups.Incoming.{Incoming}
+use Rattle.record.specs.Lists.{inItems}
+use Rattle.record.proofs.Keeps.{one, times, times-append}
+use Rattle.record.specs.Sizes.{cell}
+use Rattle.record.specs.Fresh.{noIncoming}
+use Rattle.record.specs.Damage.{below, held, inFit, usedIn}
+use Rattle.record.specs.declared.groups.Incoming.{Incoming}
 use Rattle.peer.specs.Damage.{sound}
 use Rattle.peer.specs.Outcome.{State}
-use Rattle.peer.specs.declared.record.Peer.{Peer}
+use Rattle.peer.specs.declared.Peer.{Peer}
 use Rattle.peer.proofs.Clauses.{all-at}
 use Rattle.peer.proofs.InClauses.{InClauses, incoming-clauses}
-use Rattle.arriving.specs.Arrivals.{arrivedSlot}
-use Rattle.arriving.specs.declared.Arrival.{Arrival}
-use Rattle.arrived.specs.Stores.{Stores}
-use Rattle.arrived.proofs.Pools.{free-unnamed}
+use Rattle.arrival.specs.Arrivals.{arrivedSlot}
+use Rattle.arrival.specs.declared.Arrival.{Arrival}
+use Rattle.laws.specs.Stores.{Stores}
+use Rattle.laws.proofs.Pools.{free-unnamed}
 use Rattle.link.specs.Runs.{Packet}
 use Rattle.promises.specs.Counts.{count}
 use Rattle.promises.specs.Packets.{packetAt, ready, present, payload, Ledger, newly}
 
 -- the slots that a record's lists name
 abbrev pub named : Peer → List ℕ
-named p = usedIn (p .lists) (below (p .channels) (p .standing .count))
+named p = usedIn (p .lists) (below (p .channels) (p .standing .channels))
 
 -- ---- counts add up
 abbrev pub Sums : (List ℕ → ℕ) → Type 0
@@ -184,12 +184,12 @@ module _ (a : Arrival) (datagram : List ℕ) (x y : State) (k : Stores a datagra
   abbrev p : Peer
   p = x .peer
 
-  clauses : InClauses (p .incoming) (p .lists) (below (p .channels) (p .standing .count)) (p .standing .count) (p .waiting .total)
+  clauses : InClauses (p .incoming) (p .lists) (below (p .channels) (p .standing .channels)) (p .standing .channels) (p .waiting .total)
   clauses = incoming-clauses p good
 
   other : (s : ℕ) → 0 < times (named p) s → s ≡ k .slot → ⊥
   other s h z =
-      let none = free-unnamed (p .incoming) (p .lists) (below (p .channels) (p .standing .count)) (p .standing .count) (p .waiting .total) clauses
+      let none = free-unnamed (p .incoming) (p .lists) (below (p .channels) (p .standing .channels)) (p .standing .channels) (p .waiting .total) clauses
       (k .slot) (k .free) in
       let here : times (named p) s ≡ 0 = rw z none in
       omega (arith, h, here)
@@ -198,7 +198,7 @@ module _ (a : Arrival) (datagram : List ℕ) (x y : State) (k : Stores a datagra
   fits s h =
       let i = getD (p .incoming) s noIncoming in
       leb-true (i .length) cell
-      (both-left (leb (i .length) cell) (ltb (i .channel) (p .standing .count)) (all-at (inFit (p .incoming) (p .standing .count)) (named p) (clauses .fit) s h))
+      (both-left (leb (i .length) cell) (ltb (i .channel) (p .standing .channels)) (all-at (inFit (p .incoming) (p .standing .channels)) (named p) (clauses .fit) s h))
 
   -- what was named is as it was
   kept : (s : ℕ) → 0 < times (named p) s → packetAt y s ≡ packetAt x s
@@ -236,5 +236,5 @@ module _ (a : Arrival) (datagram : List ℕ) (x y : State) (k : Stores a datagra
             (ap (map (packetAt y)) items ∙ map-append (packetAt y) waiting js
             ∙ ap (λ (ks : List Packet). ks ++ map (packetAt y) js)
             (map-same (packetAt y) (packetAt x) waiting
-            (λ s h. kept s (omega (arith, h, times-append waiting (held (below (p .channels) (p .standing .count))) s)))));
+            (λ s h. kept s (omega (arith, h, times-append waiting (held (below (p .channels) (p .standing .channels))) s)))));
       }

@@ -14,51 +14,51 @@ use Rattle.numbers.specs.declared.clock.Trip.{Trip}
 use Rattle.numbers.specs.declared.clock.Trip.the-variants.{PassedOver, Taken}
 use Rattle.numbers.specs.declared.refusals.Refusal.the-variants.{OutOfRange}
 use Rattle.numbers.proofs.BoolLaws.{both-right}
-use Rattle.slots.specs.Lists.{outgoing, outItems, inItems}
-use Rattle.slots.specs.declared.incoming.InList.{InList}
-use Rattle.runs.specs.Runs.{first}
-use Rattle.runs.specs.Free.{lowest}
-use Rattle.runs.specs.declared.Free.{Free}
-use Rattle.runs.specs.declared.Free.the-variants.{Lowest, Full}
-use Rattle.runs.specs.declared.First.{First}
-use Rattle.runs.specs.declared.First.the-variants.{Slot, Empty}
-use Rattle.parts.specs.Sizes.{channels}
-use Rattle.parts.specs.Damage.{below, held, usedOut}
-use Rattle.parts.specs.Updates.{withSentList, longer}
-use Rattle.parts.specs.declared.groups.Lists.{Lists}
-use Rattle.parts.specs.declared.groups.Channel.{Channel}
-use Rattle.parts.specs.declared.groups.Outgoing.{Outgoing}
+use Rattle.record.specs.Lists.{outgoing, outItems, inItems}
+use Rattle.record.specs.declared.incoming.InList.{InList}
+use Rattle.cells.specs.Runs.{first}
+use Rattle.cells.specs.Free.{lowest}
+use Rattle.cells.specs.declared.Free.{Free}
+use Rattle.cells.specs.declared.Free.the-variants.{Lowest, Full}
+use Rattle.cells.specs.declared.First.{First}
+use Rattle.cells.specs.declared.First.the-variants.{Slot, Empty}
+use Rattle.record.specs.Sizes.{channels}
+use Rattle.record.specs.Damage.{below, held, usedOut}
+use Rattle.record.specs.Updates.{withSentList, longer}
+use Rattle.record.specs.declared.groups.Lists.{Lists}
+use Rattle.record.specs.declared.groups.Channel.{Channel}
+use Rattle.record.specs.declared.groups.Outgoing.{Outgoing}
 use Rattle.peer.specs.Damage.{sound}
 use Rattle.peer.specs.Outcome.{Outcome, finished, unchanged}
 use Rattle.peer.specs.States.{lastState}
 use Rattle.peer.specs.Gate.{fits, gateOf, behind, onRecord}
 use Rattle.peer.specs.declared.settings.Settings.{Settings}
-use Rattle.peer.specs.declared.record.Peer.{Peer}
+use Rattle.peer.specs.declared.Peer.{Peer}
 use Rattle.peer.specs.declared.gate.Lent.the-variants as lent
 use Rattle.peer.specs.declared.gate.Gate.{Gate}
 use Rattle.peer.proofs.Gates.{behind-has}
-use Rattle.opening.specs.Calls.{beginFits, begun, beginsSound, begins, stated, setsStateSound, setsState}
-use Rattle.opening.proofs.Sound.{held-none}
-use Rattle.stamps.specs.declared.pieces.Piece.{Piece}
+use Rattle.lifecycle.specs.Calls.{beginFits, begun, beginsSound, begins, stated, setsStateSound, setsState}
+use Rattle.lifecycle.proofs.Sound.{held-none}
+use Rattle.outbox.specs.declared.pieces.Piece.{Piece}
 use Rattle.setup.specs.Queueing.{room, stampOf, queuedIn, queuedAt, queued, queuedAll}
 use Rattle.setup.specs.Calls.{setupGate, setsUpSound, setsUp}
 use Rattle.setup.proofs.Joining.{joined-dispatched}
 use Rattle.setup.proofs.Sound.{named as setup-named}
-use Rattle.plans.specs.Refusals.{sendGate, queueGate}
-use Rattle.sending.specs.Calls.{fragment, commands, queuesAll, sendsSound, sends}
-use Rattle.ping.specs.Calls.{pingPiece, pingGate, pingsSound, pings}
-use Rattle.sendstep.specs.Steps.{listOf, head, isAcknowledged, withoutHead, listsSent, sentAs}
-use Rattle.sendstep.specs.Calls.{stepsFrom, stepsSound, steps}
-use Rattle.sendstep.specs.declared.heads.Queue.{Queue}
-use Rattle.sendstep.specs.declared.heads.Queue.the-variants as queue
-use Rattle.throttling.specs.Calls.{throttlesSound, throttles}
-use Rattle.removal.specs.Removal.{spotOf}
+use Rattle.packets.specs.Refusals.{sendGate, queueGate}
+use Rattle.send.specs.Calls.{fragment, commands, queuesAll, sendsSound, sends}
+use Rattle.setup.specs.Pings.{pingPiece, pingGate, pingsSound, pings}
+use Rattle.send_step.specs.Steps.{listOf, head, isAcknowledged, withoutHead, listsSent, sentAs}
+use Rattle.send_step.specs.Calls.{stepsFrom, stepsSound, steps}
+use Rattle.send_step.specs.declared.heads.Queue.{Queue}
+use Rattle.send_step.specs.declared.heads.Queue.the-variants as queue
+use Rattle.round_trip.specs.Calls.{throttlesSound, throttles}
+use Rattle.acknowledge.specs.Removal.{spotOf}
 use Rattle.acknowledge.specs.Calls.{heardIn, acknowledgesBy, acknowledgesSound, acknowledges}
 use Rattle.timeouts.specs.Calls.{checksSound, checks}
-use Rattle.answered.proofs.Acknowledged.{same-dispatched}
-use Rattle.outward.specs.Steps.{goes}
-use Rattle.outward.specs.declared.calls.Call.{Call as Outward}
-use Rattle.outward.specs.declared.calls.Call.the-variants as out
+use Rattle.laws.proofs.Acknowledged.{same-dispatched}
+use Rattle.link_out.specs.Steps.{callsOut}
+use Rattle.link_out.specs.declared.calls.Call.{Call as Outward}
+use Rattle.link_out.specs.declared.calls.Call.the-variants as out
 use Rattle.promises.proofs.Presence.{named, Still, still}
 
 then : {p q r : Peer} → Still p q → Still q r → Still p r
@@ -72,8 +72,8 @@ on-still : (s : Settings) (p : Peer) (rest : Outcome Peer) → Still p (rest .af
 on-still s p rest k = behind-still p (gateOf (fits s lent.Nothing) (sound p)) rest k
 
 -- other lists, with the same dispatched
-listed : (p : Peer) {d : InList} → d ≡ p .lists .dispatched → inItems d ++ held (below (p .channels) (p .standing .count)) ≡ named p
-listed p e = ap (λ (d : InList). inItems d ++ held (below (p .channels) (p .standing .count))) e
+listed : (p : Peer) {d : InList} → d ≡ p .lists .dispatched → inItems d ++ held (below (p .channels) (p .standing .channels)) ≡ named p
+listed p e = ap (λ (d : InList). inItems d ++ held (below (p .channels) (p .standing .channels))) e
 
 -- ---- begin: no channel counted, and those made new hold nothing
 none-counted : (cs : List Channel) (n : ℕ) → n ≡ 0 → held (take n cs) ≡ []
@@ -81,9 +81,9 @@ unfolding held
 none-counted cs n z = ap (λ (k : ℕ). held (take k cs)) z
 
 pub begin-still : (s : Settings) (mtu count : ℕ) (p : Peer) → Still p (begins s mtu count p .after)
-begin-still s mtu count p = on-still s p (beginsSound mtu count p) (go (beginFits mtu count (p .standing .count)) refl)
+begin-still s mtu count p = on-still s p (beginsSound mtu count p) (go (beginFits mtu count (p .standing .channels)) refl)
   where
-    go : (b : Bool) → beginFits mtu count (p .standing .count) ≡ b → Still p (pick b (finished (begun mtu count p)) (unchanged OutOfRange p) .after)
+    go : (b : Bool) → beginFits mtu count (p .standing .channels) ≡ b → Still p (pick b (finished (begun mtu count p)) (unchanged OutOfRange p) .after)
     go true e =
         let zero-now = both-right (leb count channels) _
         (both-right (leb 1 count) _ (both-right (leb mtu mostMtu) _ (both-right (leb leastMtu mtu) _ e))) in
@@ -92,7 +92,7 @@ begin-still s mtu count p = on-still s p (beginsSound mtu count p) (go (beginFit
           items = refl;
           names =
               ap (λ (xs : List ℕ). inItems (p .lists .dispatched) ++ xs)
-              (held-none (p .incoming) channels count ∙ sym (none-counted (p .channels) (p .standing .count) (eqb-true (p .standing .count) 0 zero-now)));
+              (held-none (p .incoming) channels count ∙ sym (none-counted (p .channels) (p .standing .channels) (eqb-true (p .standing .channels) 0 zero-now)));
         }
     go false e = still p
 
@@ -114,7 +114,7 @@ queued-still x p = go (lowest outgoing (usedOut (p .lists)))
           slots = refl;
           items = ap inItems (joined-dispatched (p .lists) n x);
           names =
-              setup-named (p .incoming) (p .lists) x n (p .channels) (x .command .channel) (stampOf x p .counters) (p .standing .count) (p .waiting .total);
+              setup-named (p .incoming) (p .lists) x n (p .channels) (x .command .channel) (stampOf x p .counters) (p .standing .channels) (p .waiting .total);
         }
     go Full = still p
 
@@ -125,7 +125,7 @@ all-still (x ∷ xs) p = then (queued-still x p) (all-still xs (queued x p))
 
 setup-still : (s : Settings) (x : Piece) (p : Peer) → Still p (setsUp s x p .after)
 setup-still s x p =
-    on-still s p (setsUpSound x p) (behind-still p (setupGate x (p .standing .count) (room p)) (finished (queued x p)) (queued-still x p))
+    on-still s p (setsUpSound x p) (behind-still p (setupGate x (p .standing .channels) (room p)) (finished (queued x p)) (queued-still x p))
 
 send-still : (s : Settings) (channel long flags : ℕ) (p : Peer) → Still p (sends s channel long flags p .after)
 send-still s channel long flags p =
@@ -176,7 +176,7 @@ check-still s clock p = on-still s p (checksSound clock p) (record { slots = ref
 throttle-still : (s : Settings) (sample : ℕ) (p : Peer) → Still p (throttles s sample p .after)
 throttle-still s sample p = on-still s p (throttlesSound sample p) (record { slots = refl; items = refl; names = refl })
 
-pub outward-still : (s : Settings) (c : Outward) (p : Peer) → Still p (goes s c p .after)
+pub outward-still : (s : Settings) (c : Outward) (p : Peer) → Still p (callsOut s c p .after)
 outward-still s out.Ping p = ping-still s p
 outward-still s (out.Send channel long flags) p = send-still s channel long flags p
 outward-still s (out.Setup x) p = setup-still s x p

@@ -21,57 +21,57 @@ use Rattle.numbers.specs.declared.counters.Group.{Group}
 use Rattle.numbers.specs.declared.counters.Reliable.{Reliable}
 use Rattle.numbers.specs.declared.refusals.Refusal.{Refusal}
 use Rattle.numbers.specs.declared.refusals.Refusal.the-variants.{NotReceiving, LengthTooLarge, NotStored, BadCommand, NotRemoved, OutOfRange}
-use Rattle.runs.specs.Runs.{first, isEmpty}
-use Rattle.runs.specs.declared.First.{First}
-use Rattle.runs.specs.declared.First.the-variants.{Slot, Empty}
-use Rattle.slots.specs.Lists.{outItems, inItems}
-use Rattle.parts.specs.Damage.{usedOut}
-use Rattle.parts.specs.declared.groups.Lists.{Lists}
+use Rattle.cells.specs.Runs.{first, isEmpty}
+use Rattle.cells.specs.declared.First.{First}
+use Rattle.cells.specs.declared.First.the-variants.{Slot, Empty}
+use Rattle.record.specs.Lists.{outItems, inItems}
+use Rattle.record.specs.Damage.{usedOut}
+use Rattle.record.specs.declared.groups.Lists.{Lists}
 use Rattle.command.specs.Rows.{namesFields}
-use Rattle.stamps.specs.declared.pieces.Piece.{Piece}
+use Rattle.outbox.specs.declared.pieces.Piece.{Piece}
 use Rattle.peer.specs.Damage.{sound}
 use Rattle.peer.specs.Settings.{fitSettings}
 use Rattle.peer.specs.Outcome.{State, Outcome, unchanged}
 use Rattle.peer.specs.Gate.{fits, gateOf, then, behind, gated}
 use Rattle.peer.specs.States.{isConnected, acknowledgingConnect, disconnecting, disconnectLater, lastState}
 use Rattle.peer.specs.declared.settings.Settings.{Settings}
-use Rattle.peer.specs.declared.record.Peer.{Peer}
+use Rattle.peer.specs.declared.Peer.{Peer}
 use Rattle.peer.specs.declared.gate.Lent.{Lent}
 use Rattle.peer.specs.declared.gate.Lent.the-variants.{Nothing, Store}
 use Rattle.peer.specs.declared.gate.Gate.{Gate}
 use Rattle.peer.specs.declared.gate.Gate.the-variants.{Open, Shut}
-use Rattle.opening.specs.Calls.{resets, beginFits, begins, setsState}
+use Rattle.lifecycle.specs.Calls.{resets, beginFits, begins, setsState}
 use Rattle.setup.specs.Calls.{onChannel, setupGate, setsUp}
 use Rattle.setup.specs.Queueing.{room}
-use Rattle.plans.specs.Refusals.{sendGate, queueGate}
-use Rattle.sending.specs.Calls.{fragment, commands, sends}
-use Rattle.ping.specs.Calls.{pingGate, pings}
-use Rattle.sendstep.specs.Steps.{listOf}
-use Rattle.sendstep.specs.Calls as stepping
-use Rattle.sendstep.specs.declared.heads.Queue.{Queue}
-use Rattle.removal.specs.Removal.{spotOf, slotAt, heldBy, listsWithout, isSome, commandAt}
+use Rattle.packets.specs.Refusals.{sendGate, queueGate}
+use Rattle.send.specs.Calls.{fragment, commands, sends}
+use Rattle.setup.specs.Pings.{pingGate, pings}
+use Rattle.send_step.specs.Steps.{listOf}
+use Rattle.send_step.specs.Calls as stepping
+use Rattle.send_step.specs.declared.heads.Queue.{Queue}
+use Rattle.acknowledge.specs.Removal.{spotOf, slotAt, heldBy, listsWithout, isSome, commandAt}
 use Rattle.acknowledge.specs.Calls as acknowledging
 use Rattle.acknowledge.specs.declared.Reply.{Reply}
 use Rattle.acknowledge.specs.declared.Reply.the-variants as vr
 use Rattle.timeouts.specs.Calls as checking
-use Rattle.arriving.specs.Arrivals.{answerOf, names, isReceiving, isWhole, arrivalGate, replyOf}
-use Rattle.arriving.specs.declared.Arrival.{Arrival}
-use Rattle.arriving.specs.declared.Fate.{Fate}
-use Rattle.arriving.specs.declared.Fate.the-variants as fate
-use Rattle.unsequenced.specs.Calls.{sendUnsequenced, judgedOn, unsequencedAfter, arrivesUnsequenced}
-use Rattle.reliable.specs.Calls.{sendReliable, fateOn, reliableAfter, arrivesReliable}
+use Rattle.arrival.specs.Arrivals.{answerOf, names, isReceiving, isWhole, arrivalGate, replyOf}
+use Rattle.arrival.specs.declared.Arrival.{Arrival}
+use Rattle.arrival.specs.declared.Fate.{Fate}
+use Rattle.arrival.specs.declared.Fate.the-variants as fate
+use Rattle.arrive_unsequenced.specs.Calls.{sendUnsequenced, judgedOn, unsequencedAfter, arrivesUnsequenced}
+use Rattle.arrive_reliable.specs.Calls.{sendReliable, fateOn, reliableAfter, arrivesReliable}
 use Rattle.dispatch.specs.Calls.{dispatchGate, dispatches}
 use Rattle.receive.specs.Calls as receiving
 use Rattle.throttle.specs.declared.Throttle.{Throttle}
-use Rattle.averages.specs.Interval.{throttleOf}
-use Rattle.throttling.specs.Calls as throttling
-use Rattle.throttling.specs.declared.Reply.the-variants as turn
-use Rattle.inward.specs.Steps.{beside}
-use Rattle.link.specs.Steps.{step}
+use Rattle.round_trip.specs.Interval.{throttleOf}
+use Rattle.round_trip.specs.Calls as throttling
+use Rattle.round_trip.specs.declared.Reply.the-variants as turn
+use Rattle.link_in.specs.Steps.{beside}
+use Rattle.link.specs.Steps.{calls}
 use Rattle.promises.specs.Refusals.{may, AnswersMay, RefusedUnchanged, SoundUndamaged}
 use Rattle.promises.proofs.Picks.{picked}
-use Rattle.outward.specs.declared.calls.Call.the-variants as out
-use Rattle.inward.specs.declared.calls.Call.the-variants as inw
+use Rattle.link_out.specs.declared.calls.Call.the-variants as out
+use Rattle.link_in.specs.declared.calls.Call.the-variants as inw
 use Rattle.link.specs.declared.calls.Call.{Call}
 use Rattle.link.specs.declared.calls.Call.the-variants as call
 
@@ -141,7 +141,7 @@ module _ (s : Settings) (p : Peer) where
   begin-fair mtu count =
       let k = call.Begin mtu count in
       gated-fair k p s Nothing p _ refl refl
-      (picked (Fair k (sound p) p) (beginFits mtu count (p .standing .count)) _ _ (done k p _ refl) (shut k p OutOfRange refl))
+      (picked (Fair k (sound p) p) (beginFits mtu count (p .standing .channels)) _ _ (done k p _ refl) (shut k p OutOfRange refl))
 
   state-fair : (state : ℕ) → Fair (call.SetState state) (sound p) p (setsState s state p)
   state-fair state =
@@ -161,7 +161,7 @@ module _ (s : Settings) (p : Peer) where
       gated-fair k p s Nothing p _ refl refl
       (behind-fair k p _ (sendGate s channel size (p .standing))
       (picked (Fits k) (isConnected (p .standing)) _ _
-      (picked (Fits k) (ltb channel (p .standing .count)) _ _ (picked (Fits k) (leb size (s .packet)) _ _ tt refl) refl) refl)
+      (picked (Fits k) (ltb channel (p .standing .channels)) _ _ (picked (Fits k) (leb size (s .packet)) _ _ tt refl) refl) refl)
       (behind-fair k p _ (queueGate (length xs) (room p))
       (picked (Fits k) (leb (length xs) mostFragments) _ _ (picked (Fits k) (leb (length xs) (room p)) _ _ tt refl) refl)
       (done k p _ refl)))
@@ -170,8 +170,8 @@ module _ (s : Settings) (p : Peer) where
   setup-fair x =
       let k = call.Outward (out.Setup x) in
       gated-fair k p s Nothing p _ refl refl
-      (behind-fair k p _ (setupGate x (p .standing .count) (room p))
-      (picked (Fits k) (onChannel (x .command .channel) (p .standing .count)) _ _
+      (behind-fair k p _ (setupGate x (p .standing .channels) (room p))
+      (picked (Fits k) (onChannel (x .command .channel) (p .standing .channels)) _ _
       (picked (Fits k) (leb 1 (room p)) _ _ (picked (Fits k) (namesFields (x .command)) _ _ tt refl) refl) refl)
       (done k p _ refl))
 
@@ -229,7 +229,7 @@ module _ (s : Settings) (p : Peer) where
   dispatch-fair channel =
       let k = call.Inward (inw.Dispatch channel) in
       gated-fair k p s Nothing p _ refl refl
-      (behind-fair k p _ (dispatchGate channel (p .standing)) (picked (Fits k) (ltb channel (p .standing .count)) _ _ tt refl) (done k p _ refl))
+      (behind-fair k p _ (dispatchGate channel (p .standing)) (picked (Fits k) (ltb channel (p .standing .channels)) _ _ tt refl) (done k p _ refl))
 
   receive-fair : Fair (call.Inward inw.Receive) (sound p) p (receiving.receives s p)
   receive-fair = gated-fair (call.Inward inw.Receive) p s Nothing p _ refl refl (by-first (first (inItems (p .lists .dispatched))))
@@ -300,7 +300,7 @@ module _ (s : Settings) (a : Arrival) (datagram : List ℕ) (x : State) where
       by-fate (fate.Stored n) = done k x _ refl
 
 -- ---- every call
-step-is-fair : (s : Settings) (k : Call) (datagram : List ℕ) (x : State) → Fair k (sound (x .peer)) x (step s k datagram x)
+step-is-fair : (s : Settings) (k : Call) (datagram : List ℕ) (x : State) → Fair k (sound (x .peer)) x (calls s k datagram x)
 step-is-fair s call.Reset datagram x = beside-fair _ x _ (reset-fair s (x .peer))
 step-is-fair s (call.Begin mtu channels) datagram x = beside-fair _ x _ (begin-fair s (x .peer) mtu channels)
 step-is-fair s (call.SetState state) datagram x = beside-fair _ x _ (state-fair s (x .peer) state)

@@ -10,13 +10,13 @@ use lib.Dec.{eqb, ltb}
 use lib.ListN.{length, getD}
 use borrow.Author.Tests.{eqb-false, ltb-false}
 use Rattle.numbers.specs.Counters as counters
-use Rattle.parts.specs.Fresh.{noChannel}
-use Rattle.parts.specs.declared.groups.Channel.{Channel}
-use Rattle.parts.specs.declared.groups.Incoming.{Incoming}
+use Rattle.record.specs.Fresh.{noChannel}
+use Rattle.record.specs.declared.groups.Channel.{Channel}
+use Rattle.record.specs.declared.groups.Incoming.{Incoming}
 use Rattle.peer.specs.Sounds.{Whole}
 use Rattle.peer.specs.Outcome.{State}
-use Rattle.peer.specs.declared.record.Peer.{Peer}
-use Rattle.holding.specs.Holding.{ahead, isPassed}
+use Rattle.peer.specs.declared.Peer.{Peer}
+use Rattle.arrive_reliable.specs.Holding.{numberDistance, isPassed}
 use Rattle.link.specs.Runs.{comesTo, before, run, resetState}
 use Rattle.promises.specs.Repeats.{Line, own, again, original, played}
 use Rattle.promises.specs.Reports.{reported}
@@ -38,15 +38,15 @@ rises-split m (x ∷ xs) back n r = rises-split x xs back n (r .1)
 
 -- ---- a number that lies at most 32,768 behind the channel's last is passed over
 passed-far : (slots : List Incoming) (c : Channel) (n k : ℕ) → n < 65536 → k ≤ 32768 → numberOn c .0 ≡ (n + k) % 65536 → isPassed slots c n ≡ true
-passed-far slots c n k small few last = go (eqb (ahead (numberOn c .0) n) 0) refl (ltb 32767 (ahead (numberOn c .0) n)) refl
+passed-far slots c n k small few last = go (eqb (numberDistance (numberOn c .0) n) 0) refl (ltb 32767 (numberDistance (numberOn c .0) n)) refl
   where
-    far : (ahead (numberOn c .0) n ≡ 0 → ⊥) → ahead (numberOn c .0) n ≤ 32767 → ⊥
+    far : (numberDistance (numberOn c .0) n ≡ 0 → ⊥) → numberDistance (numberOn c .0) n ≤ 32767 → ⊥
     far z l = omega (arith, last, z, l)
 
-    go : (a : Bool) → eqb (ahead (numberOn c .0) n) 0 ≡ a → (b : Bool) → ltb 32767 (ahead (numberOn c .0) n) ≡ b → isPassed slots c n ≡ true
+    go : (a : Bool) → eqb (numberDistance (numberOn c .0) n) 0 ≡ a → (b : Bool) → ltb 32767 (numberDistance (numberOn c .0) n) ≡ b → isPassed slots c n ≡ true
     go true e b f = simp e
     go false e true f = simp (e, f)
-    go false e false f = absurd (far (eqb-false (ahead (numberOn c .0) n) 0 e) (ltb-false 32767 (ahead (numberOn c .0) n) f))
+    go false e false f = absurd (far (eqb-false (numberDistance (numberOn c .0) n) 0 e) (ltb-false 32767 (numberDistance (numberOn c .0) n) f))
 
 counted-passed : (channel : ℕ) (p : Peer) (log : List ℕ) (n : ℕ) → Counted channel p log → Reported log n
     → isPassed (p .incoming) (getD (p .channels) channel noChannel) n ≡ true

@@ -21,18 +21,18 @@ use Rattle.numbers.specs.declared.refusals.Refusal.{Refusal}
 use Rattle.numbers.specs.declared.refusals.Refusal.the-variants.{OutOfRange}
 use Rattle.numbers.proofs.BoolLaws.{both-right}
 use Rattle.numbers.proofs.Settled.{refused-not-done}
-use Rattle.slots.specs.Lists.{outgoing, incoming, outItems, inItems}
-use Rattle.runs.specs.Runs.{first}
-use Rattle.runs.specs.Free.{lowest}
-use Rattle.runs.specs.declared.Free.{Free}
-use Rattle.runs.specs.declared.Free.the-variants.{Lowest, Full}
-use Rattle.runs.specs.declared.First.{First}
-use Rattle.runs.specs.declared.First.the-variants.{Slot, Empty}
-use Rattle.parts.specs.Damage.{usedOut}
-use Rattle.parts.specs.Sizes.{channels}
-use Rattle.parts.specs.Fresh.{noChannel, noIncoming}
-use Rattle.parts.specs.declared.groups.Channel.{Channel}
-use Rattle.parts.specs.declared.groups.Incoming.{Incoming}
+use Rattle.record.specs.Lists.{outgoing, incoming, outItems, inItems}
+use Rattle.cells.specs.Runs.{first}
+use Rattle.cells.specs.Free.{lowest}
+use Rattle.cells.specs.declared.Free.{Free}
+use Rattle.cells.specs.declared.Free.the-variants.{Lowest, Full}
+use Rattle.cells.specs.declared.First.{First}
+use Rattle.cells.specs.declared.First.the-variants.{Slot, Empty}
+use Rattle.record.specs.Damage.{usedOut}
+use Rattle.record.specs.Sizes.{channels}
+use Rattle.record.specs.Fresh.{noChannel, noIncoming}
+use Rattle.record.specs.declared.groups.Channel.{Channel}
+use Rattle.record.specs.declared.groups.Incoming.{Incoming}
 use Rattle.peer.specs.Damage.{sound}
 use Rattle.peer.specs.Gate.{fits, gateOf, behind}
 use Rattle.peer.specs.Sounds.{Whole}
@@ -41,47 +41,47 @@ use Rattle.peer.specs.States.{lastState}
 use Rattle.peer.specs.Fresh.{freshPeer}
 use Rattle.peer.specs.Outcome.{State, Outcome, finished, unchanged}
 use Rattle.peer.specs.declared.settings.Settings.{Settings}
-use Rattle.peer.specs.declared.record.Peer.{Peer}
+use Rattle.peer.specs.declared.Peer.{Peer}
 use Rattle.peer.specs.declared.defaults.Kept.{Kept}
 use Rattle.peer.specs.declared.gate.Lent.the-variants as lent
 use Rattle.peer.specs.declared.gate.Gate.{Gate}
 use Rattle.peer.proofs.Gates.{sound-open, behind-has}
 use Rattle.peer.proofs.Ranges.{count-high}
-use Rattle.opening.specs.Calls.{kept, beginFits, begun, beginsSound, begins, stated, setsStateSound, setsState, resets}
-use Rattle.stamps.specs.declared.pieces.Piece.{Piece}
+use Rattle.lifecycle.specs.Calls.{kept, beginFits, begun, beginsSound, begins, stated, setsStateSound, setsState, resets}
+use Rattle.outbox.specs.declared.pieces.Piece.{Piece}
 use Rattle.setup.specs.Queueing.{room, queuedIn, queuedAt, queued, queuedAll}
 use Rattle.setup.specs.Calls.{setupGate, setsUpSound, setsUp}
-use Rattle.plans.specs.Refusals.{sendGate, queueGate}
-use Rattle.sending.specs.Calls.{fragment, commands, queuesAll, sendsSound, sends}
-use Rattle.ping.specs.Calls.{pingPiece, pingGate, pingsSound, pings}
-use Rattle.sendstep.specs.Steps.{listOf, sentAs}
-use Rattle.sendstep.specs.Calls.{stepsFrom, stepsSound, steps}
-use Rattle.sendstep.specs.declared.heads.Queue.{Queue}
-use Rattle.throttling.specs.Calls.{throttlesSound, throttles}
+use Rattle.packets.specs.Refusals.{sendGate, queueGate}
+use Rattle.send.specs.Calls.{fragment, commands, queuesAll, sendsSound, sends}
+use Rattle.setup.specs.Pings.{pingPiece, pingGate, pingsSound, pings}
+use Rattle.send_step.specs.Steps.{listOf, sentAs}
+use Rattle.send_step.specs.Calls.{stepsFrom, stepsSound, steps}
+use Rattle.send_step.specs.declared.heads.Queue.{Queue}
+use Rattle.round_trip.specs.Calls.{throttlesSound, throttles}
 use Rattle.acknowledge.specs.Calls.{heardIn, acknowledgesBy, acknowledgesSound, acknowledges}
 use Rattle.timeouts.specs.Calls.{checksSound, checks}
-use Rattle.dispatching.specs.Dispatching.{follows, numberAfter, readyCount, readyLast}
+use Rattle.dispatch.specs.Dispatching.{follows, numberAfter, readyCount, readyLast}
 use Rattle.dispatch.specs.Calls.{dispatchGate, dispatchedOn, dispatchesSound, dispatches}
 use Rattle.dispatch.proofs.Calling.{chosen, ready, gone, dispatched-has}
 use Rattle.dispatch.proofs.Sound.{below-count}
 use Rattle.dispatch.proofs.Moving.{dispatch-keeps, dispatch-order}
 use Rattle.receive.specs.Calls.{taken, receivesFrom, receivesSound, receives}
-use Rattle.arriving.specs.Arrivals.{arrivedSlot}
-use Rattle.arriving.specs.declared.Arrival.{Arrival}
-use Rattle.arriving.specs.declared.Fate.the-variants as fate
-use Rattle.arriving.proofs.Admitted.{Admitted}
-use Rattle.storing.specs.Storing.{freeSlot}
-use Rattle.unsequenced.specs.Calls.{arrivesUnsequenced}
-use Rattle.reliable.specs.Calls.{reliableAfter, arrivesReliable}
-use Rattle.arrived.proofs.Unsequenced.{unsequenced-has}
-use Rattle.arrived.proofs.Reliable.{reliable-has, held-free, between, between-whole, between-sound, left-dispatched}
-use Rattle.transit.proofs.Carrying.{same-all}
-use Rattle.outward.specs.Steps.{goes}
-use Rattle.outward.specs.declared.calls.Call.{Call as Outward}
-use Rattle.outward.specs.declared.calls.Call.the-variants as out
-use Rattle.link.specs.Steps.{step}
+use Rattle.arrival.specs.Arrivals.{arrivedSlot}
+use Rattle.arrival.specs.declared.Arrival.{Arrival}
+use Rattle.arrival.specs.declared.Fate.the-variants as fate
+use Rattle.arrival.proofs.Admitted.{Admitted}
+use Rattle.arrival.specs.Storing.{freeSlot}
+use Rattle.arrive_unsequenced.specs.Calls.{arrivesUnsequenced}
+use Rattle.arrive_reliable.specs.Calls.{reliableAfter, arrivesReliable}
+use Rattle.laws.proofs.Unsequenced.{unsequenced-has}
+use Rattle.laws.proofs.Reliable.{reliable-has, held-free, between, between-whole, between-sound, left-dispatched}
+use Rattle.laws.proofs.Carrying.{same-all}
+use Rattle.link_out.specs.Steps.{callsOut}
+use Rattle.link_out.specs.declared.calls.Call.{Call as Outward}
+use Rattle.link_out.specs.declared.calls.Call.the-variants as out
+use Rattle.link.specs.Steps.{calls}
 use Rattle.link.specs.Runs.{Asked, comesTo, resetState}
-use Rattle.inward.specs.declared.calls.Call.the-variants as inw
+use Rattle.link_in.specs.declared.calls.Call.the-variants as inw
 use Rattle.link.specs.declared.calls.Call.{Call}
 use Rattle.link.specs.declared.calls.Call.the-variants as call
 use Rattle.promises.specs.Reports.{isAnew, isOn, numbersJoined, reported, reports, series, CountsOnce}
@@ -185,11 +185,11 @@ module _ (channel : ℕ) where
   pub record Still (p q : Peer) : Type 0 where
     pub last : numberOn (getD (q .channels) channel noChannel) ≡ numberOn (getD (p .channels) channel noChannel)
     pub held : getD (q .channels) channel noChannel .held ≡ getD (p .channels) channel noChannel .held
-    pub count : q .standing .count ≡ p .standing .count
+    pub count : q .standing .channels ≡ p .standing .channels
     pub slots : q .incoming ≡ p .incoming
 
   -- all the channels and the slots as they were
-  left-still : (p q : Peer) → q .channels ≡ p .channels → q .standing .count ≡ p .standing .count → q .incoming ≡ p .incoming → Still p q
+  left-still : (p q : Peer) → q .channels ≡ p .channels → q .standing .channels ≡ p .standing .channels → q .incoming ≡ p .incoming → Still p q
   left-still p q e n i =
       record {
         last = ap (λ (cs : List Channel). numberOn (getD cs channel noChannel)) e;
@@ -221,7 +221,7 @@ module _ (channel : ℕ) where
   none-joined p log c = rw (drop-length (inItems (p .lists .dispatched)), append-nil log) c
 
   -- ---- a dispatch on the channel
-  module _ (p : Peer) (whole : Whole p) (good : sound p ≡ true) (on : channel < p .standing .count) (plain : Plain (p .incoming)) where
+  module _ (p : Peer) (whole : Whole p) (good : sound p ≡ true) (on : channel < p .standing .channels) (plain : Plain (p .incoming)) where
     abbrev pub more : List ℕ
     more = numbersOf (p .incoming) (take (ready channel p) (inItems (chosen channel p .held)))
 
@@ -295,7 +295,7 @@ module _ (channel : ℕ) where
         go false = c
 
     held : (n : ℕ) → sound (x .peer) ≡ true → Admitted a (x .peer .standing) (length datagram)
-        → freeSlot (x .peer .lists) (x .peer .channels) (x .peer .standing .count) ≡ Lowest n
+        → freeSlot (x .peer .lists) (x .peer .channels) (x .peer .standing .channels) ≡ Lowest n
         → After (reliableAfter (fate.Stored n) a datagram x)
     held n good may free = go (eqb (a .channel) channel) refl
       where
@@ -318,7 +318,7 @@ module _ (channel : ℕ) where
             subst (λ (y : Peer). Counted y (log ++ joined (x .peer) y))
             (ap (λ (i : ℕ). dispatchedOn i q) (sym is) ∙ sym (left-dispatched a datagram x n w good may free))
             (dispatched-counted q (between-whole a datagram x n w good may free) (between-sound a datagram x n w good may free)
-            (subst (λ (i : ℕ). i < x .peer .standing .count) is (may .on)) (held-counted .plain) log held-counted)
+            (subst (λ (i : ℕ). i < x .peer .standing .channels) is (may .on)) (held-counted .plain) log held-counted)
         go false e =
             record {
               rises = c .rises;
@@ -371,7 +371,7 @@ module _ (channel : ℕ) where
   setup-still : (s : Settings) (x : Piece) (p : Peer) → Still p (setsUp s x p .after)
   setup-still s x p =
       behind-still p (gate s p) (setsUpSound x p)
-      (behind-still p (setupGate x (p .standing .count) (room p)) (finished (queued x p)) (queued-still x p))
+      (behind-still p (setupGate x (p .standing .channels) (room p)) (finished (queued x p)) (queued-still x p))
 
   send-still : (s : Settings) (on long flags : ℕ) (p : Peer) → Still p (sends s on long flags p .after)
   send-still s on long flags p =
@@ -415,7 +415,7 @@ module _ (channel : ℕ) where
       go Empty = still p
       go (Slot n) = left-still p (taken n p) refl refl refl
 
-  pub outward-still : (s : Settings) (a : Outward) (p : Peer) → Still p (goes s a p .after)
+  pub outward-still : (s : Settings) (a : Outward) (p : Peer) → Still p (callsOut s a p .after)
   outward-still s out.Ping p = ping-still s p
   outward-still s (out.Send on long flags) p = send-still s on long flags p
   outward-still s (out.Setup x) p = setup-still s x p
@@ -447,18 +447,18 @@ module _ (channel : ℕ) where
   begin-counted : (s : Settings) (mtu count : ℕ) (p : Peer) (log : List ℕ) → Counted p log → Anew log (begins s mtu count p)
   begin-counted s mtu count p log c =
       behind-has (gate s p) p (beginsSound mtu count p) (Anew log) (refused-counted p log c)
-      (λ e. picked (Anew log) (beginFits mtu count (p .standing .count)) (finished (begun mtu count p)) (unchanged OutOfRange p)
+      (λ e. picked (Anew log) (beginFits mtu count (p .standing .channels)) (finished (begun mtu count p)) (unchanged OutOfRange p)
       (record { rises = tt; last = anew-last; plain = c .plain }) c)
 
   -- ---- each call, and a run
   pub call-counted : (a : Call) (s : Settings) (datagram : List ℕ) (x : State) (log : List ℕ) → Whole (x .peer) → Counted (x .peer) log
-      → let o = step s a datagram x in
+      → let o = calls s a datagram x in
       Counted (o .after .peer) (pick (isAnew a (o .answer)) [] (pick (isOn channel a) (log ++ numbersJoined x (o .after)) log))
   call-counted call.Reset s datagram x log w c = reset-counted s (x .peer) log c
   call-counted (call.Begin mtu count) s datagram x log w c = begin-counted s mtu count (x .peer) log c
   call-counted (call.SetState state) s datagram x log w c =
       still-counted (x .peer) (setsState s state (x .peer) .after) log (state-still s state (x .peer)) c
-  call-counted (call.Outward a) s datagram x log w c = still-counted (x .peer) (goes s a (x .peer) .after) log (outward-still s a (x .peer)) c
+  call-counted (call.Outward a) s datagram x log w c = still-counted (x .peer) (callsOut s a (x .peer) .after) log (outward-still s a (x .peer)) c
   call-counted (call.Inward (inw.UnsequencedArrival a group)) s datagram x log w c = unsequenced-counted s a datagram x log w c group
   call-counted (call.Inward (inw.ReliableArrival a)) s datagram x log w c = reliable-counted s a datagram x log w c
   call-counted (call.Inward (inw.Dispatch on)) s datagram x log w c = dispatch-counted s on (x .peer) log w c

@@ -9,32 +9,32 @@ use lib.Dec.{eqb}
 use lib.ListN.{length, replicate}
 use borrow.Author.Tests.{eqb-true}
 use Rattle.numbers.specs.Pick.{pick}
-use Rattle.runs.specs.Runs.{has}
-use Rattle.runs.specs.Free.{firstFrom, countFrom, exist, once}
+use Rattle.cells.specs.Runs.{has}
+use Rattle.cells.specs.Free.{firstFrom, countFrom, exist, once}
 use Rattle.command.specs.declared.fields.Fields.the-variants as fields
 use Rattle.window.specs.Window.{marked}
-use Rattle.parts.specs.Fresh.{noLists, noChannel, noOutgoing, noIncoming}
-use Rattle.parts.specs.Damage.{all, held, heldFit, own, lengths}
-use Rattle.parts.specs.Sizes.{itself, storeLength}
+use Rattle.record.specs.Fresh.{noLists, noChannel, noOutgoing, noIncoming}
+use Rattle.record.specs.Damage.{all, held, heldFit, own, lengths}
+use Rattle.record.specs.Sizes.{itself, storeLength}
 use Rattle.peer.specs.Fresh.{freshPeer}
 use Rattle.peer.specs.Damage.{sound}
 use Rattle.peer.specs.Outcome.{State}
 use Rattle.peer.specs.declared.settings.Settings.{Settings}
-use Rattle.peer.specs.declared.record.Peer.{Peer}
+use Rattle.peer.specs.declared.Peer.{Peer}
 use Rattle.peer.specs.declared.defaults.Kept.{Kept}
-use Rattle.stamps.specs.declared.pieces.Piece.{Piece}
+use Rattle.outbox.specs.declared.pieces.Piece.{Piece}
 use Rattle.setup.specs.Queueing.{queuedAt, queued}
-use Rattle.plans.specs.Plans.{packetOf}
-use Rattle.plans.proofs.Planning.{left-length}
-use Rattle.sending.specs.Calls.{fragment, commands, queuesAll}
-use Rattle.removal.specs.Removal.{seek}
-use Rattle.holding.specs.Holding.{holds}
-use Rattle.arriving.specs.declared.Arrival.{Arrival}
+use Rattle.packets.specs.CodePlans.{packetOf}
+use Rattle.packets.proofs.Planning.{left-length}
+use Rattle.send.specs.Calls.{fragment, commands, queuesAll}
+use Rattle.acknowledge.specs.Removal.{seek}
+use Rattle.arrive_reliable.specs.Holding.{holds}
+use Rattle.arrival.specs.declared.Arrival.{Arrival}
 use Rattle.link.specs.Runs.{Asked, comesTo, run, resetState}
-use Rattle.outward.specs.declared.calls.Call.{Call as Outward}
-use Rattle.outward.specs.declared.calls.Call.the-variants as out
-use Rattle.inward.specs.declared.calls.Call.{Call as Inward}
-use Rattle.inward.specs.declared.calls.Call.the-variants as inw
+use Rattle.link_out.specs.declared.calls.Call.{Call as Outward}
+use Rattle.link_out.specs.declared.calls.Call.the-variants as out
+use Rattle.link_in.specs.declared.calls.Call.{Call as Inward}
+use Rattle.link_in.specs.declared.calls.Call.the-variants as inw
 use Rattle.link.specs.declared.calls.Call.{Call}
 use Rattle.link.specs.declared.calls.Call.the-variants as call
 use Rattle.promises.specs.Refusals.{refusalsOf, opOf, Shown, AnswersEach}

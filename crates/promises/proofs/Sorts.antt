@@ -19,63 +19,63 @@ use Rattle.numbers.specs.declared.clock.Trip.the-variants.{PassedOver, Taken}
 use Rattle.numbers.specs.declared.refusals.Refusal.the-variants.{OutOfRange, NotReceiving, LengthTooLarge, BadCommand}
 use Rattle.numbers.proofs.Settled.{refused-not-done}
 use Rattle.numbers.proofs.BoolLaws.{both-left, both-right, both-true, both-false, both-with-true}
-use Rattle.slots.specs.Lists.{outItems, inItems}
-use Rattle.runs.specs.Runs.{first}
-use Rattle.runs.specs.declared.First.{First}
-use Rattle.runs.specs.declared.First.the-variants.{Slot, Empty}
-use Rattle.parts.specs.Sizes.{channels}
-use Rattle.parts.specs.Fresh.{noChannel, noIncoming}
-use Rattle.parts.specs.Damage.{all, below, own}
-use Rattle.parts.specs.declared.groups.Channel.{Channel}
-use Rattle.parts.specs.declared.groups.Groups.{Groups}
-use Rattle.parts.specs.declared.groups.Incoming.{Incoming}
-use Rattle.parts.specs.declared.groups.Standing.{Standing}
+use Rattle.record.specs.Lists.{outItems, inItems}
+use Rattle.cells.specs.Runs.{first}
+use Rattle.cells.specs.declared.First.{First}
+use Rattle.cells.specs.declared.First.the-variants.{Slot, Empty}
+use Rattle.record.specs.Sizes.{channels}
+use Rattle.record.specs.Fresh.{noChannel, noIncoming}
+use Rattle.record.specs.Damage.{all, below, own}
+use Rattle.record.specs.declared.groups.Channel.{Channel}
+use Rattle.record.specs.declared.groups.Unsequenced.{Unsequenced}
+use Rattle.record.specs.declared.groups.Incoming.{Incoming}
+use Rattle.record.specs.declared.groups.Standing.{Standing}
 use Rattle.peer.specs.Damage.{sound}
 use Rattle.peer.specs.Gate.{fits, gateOf, then, behind, onRecord}
 use Rattle.peer.specs.States.{lastState}
 use Rattle.peer.specs.Outcome.{State, Outcome, finished, unchanged}
 use Rattle.peer.specs.Sounds.{Whole}
 use Rattle.peer.specs.declared.settings.Settings.{Settings}
-use Rattle.peer.specs.declared.record.Peer.{Peer}
+use Rattle.peer.specs.declared.Peer.{Peer}
 use Rattle.peer.specs.declared.gate.Lent.the-variants as lent
 use Rattle.peer.specs.declared.gate.Gate.{Gate}
 use Rattle.peer.specs.declared.gate.Gate.the-variants.{Open, Shut}
 use Rattle.peer.proofs.Gates.{openness, sound-open, behind-has}
 use Rattle.peer.proofs.InClauses.{incoming-clauses, shorter-items}
 use Rattle.peer.proofs.Ranges.{count-high}
-use Rattle.arriving.specs.Arrivals.{stored, names, isReceiving, isWhole, arrivalGate, storedAt}
-use Rattle.opening.specs.Calls.{beginFits, begun, beginsSound, begins, stated, setsStateSound, setsState}
+use Rattle.arrival.specs.Arrivals.{stored, names, isReceiving, isWhole, arrivalGate, storedAt}
+use Rattle.lifecycle.specs.Calls.{beginFits, begun, beginsSound, begins, stated, setsStateSound, setsState}
 use Rattle.setup.specs.Queueing.{room, queued, queuedAll}
 use Rattle.setup.specs.Calls.{setupGate, setsUpSound}
 use Rattle.setup.proofs.Sound.{queued-standing, queuedAll-standing}
-use Rattle.plans.specs.Refusals.{sendGate, queueGate}
-use Rattle.sending.specs.Calls.{fragment, commands, queuesAll, sendsSound}
-use Rattle.ping.specs.Calls.{pingPiece, pingGate, pingsSound}
-use Rattle.sendstep.specs.Steps.{listOf, sentAs}
-use Rattle.sendstep.specs.Calls.{stepsFrom, stepsSound}
-use Rattle.sendstep.specs.declared.heads.Queue.{Queue}
+use Rattle.packets.specs.Refusals.{sendGate, queueGate}
+use Rattle.send.specs.Calls.{fragment, commands, queuesAll, sendsSound}
+use Rattle.setup.specs.Pings.{pingPiece, pingGate, pingsSound}
+use Rattle.send_step.specs.Steps.{listOf, sentAs}
+use Rattle.send_step.specs.Calls.{stepsFrom, stepsSound}
+use Rattle.send_step.specs.declared.heads.Queue.{Queue}
 use Rattle.acknowledge.specs.Calls.{heardIn, acknowledgesBy, acknowledgesSound}
 use Rattle.timeouts.specs.Calls.{checksSound}
-use Rattle.throttling.specs.Calls.{throttlesSound}
-use Rattle.storing.specs.Storing.{delivered}
+use Rattle.round_trip.specs.Calls.{throttlesSound}
+use Rattle.arrival.specs.Storing.{delivered}
 use Rattle.receive.specs.Calls.{taken, receivesFrom, receivesSound, receives}
 use Rattle.dispatch.specs.Calls.{dispatchGate, dispatchedOn, dispatchesSound, dispatches}
 use Rattle.dispatch.proofs.Calling.{chosen, ready as readyIn}
 use Rattle.dispatch.proofs.Sound.{below-count}
 use Rattle.dispatch.proofs.Moving.{dispatch-order}
-use Rattle.arriving.specs.declared.Arrival.{Arrival}
-use Rattle.arriving.specs.declared.Fate.the-variants as fate
-use Rattle.arriving.proofs.Admitted.{Admitted}
-use Rattle.unsequenced.specs.Calls.{sendUnsequenced, judgedOn, unsequencedSound, arrivesUnsequenced}
-use Rattle.reliable.specs.Calls.{sendReliable, reliableAfter, reliableSound, arrivesReliable}
-use Rattle.arrived.specs.Stores.{Arrives, leaves, stores}
-use Rattle.arrived.proofs.Stores.{unsequenced-stores}
-use Rattle.arrived.proofs.Unsequenced.{unsequenced-has, stored-free, joins}
-use Rattle.arrived.proofs.Reliable.{reliable-has, held-free, between, between-whole, between-sound, left-dispatched}
-use Rattle.outward.specs.Steps.{goes}
-use Rattle.outward.specs.declared.calls.Call.{Call as Outward}
-use Rattle.outward.specs.declared.calls.Call.the-variants as out
-use Rattle.inward.specs.Steps.{beside}
+use Rattle.arrival.specs.declared.Arrival.{Arrival}
+use Rattle.arrival.specs.declared.Fate.the-variants as fate
+use Rattle.arrival.proofs.Admitted.{Admitted}
+use Rattle.arrive_unsequenced.specs.Calls.{sendUnsequenced, judgedOn, unsequencedSound, arrivesUnsequenced}
+use Rattle.arrive_reliable.specs.Calls.{sendReliable, reliableAfter, reliableSound, arrivesReliable}
+use Rattle.laws.specs.Stores.{Arrives, leaves, stores}
+use Rattle.laws.proofs.Stores.{unsequenced-stores}
+use Rattle.laws.proofs.Unsequenced.{unsequenced-has, stored-free, joins}
+use Rattle.laws.proofs.Reliable.{reliable-has, held-free, between, between-whole, between-sound, left-dispatched}
+use Rattle.link_out.specs.Steps.{callsOut}
+use Rattle.link_out.specs.declared.calls.Call.{Call as Outward}
+use Rattle.link_out.specs.declared.calls.Call.the-variants as out
+use Rattle.link_in.specs.Steps.{beside}
 use Rattle.link.specs.Runs.{saysOne, Packet}
 use Rattle.promises.specs.Counts.{count, those}
 use Rattle.promises.specs.Reports.{dispatchedIn, numbersJoined, series}
@@ -322,25 +322,25 @@ count-all f g (x ∷ xs) e =
     let is : _≡_ {A = ℕ} (pick (f (g x)) 1 0) 1 = ap (λ (b : Bool). pick b 1 0) (both-left (f (g x)) (all (λ (s : ℕ). f (g s)) xs) e) in
     omega (arith, is, count-all f g xs (both-right (f (g x)) (all (λ (s : ℕ). f (g s)) xs) e))
 
-module _ (channel : ℕ) (p : Peer) (whole : Whole p) (good : sound p ≡ true) (h : channel < p .standing .count) where
+module _ (channel : ℕ) (p : Peer) (whole : Whole p) (good : sound p ≡ true) (h : channel < p .standing .channels) where
   moved-own : all (λ (s : ℕ). eqb (getD (p .incoming) s noIncoming .channel) channel) (take (readyIn channel p) (inItems (chosen channel p .held)))
       ≡ true
   moved-own =
       let f : ℕ → Bool = λ s. eqb (getD (p .incoming) s noIncoming .channel) channel in
-      let cs = below (p .channels) (p .standing .count) in
+      let cs = below (p .channels) (p .standing .channels) in
       let here : channel < length cs =
-      omega (arith, h, count-high p good, whole .channels, length-take (p .standing .count) (p .channels)) in
+      omega (arith, h, count-high p good, whole .channels, length-take (p .standing .channels) (p .channels)) in
       let from-none : channel ≡ 0 + channel = omega arith in
       let theirs = own-at (p .incoming) 0 cs channel (incoming-clauses p good .own) here in
       all-take f (readyIn channel p) (inItems (chosen channel p .held))
-      (ap (λ (c : Channel). all f (inItems (c .held))) (sym (getD-take (p .standing .count) (p .channels) channel noChannel h))
+      (ap (λ (c : Channel). all f (inItems (c .held))) (sym (getD-take (p .standing .channels) (p .channels) channel noChannel h))
       ∙ ap (λ (n : ℕ). all (λ (s : ℕ). eqb (getD (p .incoming) s noIncoming .channel) n) (inItems (getD cs channel noChannel .held))) from-none
       ∙ theirs)
 
 -- ---- what a call on a channel lets join: packets of that channel, none before begin
 -- before begin no channel counts
 abbrev pub Unbegun : Peer → Type 0
-Unbegun p = p .standing .count ≡ 0
+Unbegun p = p .standing .channels ≡ 0
 
 same-newly : (x : State) → newly x x ≡ []
 same-newly x = drop-length (ready x)
@@ -357,7 +357,7 @@ none-joined on x =
 
 slots-joined : (on : ℕ) (x y : State) (js : List ℕ) → dispatchedIn y ≡ dispatchedIn x ++ js
     → all (λ (s : ℕ). eqb (getD (y .peer .incoming) s noIncoming .channel) on) js ≡ true
-    → on < x .peer .standing .count → (Unbegun (y .peer) → Unbegun (x .peer)) → Joined on x y
+    → on < x .peer .standing .channels → (Unbegun (y .peer) → Unbegun (x .peer)) → Joined on x y
 slots-joined on x y js e theirs h same =
     let is = newly-is x y js e in
     record {
@@ -401,7 +401,7 @@ pub record Enters (a : Arrival) (datagram : List ℕ) (x : State) (o : Outcome S
   pub same : Unbegun (o .after .peer) → Unbegun (x .peer)
 
 module _ (s : Settings) (a : Arrival) (group : Group) (datagram : List ℕ) (x : State) (whole : Whole (x .peer)) where
-  abbrev left : Groups
+  abbrev left : Unsequenced
   left = judgedOn s group (x .peer) .groups
 
   stored-enters : (n : ℕ) → sound (x .peer) ≡ true → Admitted a (x .peer .standing) (length datagram) → judgedOn s group (x .peer) .fate ≡ fate.Stored n
@@ -445,7 +445,7 @@ on-before : (s : Settings) (p : Peer) (rest : Outcome Peer) → Before p (rest .
 on-before s p rest h = behind-before p (gateOf (fits s lent.Nothing) (sound p)) rest h
 
 standing-before : (p q : Peer) → q .standing ≡ p .standing → Before p q
-standing-before p q e z = sym (ap (λ (t : Standing). t .count) e) ∙ z
+standing-before p q e z = sym (ap (λ (t : Standing). t .channels) e) ∙ z
 
 pub state-before : (s : Settings) (state : ℕ) (p : Peer) → Before p (setsState s state p .after)
 state-before s state p =
@@ -461,7 +461,7 @@ by-before : (t : Trip) (channel number clock : ℕ) (p : Peer) → Before p (ack
 by-before PassedOver channel number clock p z = z
 by-before (Taken sample) channel number clock p z = z
 
-pub outward-before : (s : Settings) (c : Outward) (p : Peer) → Before p (goes s c p .after)
+pub outward-before : (s : Settings) (c : Outward) (p : Peer) → Before p (callsOut s c p .after)
 outward-before s out.Ping p =
     on-before s p (pingsSound p)
     (behind-before p (pingGate (p .standing) (room p)) (finished (queued pingPiece p)) (standing-before p (queued pingPiece p) (queued-standing pingPiece p)))
@@ -472,7 +472,7 @@ outward-before s (out.Send channel long flags) p =
     (behind-before p (queueGate (length xs) (room p)) (finished (queuedAll xs p)) (standing-before p (queuedAll xs p) (queuedAll-standing xs p))))
 outward-before s (out.Setup x) p =
     on-before s p (setsUpSound x p)
-    (behind-before p (setupGate x (p .standing .count) (room p)) (finished (queued x p)) (standing-before p (queued x p) (queued-standing x p)))
+    (behind-before p (setupGate x (p .standing .channels) (room p)) (finished (queued x p)) (standing-before p (queued x p) (queued-standing x p)))
 outward-before s (out.SendStep q time) p = on-before s p (stepsSound q time p) (step-before (first (outItems (listOf q (p .lists)))) q time p)
 outward-before s (out.Acknowledgement channel number sent clock) p =
     on-before s p (acknowledgesSound channel (number .0) sent clock p) (by-before (heardIn (p .standing .state) clock sent) channel (number .0) clock p)
@@ -488,11 +488,11 @@ pub begin-at : (s : Settings) (mtu count : ℕ) (p : Peer) → Begins p (begins 
 begin-at s mtu count p =
     behind-has (gateOf (fits s lent.Nothing) (sound p)) p (beginsSound mtu count p) (Begins p)
     (λ why. record { at = λ e. absurd (refused-not-done why e); before = λ z. z })
-    (λ e. go (beginFits mtu count (p .standing .count)) refl)
+    (λ e. go (beginFits mtu count (p .standing .channels)) refl)
   where
-    go : (b : Bool) → beginFits mtu count (p .standing .count) ≡ b → Begins p (pick b (finished (begun mtu count p)) (unchanged OutOfRange p))
+    go : (b : Bool) → beginFits mtu count (p .standing .channels) ≡ b → Begins p (pick b (finished (begun mtu count p)) (unchanged OutOfRange p))
     go true e =
-        let none = eqb-true (p .standing .count) 0
+        let none = eqb-true (p .standing .channels) 0
         (both-right (leb count channels) _ (both-right (leb 1 count) _ (both-right (leb mtu mostMtu) _ (both-right (leb leastMtu mtu) _ e)))) in
         record { at = λ d. none; before = λ z. none }
     go false e = record { at = λ d. absurd (omega (arith, d)); before = λ z. z }

@@ -7,26 +7,26 @@ use mathlib.Core.List.{List, [], _∷_}
 use lib.ListN.{length-replicate}
 use Rattle.numbers.specs.Pick.{pick}
 use Rattle.numbers.specs.declared.refusals.Refusal.the-variants.{OutOfRange}
-use Rattle.slots.specs.Lists.{outgoing, incoming}
-use Rattle.parts.specs.Sizes.{channels}
-use Rattle.parts.specs.Fresh.{noChannel, noOutgoing, noIncoming}
+use Rattle.record.specs.Lists.{outgoing, incoming}
+use Rattle.record.specs.Sizes.{channels}
+use Rattle.record.specs.Fresh.{noChannel, noOutgoing, noIncoming}
 use Rattle.peer.specs.Damage.{sound}
 use Rattle.peer.specs.Sounds.{Whole, Sounds}
 use Rattle.peer.specs.Settings.{fitSettings}
 use Rattle.peer.specs.Fresh.{freshPeer}
 use Rattle.peer.specs.Outcome.{State, Outcome, finished, unchanged, onPeer}
 use Rattle.peer.specs.declared.settings.Settings.{Settings}
-use Rattle.peer.specs.declared.record.Peer.{Peer}
+use Rattle.peer.specs.declared.Peer.{Peer}
 use Rattle.peer.specs.declared.defaults.Kept.{Kept}
-use Rattle.opening.specs.Calls.{kept}
-use Rattle.opening.proofs.Sound.{reset-sounds, begin-sounds, state-sounds}
-use Rattle.arrived.proofs.Unsequenced.{unsequenced-sounds}
-use Rattle.arrived.proofs.Reliable.{reliable-sounds}
+use Rattle.lifecycle.specs.Calls.{kept}
+use Rattle.lifecycle.proofs.Sound.{reset-sounds, begin-sounds, state-sounds}
+use Rattle.laws.proofs.Unsequenced.{unsequenced-sounds}
+use Rattle.laws.proofs.Reliable.{reliable-sounds}
 use Rattle.dispatch.proofs.Sound.{dispatch-sounds}
 use Rattle.receive.proofs.Sound.{receive-sounds}
-use Rattle.link.specs.Steps.{step}
+use Rattle.link.specs.Steps.{calls}
 use Rattle.link.specs.Runs.{Asked, comesTo, run, resetState}
-use Rattle.inward.specs.declared.calls.Call.the-variants as inw
+use Rattle.link_in.specs.declared.calls.Call.the-variants as inw
 use Rattle.link.specs.declared.calls.Call.{Call}
 use Rattle.link.specs.declared.calls.Call.the-variants as call
 use Rattle.promises.proofs.Refusals.{sound-undamaged}
@@ -35,7 +35,7 @@ use Rattle.promises.specs.Standing.{StaysSound, Undamaged, NeverDamaged}
 
 -- a call of the link on a record, beside a store
 abbrev on : Settings → Call → List ℕ → List ℕ → Peer → Outcome Peer
-on s c datagram store p = onPeer (step s c datagram (record { peer = p; store = store }))
+on s c datagram store p = onPeer (calls s c datagram (record { peer = p; store = store }))
 
 pub call-sounds : (s : Settings) (c : Call) (datagram store : List ℕ) → Sounds (on s c datagram store)
 call-sounds s call.Reset datagram store = reset-sounds s

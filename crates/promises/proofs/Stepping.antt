@@ -13,15 +13,15 @@ use Rattle.peer.specs.Fresh.{freshPeer}
 use Rattle.peer.specs.Outcome.{State, Outcome, finished, unchanged}
 use Rattle.peer.specs.declared.settings.Settings.{Settings}
 use Rattle.peer.specs.declared.defaults.Kept.{Kept}
-use Rattle.opening.specs.Calls.{kept, resets}
-use Rattle.arriving.specs.declared.Arrival.{Arrival}
-use Rattle.unsequenced.specs.Calls.{arrivesUnsequenced}
-use Rattle.steady.specs.Steady.{SameWindow}
-use Rattle.steady.proofs.Steady.{begin-steady, state-steady, dispatch-steady, receive-window, reliable-window}
-use Rattle.inward.specs.Steps.{beside}
-use Rattle.link.specs.Steps.{step}
+use Rattle.lifecycle.specs.Calls.{kept, resets}
+use Rattle.arrival.specs.declared.Arrival.{Arrival}
+use Rattle.arrive_unsequenced.specs.Calls.{arrivesUnsequenced}
+use Rattle.laws.specs.Steady.{SameWindow}
+use Rattle.laws.proofs.Steady.{begin-steady, state-steady, dispatch-steady, receive-window, reliable-window}
+use Rattle.link_in.specs.Steps.{beside}
+use Rattle.link.specs.Steps.{calls}
 use Rattle.link.specs.Runs.{Asked, comesTo, run, resetState}
-use Rattle.inward.specs.declared.calls.Call.the-variants as inw
+use Rattle.link_in.specs.declared.calls.Call.the-variants as inw
 use Rattle.link.specs.declared.calls.Call.{Call}
 use Rattle.link.specs.declared.calls.Call.the-variants as call
 use Rattle.promises.specs.History.{Event, Concern, resetting, arriving, neither, concern, InRange, AllInRange, baseOf, logs, logged, history}
@@ -59,17 +59,17 @@ arrival-does s a group datagram x log small = go (arrival-lands s a group datagr
 same-does : (x : State) (o : Outcome State) (log : List Event) → SameWindow (x .peer) (o .after .peer) → Does neither x o log
 same-does x o log w = stays (ap₂ (λ (b : Group) (ws : List ℕ). record { base = b .0; words = ws }) (w .base) (w .words)) refl
 
-call-does : (c : Call) (s : Settings) (datagram : List ℕ) (x : State) (log : List Event) → InRange (concern c) → Does (concern c) x (step s c datagram x) log
+call-does : (c : Call) (s : Settings) (datagram : List ℕ) (x : State) (log : List Event) → InRange (concern c) → Does (concern c) x (calls s c datagram x) log
 call-does call.Reset s datagram x log i = reset-does s x log
-call-does (call.Begin mtu channels) s datagram x log i = same-does x (step s (call.Begin mtu channels) datagram x) log (begin-steady s mtu channels (x .peer) .window)
-call-does (call.SetState state) s datagram x log i = same-does x (step s (call.SetState state) datagram x) log (state-steady s state (x .peer) .window)
-call-does (call.Outward c) s datagram x log i = same-does x (step s (call.Outward c) datagram x) log (outward-steady s c (x .peer) .window)
+call-does (call.Begin mtu channels) s datagram x log i = same-does x (calls s (call.Begin mtu channels) datagram x) log (begin-steady s mtu channels (x .peer) .window)
+call-does (call.SetState state) s datagram x log i = same-does x (calls s (call.SetState state) datagram x) log (state-steady s state (x .peer) .window)
+call-does (call.Outward c) s datagram x log i = same-does x (calls s (call.Outward c) datagram x) log (outward-steady s c (x .peer) .window)
 call-does (call.Inward (inw.UnsequencedArrival a group)) s datagram x log i = arrival-does s a group datagram x log i
 call-does (call.Inward (inw.ReliableArrival a)) s datagram x log i =
-    same-does x (step s (call.Inward (inw.ReliableArrival a)) datagram x) log (reliable-window s a datagram x)
+    same-does x (calls s (call.Inward (inw.ReliableArrival a)) datagram x) log (reliable-window s a datagram x)
 call-does (call.Inward (inw.Dispatch channel)) s datagram x log i =
-    same-does x (step s (call.Inward (inw.Dispatch channel)) datagram x) log (dispatch-steady s channel (x .peer) .window)
-call-does (call.Inward inw.Receive) s datagram x log i = same-does x (step s (call.Inward inw.Receive) datagram x) log (receive-window s (x .peer))
+    same-does x (calls s (call.Inward (inw.Dispatch channel)) datagram x) log (dispatch-steady s channel (x .peer) .window)
+call-does (call.Inward inw.Receive) s datagram x log i = same-does x (calls s (call.Inward inw.Receive) datagram x) log (receive-window s (x .peer))
 
 pub step-holds : (a : Asked) (x : State) (log : List Event) → InRange (concern (a .call)) → Holds (windowOf x) log
     → Holds (windowOf (comesTo a x .after)) (logged a x log)

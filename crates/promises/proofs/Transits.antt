@@ -9,44 +9,44 @@ use lib.Dec.{eqb}
 use lib.ListN.{getD, set}
 use Rattle.numbers.specs.Pick.{pick}
 use Rattle.numbers.specs.declared.counters.Group.{Group}
-use Rattle.slots.specs.Lists.{outItems, inItems}
-use Rattle.slots.specs.declared.outgoing.OutList.{OutList}
-use Rattle.runs.specs.Runs.{first}
-use Rattle.runs.specs.declared.First.{First}
-use Rattle.runs.specs.declared.First.the-variants.{Slot, Empty}
-use Rattle.parts.specs.Fresh.{noChannel}
-use Rattle.parts.specs.declared.groups.Channel.{Channel}
-use Rattle.parts.specs.declared.groups.Groups.{Groups}
-use Rattle.parts.specs.declared.groups.Incoming.{Incoming}
-use Rattle.parts.specs.declared.groups.Lists.{Lists}
+use Rattle.record.specs.Lists.{outItems, inItems}
+use Rattle.record.specs.declared.outgoing.OutList.{OutList}
+use Rattle.cells.specs.Runs.{first}
+use Rattle.cells.specs.declared.First.{First}
+use Rattle.cells.specs.declared.First.the-variants.{Slot, Empty}
+use Rattle.record.specs.Fresh.{noChannel}
+use Rattle.record.specs.declared.groups.Channel.{Channel}
+use Rattle.record.specs.declared.groups.Unsequenced.{Unsequenced}
+use Rattle.record.specs.declared.groups.Incoming.{Incoming}
+use Rattle.record.specs.declared.groups.Lists.{Lists}
 use Rattle.peer.specs.Damage.{sound}
 use Rattle.peer.specs.Gate.{fits, gateOf}
 use Rattle.peer.specs.Outcome.{State, Outcome, finished}
 use Rattle.peer.specs.declared.settings.Settings.{Settings}
-use Rattle.peer.specs.declared.record.Peer.{Peer}
+use Rattle.peer.specs.declared.Peer.{Peer}
 use Rattle.peer.specs.declared.gate.Lent.the-variants as lent
 use Rattle.peer.specs.declared.gate.Gate.{Gate}
 use Rattle.peer.proofs.Gates.{behind-has}
-use Rattle.dispatching.specs.Dispatching.{readyCount, readyLast, movedOn, dispatchedBy}
-use Rattle.dispatching.specs.declared.Dispatched.{Dispatched}
+use Rattle.dispatch.specs.Dispatching.{readyCount, readyLast, movedOn, dispatchedBy}
+use Rattle.dispatch.specs.Dispatching.{Dispatched}
 use Rattle.dispatch.specs.Calls.{dispatchGate, dispatchedOn, dispatchesSound, dispatches}
 use Rattle.receive.specs.Calls.{receivesFrom, receivesSound, receives}
-use Rattle.arriving.specs.Arrivals.{arrivedSlot}
-use Rattle.arriving.specs.declared.Arrival.{Arrival}
-use Rattle.arriving.specs.declared.Fate.the-variants as fate
-use Rattle.holding.specs.Holding.{heldWith}
-use Rattle.unsequenced.specs.Calls.{arrivesUnsequenced}
-use Rattle.reliable.specs.Calls.{channelOf, reliableAfter, arrivesReliable}
-use Rattle.arrived.proofs.Unsequenced.{unsequenced-has}
-use Rattle.arrived.proofs.Reliable.{reliable-has}
-use Rattle.transit.specs.Transit.{loads, Carries}
-use Rattle.transit.proofs.Carrying.{fresh-carries, reset-carries, begin-carries, state-carries, setup-carries, send-carries, ping-carries, step-carries}
-use Rattle.transit.proofs.Carrying.{acknowledge-carries, check-carries, throttle-carries}
-use Rattle.outward.specs.Steps.{goes}
-use Rattle.outward.specs.declared.calls.Call.{Call as Outward}
-use Rattle.outward.specs.declared.calls.Call.the-variants as out
-use Rattle.inward.specs.declared.calls.Call.the-variants as inw
-use Rattle.link.specs.Steps.{step}
+use Rattle.arrival.specs.Arrivals.{arrivedSlot}
+use Rattle.arrival.specs.declared.Arrival.{Arrival}
+use Rattle.arrival.specs.declared.Fate.the-variants as fate
+use Rattle.arrive_reliable.specs.Holding.{heldWith}
+use Rattle.arrive_unsequenced.specs.Calls.{arrivesUnsequenced}
+use Rattle.arrive_reliable.specs.Calls.{channelOf, reliableAfter, arrivesReliable}
+use Rattle.laws.proofs.Unsequenced.{unsequenced-has}
+use Rattle.laws.proofs.Reliable.{reliable-has}
+use Rattle.laws.specs.Transit.{loads, Carries}
+use Rattle.laws.proofs.Carrying.{fresh-carries, reset-carries, begin-carries, state-carries, setup-carries, send-carries, ping-carries, step-carries}
+use Rattle.laws.proofs.Carrying.{acknowledge-carries, check-carries, throttle-carries}
+use Rattle.link_out.specs.Steps.{callsOut}
+use Rattle.link_out.specs.declared.calls.Call.{Call as Outward}
+use Rattle.link_out.specs.declared.calls.Call.the-variants as out
+use Rattle.link_in.specs.declared.calls.Call.the-variants as inw
+use Rattle.link.specs.Steps.{calls}
 use Rattle.link.specs.Runs.{Asked, comesTo, run, resetState}
 use Rattle.link.specs.declared.calls.Call.{Call}
 use Rattle.link.specs.declared.calls.Call.the-variants as call
@@ -60,7 +60,7 @@ abbrev gate : Settings → Peer → Gate
 gate s p = gateOf (fits s lent.Nothing) (sound p)
 
 -- ---- dispatch, alone and behind a reliable arrival: of the lists it changes dispatched alone
-dispatched-sent : (slots : List Incoming) (c : Channel) (l : Lists) (g : Groups) → dispatchedBy slots c l g .lists .sent ≡ l .sent
+dispatched-sent : (slots : List Incoming) (c : Channel) (l : Lists) (g : Unsequenced) → dispatchedBy slots c l g .lists .sent ≡ l .sent
 dispatched-sent slots c l g =
     let n = c .«incoming_reliable» .0 in
     go (movedOn (readyCount slots (inItems (c .held)) n) (readyLast slots (inItems (c .held)) n) c l g) refl (eqb (readyCount slots (inItems (c .held)) n) 0)
@@ -114,7 +114,7 @@ module _ (s : Settings) (a : Arrival) (datagram : List ℕ) (x : State) (c : Car
       reliable-has s a datagram x (λ (o : Outcome State). Carries (o .after .peer)) (λ why. c) (λ good e. c) (λ n good long may e. stored-carries n)
 
 -- ---- each call, and a run
-outward-carries : (s : Settings) (a : Outward) (p : Peer) → ShortPiece a → Carries p → Carries (goes s a p .after)
+outward-carries : (s : Settings) (a : Outward) (p : Peer) → ShortPiece a → Carries p → Carries (callsOut s a p .after)
 outward-carries s out.Ping p h c = ping-carries s p c
 outward-carries s (out.Send channel length flags) p h c = send-carries s channel length flags p c
 outward-carries s (out.Setup x) p h c = setup-carries s x h p c
@@ -123,7 +123,7 @@ outward-carries s (out.Acknowledgement channel number sent clock) p h c = acknow
 outward-carries s (out.TimeoutCheck clock) p h c = check-carries s clock p c
 outward-carries s (out.Throttle sample) p h c = throttle-carries s sample p c
 
-call-carries : (a : Call) (s : Settings) (datagram : List ℕ) (x : State) → Short a → Carries (x .peer) → Carries (step s a datagram x .after .peer)
+call-carries : (a : Call) (s : Settings) (datagram : List ℕ) (x : State) → Short a → Carries (x .peer) → Carries (calls s a datagram x .after .peer)
 call-carries call.Reset s datagram x h c = reset-carries s (x .peer) c
 call-carries (call.Begin mtu count) s datagram x h c = begin-carries s mtu count (x .peer) c
 call-carries (call.SetState state) s datagram x h c = state-carries s state (x .peer) c

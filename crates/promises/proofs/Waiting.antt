@@ -15,23 +15,23 @@ use Rattle.peer.specs.Settings.{fitSettings}
 use Rattle.peer.specs.Fresh.{freshPeer}
 use Rattle.peer.specs.Outcome.{State, Outcome, finished, unchanged}
 use Rattle.peer.specs.declared.settings.Settings.{Settings}
-use Rattle.peer.specs.declared.record.Peer.{Peer}
+use Rattle.peer.specs.declared.Peer.{Peer}
 use Rattle.peer.specs.declared.defaults.Kept.{Kept}
-use Rattle.opening.specs.Calls.{kept, resets, begins, setsState}
+use Rattle.lifecycle.specs.Calls.{kept, resets, begins, setsState}
 use Rattle.dispatch.specs.Calls.{dispatches}
-use Rattle.arriving.specs.declared.Arrival.{Arrival}
-use Rattle.arrived.specs.Stores.{Arrives, leaves, stores as takes}
-use Rattle.arrived.proofs.Stores.{unsequenced-stores, reliable-stores}
-use Rattle.unsequenced.specs.Calls.{arrivesUnsequenced}
-use Rattle.reliable.specs.Calls.{arrivesReliable}
+use Rattle.arrival.specs.declared.Arrival.{Arrival}
+use Rattle.laws.specs.Stores.{Arrives, leaves, stores as takes}
+use Rattle.laws.proofs.Stores.{unsequenced-stores, reliable-stores}
+use Rattle.arrive_unsequenced.specs.Calls.{arrivesUnsequenced}
+use Rattle.arrive_reliable.specs.Calls.{arrivesReliable}
 use Rattle.receive.specs.Calls.{receives}
-use Rattle.steady.specs.Steady.{Lowers, stays, lowers}
-use Rattle.steady.proofs.Steady.{begin-steady, state-steady, dispatch-steady, receive-lowers}
-use Rattle.outward.specs.Steps.{goes}
-use Rattle.inward.specs.Steps.{beside}
-use Rattle.link.specs.Steps.{step}
+use Rattle.laws.specs.Steady.{Lowers, stays, lowers}
+use Rattle.laws.proofs.Steady.{begin-steady, state-steady, dispatch-steady, receive-lowers}
+use Rattle.link_out.specs.Steps.{callsOut}
+use Rattle.link_in.specs.Steps.{beside}
+use Rattle.link.specs.Steps.{calls}
 use Rattle.link.specs.Runs.{Asked, comesTo, saysOne, run, resetState}
-use Rattle.inward.specs.declared.calls.Call.the-variants as inw
+use Rattle.link_in.specs.declared.calls.Call.the-variants as inw
 use Rattle.link.specs.declared.calls.Call.{Call}
 use Rattle.link.specs.declared.calls.Call.the-variants as call
 use Rattle.promises.specs.Standing.{Tally, freshTally, stores, counts, tallied, Waits}
@@ -76,11 +76,11 @@ receive-holds s x t h = go (receive-lowers s (x .peer))
         rw one (omega (arith, e, h, n))
 
 call-holds : (c : Call) (s : Settings) (datagram : List ℕ) (x : State) (t : Tally) → Whole (x .peer) → Holds (x .peer) t
-    → let o = step s c datagram x in Holds (o .after .peer) (counts c (o .answer) t)
+    → let o = calls s c datagram x in Holds (o .after .peer) (counts c (o .answer) t)
 call-holds call.Reset s datagram x t w h = reset-holds s x t h
 call-holds (call.Begin mtu channels) s datagram x t w h = same-holds (x .peer) (begins s mtu channels (x .peer) .after) t (begin-steady s mtu channels (x .peer) .total) h
 call-holds (call.SetState state) s datagram x t w h = same-holds (x .peer) (setsState s state (x .peer) .after) t (state-steady s state (x .peer) .total) h
-call-holds (call.Outward c) s datagram x t w h = same-holds (x .peer) (goes s c (x .peer) .after) t (outward-steady s c (x .peer) .total) h
+call-holds (call.Outward c) s datagram x t w h = same-holds (x .peer) (callsOut s c (x .peer) .after) t (outward-steady s c (x .peer) .total) h
 call-holds (call.Inward (inw.UnsequencedArrival a group)) s datagram x t w h =
     arrival-holds a datagram x (arrivesUnsequenced s a group datagram x) t (unsequenced-stores s a group datagram x w) (unsequenced-says s a datagram x group) h
 call-holds (call.Inward (inw.ReliableArrival a)) s datagram x t w h =

@@ -15,7 +15,7 @@ use Rattle.numbers.specs.Answers.{Answer, done, numbersOf}
 use Rattle.window.specs.Window.{first, distant, marked, marking, cleared, byTests, baseAfter, wordsAfter, answerAfter, windowsMoved}
 use Rattle.window.proofs.Marks.{marked-after, marked-same}
 use Rattle.window.proofs.Moves.{taken-near, taken-base, taken-by}
-use Rattle.peer.specs.declared.record.Peer.{Peer}
+use Rattle.peer.specs.declared.Peer.{Peer}
 use Rattle.peer.specs.Outcome.{State}
 use Rattle.promises.specs.History.{Event, since, windows}
 use Rattle.promises.proofs.Picks.{tested}

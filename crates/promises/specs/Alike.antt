@@ -3,12 +3,12 @@
 use mathlib.Core.Path.{_≡_}
 use mathlib.Core.List.{List}
 use Prim.Native.Nat.{ℕ}
-use Rattle.same.specs.Same.{Same}
+use Rattle.laws.specs.Same.{Same}
 use Rattle.peer.specs.Sounds.{Whole}
 use Rattle.peer.specs.Outcome.{State, Outcome}
 use Rattle.peer.specs.declared.settings.Settings.{Settings}
-use Rattle.peer.specs.declared.record.Peer.{Peer}
-use Rattle.link.specs.Steps.{step}
+use Rattle.peer.specs.declared.Peer.{Peer}
+use Rattle.link.specs.Steps.{calls}
 use Rattle.link.specs.declared.calls.Call.{Call}
 
 pub record Alike (o r : Outcome State) : Type 0 where
@@ -20,4 +20,4 @@ pub record Alike (o r : Outcome State) : Type 0 where
 abbrev pub RespectsSame : Type 0
 RespectsSame =
     (s : Settings) (k : Call) (datagram store : List ℕ) (p q : Peer) → Whole p → Whole q → Same p q
-    → Alike (step s k datagram (record { peer = p; store = store })) (step s k datagram (record { peer = q; store = store }))
+    → Alike (calls s k datagram (record { peer = p; store = store })) (calls s k datagram (record { peer = q; store = store }))

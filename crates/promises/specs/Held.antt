@@ -6,14 +6,14 @@ use mathlib.Core.Bool.{false}
 use mathlib.Core.List.{List, [], _∷_, map}
 use lib.ListN.{getD}
 use Rattle.numbers.specs.Counters.{step}
-use Rattle.slots.specs.Lists.{inItems}
-use Rattle.parts.specs.Fresh.{noChannel}
-use Rattle.parts.specs.declared.groups.Channel.{Channel}
+use Rattle.record.specs.Lists.{inItems}
+use Rattle.record.specs.Fresh.{noChannel}
+use Rattle.record.specs.declared.groups.Channel.{Channel}
 use Rattle.peer.specs.Outcome.{State}
 use Rattle.peer.specs.declared.defaults.Kept.{Kept}
-use Rattle.holding.specs.Holding.{ahead, holds, numberAt}
+use Rattle.arrive_reliable.specs.Holding.{numberDistance, holds, numberAt}
 use Rattle.link.specs.Runs.{Asked, run, resetState}
-use Rattle.inward.specs.declared.calls.Call.the-variants as inw
+use Rattle.link_in.specs.declared.calls.Call.the-variants as inw
 use Rattle.link.specs.declared.calls.Call.{Call}
 use Rattle.link.specs.declared.calls.Call.the-variants as call
 
@@ -30,7 +30,7 @@ heldIn x channel = inItems (channelIn x channel .held)
 
 -- how far what a channel holds is past its last number, in the list's order
 abbrev pub distances : State → ℕ → List ℕ
-distances x channel = map (λ (s : ℕ). ahead (lastIn x channel) (numberAt (x .peer .incoming) s)) (heldIn x channel)
+distances x channel = map (λ (s : ℕ). numberDistance (lastIn x channel) (numberAt (x .peer .incoming) s)) (heldIn x channel)
 
 -- each is above the one before, the first above n
 abbrev pub Rising : ℕ → List ℕ → Type 0
@@ -60,4 +60,4 @@ abbrev pub NothingStuck : Type 0
 NothingStuck =
     (mtu : ℕ) (kept : Kept) (store : List ℕ) (calls : List Asked) (channel : ℕ) → AllNumbered calls
     → let y = run calls (resetState mtu kept store) .end in
-    channel < y .peer .standing .count → NoneReady y channel
+    channel < y .peer .standing .channels → NoneReady y channel

@@ -7,7 +7,7 @@ use Rattle.numbers.specs.Answers.{Answer}
 use Rattle.window.specs.Window.{windowsMoved}
 use Rattle.peer.specs.Outcome.{State}
 use Rattle.link.specs.Runs.{Asked, comesTo, saysOne}
-use Rattle.inward.specs.declared.calls.Call.the-variants as inw
+use Rattle.link_in.specs.declared.calls.Call.the-variants as inw
 use Rattle.link.specs.declared.calls.Call.{Call}
 use Rattle.link.specs.declared.calls.Call.the-variants as call
 

@@ -6,18 +6,17 @@ use mathlib.Core.Bool.{Bool, true}
 use mathlib.Core.List.{List, [], _∷_}
 use lib.Dec.{eqb}
 use Rattle.numbers.specs.Pick.{pick, both}
-use Rattle.numbers.specs.Answers.{Answer}
 use Rattle.numbers.specs.declared.counters.Group.{Group}
-use Rattle.runs.specs.Runs.{has}
+use Rattle.cells.specs.Runs.{has}
 use Rattle.peer.specs.Damage.{sound}
 use Rattle.peer.specs.States.{disconnectLater}
 use Rattle.peer.specs.Outcome.{State, Outcome}
 use Rattle.peer.specs.declared.settings.Settings.{Settings}
 use Rattle.peer.specs.declared.defaults.Kept.{Kept}
 use Rattle.window.specs.Window.{first, marked}
-use Rattle.arriving.specs.Arrivals.{stored}
-use Rattle.arriving.specs.declared.Arrival.{Arrival}
-use Rattle.unsequenced.specs.Calls.{sendUnsequenced}
+use Rattle.arrival.specs.Arrivals.{stored}
+use Rattle.arrival.specs.declared.Arrival.{Arrival}
+use Rattle.arrive_unsequenced.specs.Calls.{sendUnsequenced}
 use Rattle.link.specs.Runs.{Asked, comesTo, saysOne, run, resetState}
 use Rattle.promises.specs.History.{Concern, resetting, arriving, neither, concern, baseOf}
 use Rattle.promises.specs.Repeats.{unsequencedly}

@@ -8,23 +8,22 @@ use mathlib.Core.Logic.{_⊎_}
 use lib.ListN.{length}
 use Rattle.numbers.specs.Counters.{step}
 use Rattle.numbers.specs.declared.counters.Group.{Group}
-use Rattle.runs.specs.declared.Free.the-variants.{Full}
-use Rattle.parts.specs.Sizes.{storeLength}
+use Rattle.cells.specs.declared.Free.the-variants.{Full}
+use Rattle.record.specs.Sizes.{storeLength}
 use Rattle.peer.specs.Damage.{sound}
 use Rattle.peer.specs.Settings.{fitSettings}
 use Rattle.peer.specs.States.{connected}
 use Rattle.peer.specs.Outcome.{State, Outcome}
 use Rattle.peer.specs.declared.settings.Settings.{Settings}
 use Rattle.peer.specs.declared.defaults.Kept.{Kept}
-use Rattle.storing.specs.Storing.{freeSlot}
+use Rattle.arrival.specs.Storing.{freeSlot}
 use Rattle.window.specs.Window.{first, distant, marked}
-use Rattle.arriving.specs.Arrivals.{names, isWhole, stored}
-use Rattle.arriving.specs.declared.Arrival.{Arrival}
-use Rattle.unsequenced.specs.Calls.{sendUnsequenced}
-use Rattle.reliable.specs.Calls.{sendReliable}
+use Rattle.arrival.specs.Arrivals.{names, isWhole, stored}
+use Rattle.arrival.specs.declared.Arrival.{Arrival}
+use Rattle.arrive_unsequenced.specs.Calls.{sendUnsequenced}
+use Rattle.arrive_reliable.specs.Calls.{sendReliable}
 use Rattle.link.specs.Runs.{Asked, comesTo, run, resetState}
-use Rattle.inward.specs.declared.calls.Call.the-variants as inw
-use Rattle.link.specs.declared.calls.Call.{Call}
+use Rattle.link_in.specs.declared.calls.Call.the-variants as inw
 use Rattle.link.specs.declared.calls.Call.the-variants as call
 use Rattle.promises.specs.History.{baseOf}
 use Rattle.promises.specs.Repeats.{unsequencedly}
@@ -37,11 +36,11 @@ pub record Fits (command : ℕ) (s : Settings) (a : Arrival) (datagram : List �
   pub settings : fitSettings s ≡ true
   pub store : length (x .store) ≡ storeLength
   pub byte : names (a .byte) command ≡ true
-  pub on : a .channel < x .peer .standing .count
+  pub on : a .channel < x .peer .standing .channels
   pub state : x .peer .standing .state ≡ connected
   pub whole : isWhole a s (length datagram) ≡ true
   pub below : x .peer .waiting .total < s .waiting
-  pub slot : freeSlot (x .peer .lists) (x .peer .channels) (x .peer .standing .count) ≡ Full → ⊥
+  pub slot : freeSlot (x .peer .lists) (x .peer .channels) (x .peer .standing .channels) ≡ Full → ⊥
 
 -- a reliable arrival with its settings and its datagram
 abbrev pub reliably : Settings → Arrival → List ℕ → Asked

@@ -2,23 +2,23 @@
 -- its number and channel, or freed by a send step that needed no answer. On each channel the reliable numbers are 1, 2, 3 and so on, past 65,535 to 0, in the order of queueing.
 use Prim.Native.Nat.{ℕ, _+_, _<_}
 use mathlib.Core.Path.{_≡_}
-use mathlib.Core.Bool.{Bool, true, false}
+use mathlib.Core.Bool.{Bool, true}
 use mathlib.Core.List.{List, [], _∷_, _++_, map}
 use lib.Dec.{eqb}
 use lib.ListN.{length, getD, drop}
 use Rattle.numbers.specs.Pick.{pick, both}
-use Rattle.slots.specs.Lists.{outItems}
-use Rattle.runs.specs.Runs.{has}
+use Rattle.record.specs.Lists.{outItems}
+use Rattle.cells.specs.Runs.{has}
 use Rattle.command.specs.declared.fields.Command.{Command}
-use Rattle.parts.specs.Damage.{usedOut}
-use Rattle.parts.specs.Fresh.{noOutgoing}
-use Rattle.parts.specs.declared.groups.Outgoing.{Outgoing}
-use Rattle.stamps.specs.Counting.{acknowledged}
+use Rattle.record.specs.Damage.{usedOut}
+use Rattle.record.specs.Fresh.{noOutgoing}
+use Rattle.record.specs.declared.groups.Outgoing.{Outgoing}
+use Rattle.command.specs.Flags.{acknowledged}
 use Rattle.peer.specs.Outcome.{State}
-use Rattle.peer.specs.declared.record.Peer.{Peer}
+use Rattle.peer.specs.declared.Peer.{Peer}
 use Rattle.peer.specs.declared.defaults.Kept.{Kept}
-use Rattle.outward.specs.declared.calls.Call.{Call as Outward}
-use Rattle.outward.specs.declared.calls.Call.the-variants as out
+use Rattle.link_out.specs.declared.calls.Call.{Call as Outward}
+use Rattle.link_out.specs.declared.calls.Call.the-variants as out
 use Rattle.link.specs.Runs.{Asked, comesTo, run, resetState}
 use Rattle.link.specs.declared.calls.Call.{Call}
 use Rattle.link.specs.declared.calls.Call.the-variants as call
@@ -60,7 +60,7 @@ waiting p = itemsAt p (usedOut (p .lists))
 abbrev pub joinedOut : Peer → Peer → List Item
 joinedOut p q =
     itemsAt q (drop (length (outItems (p .lists .outgoing))) (outItems (q .lists .outgoing)))
-    ++ itemsAt q (drop (length (outItems (p .lists .reliable))) (outItems (q .lists .reliable)))
+    ++ itemsAt q (drop (length (outItems (p .lists .«send_reliable»))) (outItems (q .lists .«send_reliable»)))
 
 -- the slots of a list that another has not
 unfoldable pub missing : List ℕ → List ℕ → List ℕ

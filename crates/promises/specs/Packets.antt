@@ -8,18 +8,18 @@ use lib.Dec.{eqb}
 use lib.ListN.{length, getD, take, drop}
 use Rattle.numbers.specs.Pick.{pick, both}
 use Rattle.numbers.specs.Answers.{Answer}
-use Rattle.slots.specs.Lists.{inItems}
-use Rattle.parts.specs.Sizes.{cell}
-use Rattle.parts.specs.Fresh.{noIncoming}
-use Rattle.parts.specs.Damage.{below, usedIn}
+use Rattle.record.specs.Lists.{inItems}
+use Rattle.record.specs.Sizes.{cell}
+use Rattle.record.specs.Fresh.{noIncoming}
+use Rattle.record.specs.Damage.{below, usedIn}
 use Rattle.peer.specs.Outcome.{State, Outcome}
 use Rattle.peer.specs.declared.defaults.Kept.{Kept}
-use Rattle.arriving.specs.Arrivals.{names}
-use Rattle.arriving.specs.declared.Arrival.{Arrival}
-use Rattle.unsequenced.specs.Calls.{sendUnsequenced}
-use Rattle.reliable.specs.Calls.{sendReliable}
+use Rattle.arrival.specs.Arrivals.{names}
+use Rattle.arrival.specs.declared.Arrival.{Arrival}
+use Rattle.arrive_unsequenced.specs.Calls.{sendUnsequenced}
+use Rattle.arrive_reliable.specs.Calls.{sendReliable}
 use Rattle.link.specs.Runs.{Asked, comesTo, saysOne, Packet, packetsOf, run, resetState}
-use Rattle.inward.specs.declared.calls.Call.the-variants as inw
+use Rattle.link_in.specs.declared.calls.Call.the-variants as inw
 use Rattle.link.specs.declared.calls.Call.{Call}
 use Rattle.link.specs.declared.calls.Call.the-variants as call
 use Rattle.promises.specs.Counts.{count, those}
@@ -37,7 +37,7 @@ ready x = map (packetAt x) (inItems (x .peer .lists .dispatched))
 
 -- all that are there: those in dispatched and those that the channels hold
 abbrev pub present : State → List Packet
-present x = map (packetAt x) (usedIn (x .peer .lists) (below (x .peer .channels) (x .peer .standing .count)))
+present x = map (packetAt x) (usedIn (x .peer .lists) (below (x .peer .channels) (x .peer .standing .channels)))
 
 -- the payload of an arrival
 abbrev pub payload : Arrival → List ℕ → Packet

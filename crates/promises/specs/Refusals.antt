@@ -9,22 +9,22 @@ use Rattle.numbers.specs.Pick.{pick}
 use Rattle.numbers.specs.Clock.{tripOf}
 use Rattle.numbers.specs.declared.clock.Trip.the-variants.{Taken}
 use Rattle.numbers.specs.declared.counters.Group.{Group}
-use Rattle.runs.specs.Runs.{has}
+use Rattle.cells.specs.Runs.{has}
 use Rattle.window.specs.Window.{first, cleared}
-use Rattle.parts.specs.Updates.{withWindow}
+use Rattle.record.specs.Updates.{withWindow}
 use Rattle.peer.specs.Damage.{sound}
 use Rattle.peer.specs.Outcome.{State}
 use Rattle.peer.specs.declared.settings.Settings.{Settings}
-use Rattle.peer.specs.declared.record.Peer.{Peer}
-use Rattle.removal.specs.Removal.{spotOf}
+use Rattle.peer.specs.declared.Peer.{Peer}
+use Rattle.acknowledge.specs.Removal.{spotOf}
 use Rattle.acknowledge.specs.Calls.{heardAt, acknowledges}
-use Rattle.arriving.specs.declared.Arrival.{Arrival}
-use Rattle.unsequenced.specs.Calls.{regrouped, arrivesUnsequenced}
-use Rattle.reliable.specs.Calls.{arrivesReliable}
-use Rattle.link.specs.Steps.{step}
+use Rattle.arrival.specs.declared.Arrival.{Arrival}
+use Rattle.arrive_unsequenced.specs.Calls.{regrouped, arrivesUnsequenced}
+use Rattle.arrive_reliable.specs.Calls.{arrivesReliable}
+use Rattle.link.specs.Steps.{calls}
 use Rattle.link.specs.Runs.{Asked, comesTo}
-use Rattle.outward.specs.declared.calls.Call.the-variants as out
-use Rattle.inward.specs.declared.calls.Call.the-variants as inw
+use Rattle.link_out.specs.declared.calls.Call.the-variants as out
+use Rattle.link_in.specs.declared.calls.Call.the-variants as inw
 use Rattle.link.specs.declared.calls.Call.{Call}
 use Rattle.link.specs.declared.calls.Call.the-variants as call
 
@@ -50,18 +50,18 @@ may k number = has (refusalsOf k) number
 -- a call answers 0 or a number of its row
 abbrev pub AnswersMay : Type 0
 AnswersMay =
-    (s : Settings) (k : Call) (datagram : List ℕ) (x : State) → let number = step s k datagram x .answer .number in
+    (s : Settings) (k : Call) (datagram : List ℕ) (x : State) → let number = calls s k datagram x .answer .number in
     (number ≡ 0 → ⊥) → may k number ≡ true
 
 -- "unchanged", after every number but 8 and 10
 abbrev pub RefusedUnchanged : Type 0
 RefusedUnchanged =
-    (s : Settings) (k : Call) (datagram : List ℕ) (x : State) → let o = step s k datagram x in
+    (s : Settings) (k : Call) (datagram : List ℕ) (x : State) → let o = calls s k datagram x in
     (o .answer .number ≡ 0 → ⊥) → (o .answer .number ≡ 8 → ⊥) → (o .answer .number ≡ 10 → ⊥) → o .after ≡ x
 
 abbrev pub SoundUndamaged : Type 0
 SoundUndamaged =
-    (s : Settings) (k : Call) (datagram : List ℕ) (x : State) → sound (x .peer) ≡ true → step s k datagram x .answer .number ≡ 13 → ⊥
+    (s : Settings) (k : Call) (datagram : List ℕ) (x : State) → sound (x .peer) ≡ true → calls s k datagram x .answer .number ≡ 13 → ⊥
 
 -- 8 of a reliable arrival: "unchanged"
 abbrev pub EightLeaves : Type 0

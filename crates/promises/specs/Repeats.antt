@@ -8,9 +8,9 @@ use Rattle.numbers.specs.declared.counters.Group.{Group}
 use Rattle.peer.specs.Outcome.{State, Outcome}
 use Rattle.peer.specs.declared.settings.Settings.{Settings}
 use Rattle.peer.specs.declared.defaults.Kept.{Kept}
-use Rattle.arriving.specs.declared.Arrival.{Arrival}
+use Rattle.arrival.specs.declared.Arrival.{Arrival}
 use Rattle.link.specs.Runs.{Asked, comesTo, saysOne, packetsOf, Ran, ended, before, run, resetState}
-use Rattle.inward.specs.declared.calls.Call.the-variants as inw
+use Rattle.link_in.specs.declared.calls.Call.the-variants as inw
 use Rattle.link.specs.declared.calls.Call.the-variants as call
 use Rattle.promises.specs.History.{Event, Since, never, windows, since, AllInRange, movedBy, logged, history}
 

@@ -7,7 +7,7 @@ use lib.ListN.{length}
 use Rattle.peer.specs.Outcome.{State}
 use Rattle.peer.specs.declared.settings.Settings.{Settings}
 use Rattle.peer.specs.declared.defaults.Kept.{Kept}
-use Rattle.arriving.specs.declared.Arrival.{Arrival}
+use Rattle.arrival.specs.declared.Arrival.{Arrival}
 use Rattle.link.specs.Runs.{Asked, comesTo, run, resetState}
 use Rattle.promises.specs.Next.{reliably}
 use Rattle.promises.specs.Repeats.{Line, own, again, original, played}

@@ -9,12 +9,12 @@ use lib.ListN.{length, getD, drop}
 use Rattle.numbers.specs.Pick.{pick}
 use Rattle.numbers.specs.Answers.{Answer}
 use Rattle.numbers.specs.Counters.{step}
-use Rattle.slots.specs.Lists.{inItems}
-use Rattle.parts.specs.Fresh.{noIncoming}
+use Rattle.record.specs.Lists.{inItems}
+use Rattle.record.specs.Fresh.{noIncoming}
 use Rattle.peer.specs.Outcome.{State}
 use Rattle.peer.specs.declared.defaults.Kept.{Kept}
 use Rattle.link.specs.Runs.{Asked, comesTo, resetState}
-use Rattle.inward.specs.declared.calls.Call.the-variants as inw
+use Rattle.link_in.specs.declared.calls.Call.the-variants as inw
 use Rattle.link.specs.declared.calls.Call.{Call}
 use Rattle.link.specs.declared.calls.Call.the-variants as call
 

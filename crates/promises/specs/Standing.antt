@@ -8,17 +8,17 @@ use lib.Dec.{eqb}
 use lib.ListN.{getD}
 use Rattle.numbers.specs.Pick.{pick}
 use Rattle.numbers.specs.Answers.{Answer, numbersOf}
-use Rattle.slots.specs.Lists.{outItems}
+use Rattle.record.specs.Lists.{outItems}
 use Rattle.peer.specs.Damage.{sound}
 use Rattle.peer.specs.Settings.{fitSettings}
 use Rattle.peer.specs.Outcome.{State}
 use Rattle.peer.specs.declared.settings.Settings.{Settings}
 use Rattle.peer.specs.declared.defaults.Kept.{Kept}
-use Rattle.transit.specs.Transit.{limit, loads}
+use Rattle.laws.specs.Transit.{limit, loads}
 use Rattle.link.specs.Runs.{Asked, comesTo, saysOne, run, resetState}
-use Rattle.outward.specs.declared.calls.Call.{Call as Outward}
-use Rattle.outward.specs.declared.calls.Call.the-variants as out
-use Rattle.inward.specs.declared.calls.Call.the-variants as inw
+use Rattle.link_out.specs.declared.calls.Call.{Call as Outward}
+use Rattle.link_out.specs.declared.calls.Call.the-variants as out
+use Rattle.link_in.specs.declared.calls.Call.the-variants as inw
 use Rattle.link.specs.declared.calls.Call.{Call}
 use Rattle.link.specs.declared.calls.Call.the-variants as call
 

@@ -6,8 +6,8 @@ use mathlib.Core.List.{List, map}
 use native.Mathlib.Omega.{arith}
 use lib.ListN.{length, drop}
 use lib.Seq.{paste}
-use Rattle.slots.specs.Lists.{inItems, inKeep}
-use Rattle.slots.specs.declared.incoming.InList.{InList}
+use Rattle.record.specs.Lists.{inItems, inKeep}
+use Rattle.record.specs.declared.incoming.InList.{InList}
 use Rattle.lists.specs.Rows.{low, cellsOf, rowAt, itemsOf, Keeps}
 use Rattle.lists.proofs.Placed.{row-is}
 use Rattle.pool.proofs.Copies.{paste-over}

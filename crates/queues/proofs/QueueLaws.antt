@@ -9,18 +9,18 @@ use lib.ListN.{length, getD, take, drop, length-take}
 use lib.Seq.{paste}
 use borrow.Author.Tests.{le-leb}
 use Rattle.numbers.specs.Pick.{pick}
-use Rattle.runs.specs.Runs.{movedTo, over}
-use Rattle.runs.specs.Free.{markedAll}
-use Rattle.runs.proofs.Views.{rest-end}
-use Rattle.runs.proofs.Marked.{marked-append}
-use Rattle.slots.specs.Lists.{outItems, outKeep, inItems, inKeep}
-use Rattle.slots.specs.declared.outgoing.OutList.{OutList}
-use Rattle.slots.specs.declared.incoming.InList.{InList}
+use Rattle.cells.specs.Runs.{movedTo, over}
+use Rattle.cells.specs.Free.{markedAll}
+use Rattle.cells.proofs.Views.{rest-end}
+use Rattle.cells.proofs.Marked.{marked-append}
+use Rattle.record.specs.Lists.{outItems, outKeep, inItems, inKeep}
+use Rattle.record.specs.declared.outgoing.OutList.{OutList}
+use Rattle.record.specs.declared.incoming.InList.{InList}
 use Rattle.lists.specs.Rows.{low, lenOf, cellsOf, rowAt, itemsOf, Keeps}
 use Rattle.lists.proofs.Mapped.{map-take}
 use Rattle.lists.proofs.Placed.{items-length}
-use Rattle.parts.specs.Damage.{usedOut}
-use Rattle.peer.specs.declared.record.Peer.{Peer}
+use Rattle.record.specs.Damage.{usedOut}
+use Rattle.peer.specs.declared.Peer.{Peer}
 use Rattle.places.specs.Whole.{outListFrom, inListFrom, sizes, numbers, parts, made, whole}
 use Rattle.places.proofs.Written.{place, row-put}
 use Rattle.queues.specs.declared.Out.{Out}
@@ -108,7 +108,7 @@ pub marked-out : (ws m a b c : List ℕ) → a ≡ markedAll m (itemsOf (rowAt 4
     → c ≡ markedAll m (usedOut (whole ws .lists))
 marked-out ws m a b c x y z =
     let sent = outItems (whole ws .lists .sent) in
-    let reliable = outItems (whole ws .lists .reliable) in
+    let reliable = outItems (whole ws .lists .«send_reliable») in
     let waiting = outItems (whole ws .lists .outgoing) in
     rw (marked-append m sent (reliable ++ waiting), marked-append (markedAll m sent) reliable waiting, ← out-items out.Sent 43 refl ws, ← out-items out.Reliable 76 refl ws, ← out-items out.Outgoing 109 refl ws, ← x, ← y) z
 

@@ -1,12 +1,12 @@
 -- The lists of the record by name, and where they stand among the lent numbers.
 use Prim.Native.Nat.{ℕ, _+_, _*_}
 use lib.ListN.{set}
-use Rattle.slots.specs.declared.outgoing.OutList.{OutList}
-use Rattle.slots.specs.declared.incoming.InList.{InList}
-use Rattle.parts.specs.declared.groups.Lists.{Lists}
-use Rattle.parts.specs.Updates.{withSentList, withReliableList, withOutgoingList, withDispatched, withHeld}
+use Rattle.record.specs.declared.outgoing.OutList.{OutList}
+use Rattle.record.specs.declared.incoming.InList.{InList}
+use Rattle.record.specs.declared.groups.Lists.{Lists}
+use Rattle.record.specs.Updates.{withSentList, withReliableList, withOutgoingList, withDispatched, withHeld}
 use Rattle.peer.specs.Updates.{withLists, withChannels}
-use Rattle.peer.specs.declared.record.Peer.{Peer}
+use Rattle.peer.specs.declared.Peer.{Peer}
 use Rattle.places.specs.Updates.{channelAt}
 use Rattle.queues.specs.declared.Out.{Out}
 use Rattle.queues.specs.declared.Out.the-variants as out
@@ -14,7 +14,7 @@ use Rattle.queues.specs.declared.Out.the-variants as out
 -- a list of the outgoing pool
 abbrev pub outOf : Out → Lists → OutList
 outOf out.Sent l = l .sent
-outOf out.Reliable l = l .reliable
+outOf out.Reliable l = l .«send_reliable»
 outOf out.Outgoing l = l .outgoing
 
 abbrev pub withOut : Out → Lists → OutList → Lists

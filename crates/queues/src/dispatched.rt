@@ -2,16 +2,16 @@
 ghost use mathlib.Core.Path.{_≡_};
 ghost use mathlib.Core.List.{map};
 ghost use lib.ListN.{length};
-ghost use Rattle.runs.specs.Runs.{first, movedTo};
-ghost use Rattle.runs.specs.Free.{markedAll};
-ghost use Rattle.slots.specs.Lists.{incoming, inItems, inKeep};
+ghost use Rattle.cells.specs.Runs.{first, movedTo};
+ghost use Rattle.cells.specs.Free.{markedAll};
+ghost use Rattle.record.specs.Lists.{incoming, inItems, inKeep};
 ghost use Rattle.lists.specs.Rows.{low};
-ghost use Rattle.parts.specs.Updates.{inLonger, inShorter};
+ghost use Rattle.record.specs.Updates.{inLonger, inShorter};
 ghost use Rattle.places.specs.Whole.{whole, recordLength};
 ghost use Rattle.queues.specs.Queues.{putDispatched};
+use cells::First;
 use places::DISPATCHED;
-use runs::First;
-use slots::INCOMING;
+use record::INCOMING;
 
 pub fn count(words: &[u32]) -> usize
     requires { ⌜ length (now words) ≡ recordLength ⌝ }

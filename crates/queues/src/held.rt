@@ -3,17 +3,17 @@ ghost use mathlib.Core.Path.{_≡_};
 ghost use mathlib.Core.List.{map};
 ghost use Prim.Native.Nat.{_<_};
 ghost use lib.ListN.{length, getD, drop};
-ghost use Rattle.runs.specs.Runs.{inserted};
-ghost use Rattle.runs.specs.Free.{markedAll};
-ghost use Rattle.slots.specs.Lists.{incoming, inItems, inKeep};
+ghost use Rattle.cells.specs.Runs.{inserted};
+ghost use Rattle.cells.specs.Free.{markedAll};
+ghost use Rattle.record.specs.Lists.{incoming, inItems, inKeep};
 ghost use Rattle.lists.specs.Rows.{low};
-ghost use Rattle.parts.specs.Sizes.{channels};
+ghost use Rattle.record.specs.Sizes.{channels};
 ghost use Rattle.places.specs.Whole.{whole, recordLength};
 ghost use Rattle.queues.specs.Queues.{heldOf, heldPlace, putHeld};
 use places::CHANNEL_WIDTH;
 use places::CHANNELS;
 use places::HELD;
-use slots::INCOMING;
+use record::INCOMING;
 
 fn place_of(i: usize) -> usize
     requires { ⌜ i < channels ⌝ }

@@ -3,20 +3,20 @@ ghost use mathlib.Core.Path.{_≡_};
 ghost use mathlib.Core.List.{map};
 ghost use Prim.Native.Nat.{_≤_};
 ghost use lib.ListN.{length, getD, take};
-ghost use Rattle.runs.specs.Runs.{first, without, prepended};
-ghost use Rattle.runs.specs.Free.{markedAll};
-ghost use Rattle.slots.specs.Lists.{outgoing, outItems, outKeep};
+ghost use Rattle.cells.specs.Runs.{first, without, prepended};
+ghost use Rattle.cells.specs.Free.{markedAll};
+ghost use Rattle.record.specs.Lists.{outgoing, outItems, outKeep};
 ghost use Rattle.lists.specs.Rows.{low};
-ghost use Rattle.parts.specs.Damage.{usedOut};
-ghost use Rattle.parts.specs.Updates.{longer};
+ghost use Rattle.record.specs.Damage.{usedOut};
+ghost use Rattle.record.specs.Updates.{longer};
 ghost use Rattle.places.specs.Whole.{whole, recordLength};
 ghost use Rattle.queues.specs.Queues.{outOf, placeOf, putOut};
 use crate::Out;
+use cells::First;
 use places::OUTGOING;
 use places::RELIABLE;
 use places::SENT;
-use runs::First;
-use slots::OUTGOING as CELLS;
+use record::OUTGOING as CELLS;
 
 fn place_of(list: Out) -> usize
     ensures { λ r. ⌜ r ≡ placeOf list ⌝ }

@@ -8,11 +8,11 @@ use Rattle.numbers.specs.Answers.{Answer, numbersOf}
 use Rattle.numbers.proofs.Settled.{refused-apart, refused-not-done}
 use Rattle.peer.specs.Outcome.{Came}
 use Rattle.peer.specs.declared.settings.Settings.{Settings}
-use Rattle.peer.specs.declared.record.Peer.{Peer}
+use Rattle.peer.specs.declared.Peer.{Peer}
+use Rattle.peer.proofs.Settled.{settles, Settles}
 use Rattle.receive.specs.Calls.{answerOf, receives}
 use Rattle.receive.specs.declared.Reply.{Reply}
 use Rattle.receive.specs.declared.Reply.the-variants as vr
-use Rattle.receive.specs.declared.Received.{Received}
 
 abbrev numberIn : Answer → ℕ
 numberIn a = a .number
@@ -34,8 +34,6 @@ replies-apart (vr.Refused r) vr.Nothing e = absurd (refused-not-done r (ap numbe
 replies-apart (vr.Refused r) (vr.Packet channel cell length) e = absurd (refused-not-done r (ap numberIn e))
 replies-apart (vr.Refused r) (vr.Refused w) e = ap vr.Refused (refused-apart r w e)
 
-pub receive-settled : (s : Settings) (p : Peer) (a b : Received) → Came answerOf (receives s p) (a .reply) (a .peer)
-    → Came answerOf (receives s p) (b .reply) (b .peer) → a ≡ b
-receive-settled s p a b x y =
-    ap (λ (r : Reply). record { peer = a .peer; reply = r }) (replies-apart (a .reply) (b .reply) (x .answer ∙ sym (y .answer)))
-    ∙ ap (λ (z : Peer). record { peer = z; reply = b .reply }) (x .after ∙ sym (y .after))
+pub receive-settled : (s : Settings) (p : Peer) (a b : Reply) (x y : Peer) → Came answerOf (receives s p) a x → Came answerOf (receives s p) b y
+    → Settles a b x y
+receive-settled s p = settles answerOf replies-apart (receives s p)

@@ -12,23 +12,23 @@ use borrow.Author.Tests.{le-leb, leb-true}
 use Rattle.numbers.specs.Pick.{both}
 use Rattle.numbers.specs.Modulo.{minus}
 use Rattle.numbers.proofs.BoolLaws.{both-left, both-right, both-true}
-use Rattle.slots.specs.Lists.{outgoing, incoming, inItems}
-use Rattle.runs.specs.Runs.{first, without}
-use Rattle.runs.specs.declared.First.{First}
-use Rattle.runs.specs.declared.First.the-variants.{Slot, Empty}
-use Rattle.slots.specs.declared.incoming.InList.{InList}
-use Rattle.slots.proofs.Keeps.{times}
-use Rattle.runs.proofs.Lengths.{without-fits}
-use Rattle.parts.specs.Fresh.{noIncoming}
-use Rattle.parts.specs.Damage.{listsFit, below, held, lengths, usedIn}
-use Rattle.parts.specs.Updates.{inShorter}
-use Rattle.parts.specs.declared.groups.Lists.{Lists}
-use Rattle.parts.specs.declared.groups.Channel.{Channel}
-use Rattle.parts.specs.declared.groups.Incoming.{Incoming}
+use Rattle.record.specs.Lists.{outgoing, incoming, inItems}
+use Rattle.cells.specs.Runs.{first, without}
+use Rattle.cells.specs.declared.First.{First}
+use Rattle.cells.specs.declared.First.the-variants.{Slot, Empty}
+use Rattle.record.specs.declared.incoming.InList.{InList}
+use Rattle.record.proofs.Keeps.{times}
+use Rattle.cells.proofs.Lengths.{without-fits}
+use Rattle.record.specs.Fresh.{noIncoming}
+use Rattle.record.specs.Damage.{listsFit, below, held, lengths, usedIn}
+use Rattle.record.specs.Updates.{inShorter}
+use Rattle.record.specs.declared.groups.Lists.{Lists}
+use Rattle.record.specs.declared.groups.Channel.{Channel}
+use Rattle.record.specs.declared.groups.Incoming.{Incoming}
 use Rattle.peer.specs.Damage.{sound}
 use Rattle.peer.specs.Sounds.{Whole, Sounds}
 use Rattle.peer.specs.declared.settings.Settings.{Settings}
-use Rattle.peer.specs.declared.record.Peer.{Peer}
+use Rattle.peer.specs.declared.Peer.{Peer}
 use Rattle.peer.proofs.Sound.{gated-sounds}
 use Rattle.peer.proofs.Clauses.{Clauses, sound-clauses, clauses-sound}
 use Rattle.receive.specs.Calls.{withoutFirst, taken, receivesFrom, receivesSound, receives}
@@ -41,7 +41,7 @@ shorter-fits l e =
     (without-fits incoming (inItems l) (omega (arith, leb-true (l .len) incoming e, length-take (l .len) (l .slots))) 0)
 
 without-fit : (l : Lists) → listsFit l ≡ true → listsFit (withoutFirst l) ≡ true
-without-fit l e = last (leb (l .sent .len) outgoing) (leb (l .reliable .len) outgoing) (leb (l .outgoing .len) outgoing) e
+without-fit l e = last (leb (l .sent .len) outgoing) (leb (l .«send_reliable» .len) outgoing) (leb (l .outgoing .len) outgoing) e
   where
     last : (a b c : Bool) → both a (both b (both c (leb (l .dispatched .len) incoming))) ≡ true
         → both a (both b (both c (leb (inShorter (l .dispatched) .len) incoming))) ≡ true
@@ -83,8 +83,8 @@ module _ (slots : List Incoming) (l : Lists) (cs : List Channel) (count total : 
 
 taken-sound : (s : ℕ) (rest : List ℕ) (p : Peer) → inItems (p .lists .dispatched) ≡ s ∷ rest → Clauses p → sound (taken s p) ≡ true
 taken-sound s rest p e w =
-    let cs = below (p .channels) (p .standing .count) in
-    let count = p .standing .count in
+    let cs = below (p .channels) (p .standing .channels) in
+    let count = p .standing .channels in
     let total = p .waiting .total in
     clauses-sound (taken s p)
     (record {

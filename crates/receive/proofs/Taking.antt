@@ -7,16 +7,16 @@ use native.Mathlib.Omega.{arith}
 use lib.ListN.{getD}
 use Rattle.numbers.specs.Answers.{Answer, numbersOf}
 use Rattle.numbers.proofs.Settled.{refused-not-done}
-use Rattle.slots.specs.Lists.{inItems}
-use Rattle.runs.specs.Runs.{first}
-use Rattle.runs.specs.declared.First.{First}
-use Rattle.runs.specs.declared.First.the-variants.{Slot, Empty}
-use Rattle.parts.specs.Fresh.{noIncoming}
+use Rattle.record.specs.Lists.{inItems}
+use Rattle.cells.specs.Runs.{first}
+use Rattle.cells.specs.declared.First.{First}
+use Rattle.cells.specs.declared.First.the-variants.{Slot, Empty}
+use Rattle.record.specs.Fresh.{noIncoming}
 use Rattle.peer.specs.Damage.{sound}
 use Rattle.peer.specs.Outcome.{Outcome}
 use Rattle.peer.specs.Gate.{fits, gateOf}
 use Rattle.peer.specs.declared.settings.Settings.{Settings}
-use Rattle.peer.specs.declared.record.Peer.{Peer}
+use Rattle.peer.specs.declared.Peer.{Peer}
 use Rattle.peer.specs.declared.gate.Lent.the-variants as lent
 use Rattle.peer.specs.declared.gate.Gate.{Gate}
 use Rattle.peer.proofs.Gates.{behind-has}

@@ -5,20 +5,19 @@ use mathlib.Core.List.{[], _∷_}
 use lib.ListN.{getD}
 use Rattle.numbers.specs.Answers.{Answer, done, refused}
 use Rattle.numbers.specs.Modulo.{minus}
-use Rattle.slots.specs.Lists.{inItems}
-use Rattle.runs.specs.Runs.{first}
-use Rattle.runs.specs.declared.First.{First}
-use Rattle.runs.specs.declared.First.the-variants.{Slot, Empty}
-use Rattle.parts.specs.Fresh.{noIncoming}
-use Rattle.parts.specs.Updates.{withDispatched, withTotal, inShorter}
-use Rattle.parts.specs.declared.groups.Lists.{Lists}
-use Rattle.parts.specs.declared.groups.Waiting.{Waiting}
-use Rattle.parts.specs.declared.groups.Incoming.{Incoming}
+use Rattle.record.specs.Lists.{inItems}
+use Rattle.cells.specs.Runs.{first}
+use Rattle.cells.specs.declared.First.{First}
+use Rattle.cells.specs.declared.First.the-variants.{Slot, Empty}
+use Rattle.record.specs.Fresh.{noIncoming}
+use Rattle.record.specs.Updates.{withDispatched, withTotal, inShorter}
+use Rattle.record.specs.declared.groups.Lists.{Lists}
+use Rattle.record.specs.declared.groups.Waiting.{Waiting}
 use Rattle.peer.specs.Outcome.{Outcome}
 use Rattle.peer.specs.Gate.{onRecord}
 use Rattle.peer.specs.Updates.{withLists, withWaiting}
 use Rattle.peer.specs.declared.settings.Settings.{Settings}
-use Rattle.peer.specs.declared.record.Peer.{Peer}
+use Rattle.peer.specs.declared.Peer.{Peer}
 use Rattle.receive.specs.declared.Reply.{Reply}
 use Rattle.receive.specs.declared.Reply.the-variants as vr
 

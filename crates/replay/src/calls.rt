@@ -1,7 +1,7 @@
 // Ops 1 to 14: a frame becomes a call, the link makes it, and its reply becomes a line.
 use crate::replies;
 use crate::settings::Bench;
-use peer::record::Peer;
+use peer::Peer;
 use script::frames;
 use script::frames::Frame;
 
@@ -11,8 +11,8 @@ pub(crate) fn call(f: Frame, input: &[u8], bench: Bench, peer: Peer, store: &mut
     if store.len() < n {
         return peer;
     }
-    let command = commands::command(input, 0, 4);
-    let asked = asking::call(f, command);
+    let command = script_commands::command(input, 0, 4);
+    let asked = script_calls::call_of(f, command);
     let linked = link::call(
         peer,
         bench.settings,

@@ -1,7 +1,7 @@
 // Whether the numbers of a frame fit what its op makes of them.
 use crate::settings;
-use placing::sets;
 use script::frames::Frame;
+use script_set::sets;
 
 // In place of the op of a frame that makes no call: a number does not fit its parameter's type, or a place is not there.
 pub const BAD: u32 = 256;
@@ -19,8 +19,8 @@ pub(crate) fn op(f: Frame, input: &[u8]) -> u32 {
         7 => f.n0 < 2,
         8 => (f.n0 < 256) & (f.n1 < 65536) & (f.n2 < 65536),
         10 | 11 => is_arrival(f),
-        20..=24 => sets::is_fit(f),
-        31 => f.n4 <= commands::ROOM,
+        20..=24 => sets::set_fits(f),
+        31 => f.n4 <= script_commands::ROOM,
         _ => return UNKNOWN,
     };
     if is_fit & is_built(op, input) {
@@ -37,9 +37,9 @@ fn is_arrival(f: Frame) -> bool {
 // Whether the frame's command, if its op has one, is one.
 fn is_built(op: u32, input: &[u8]) -> bool {
     match op {
-        6 => commands::is_command(input, 0, 4),
-        23 => commands::is_command(input, 10, 11),
-        31 => commands::is_command(input, 0, 2),
+        6 => script_commands::is_command(input, 0, 4),
+        23 => script_commands::is_command(input, 10, 11),
+        31 => script_commands::is_command(input, 0, 2),
         _ => true,
     }
 }

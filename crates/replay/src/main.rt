@@ -1,13 +1,13 @@
 // Reads a script of frames and writes one line for each, as SCRIPT.md says.
 mod calls;
 mod fits;
-mod record;
 mod replies;
+mod row;
 mod setters;
 mod settings;
 mod store;
 
-use peer::record::Peer;
+use peer::Peer;
 use script::frames;
 use script::frames::Frame;
 use script::line;
@@ -19,8 +19,8 @@ fn told(f: Frame, input: &[u8], store: &[u8]) {
     match op {
         16 => line::value(store::hash(store, f.n0, f.n1)),
         17 => store::tell(store, f.n0, f.n1),
-        30 => commands::read(frames::bytes(input), f.n0),
-        31 => commands::write(input, f.n4),
+        30 => script_commands::read(frames::bytes(input), f.n0),
+        31 => script_commands::write(input, f.n4),
         32 => line::value(numbers::clock::distance(f.n0, f.n1)),
         fits::BAD => line::word(b" bad"),
         fits::UNKNOWN => line::word(b" unknown"),
@@ -62,7 +62,7 @@ fn play(input: &mut [u8], store: &mut [u8]) {
         let f = asked(input, store);
         bench = settings::set(f, bench);
         peer = changed(f, input, bench, peer, store);
-        line::end(f.op, record::hash(f.op == 15, peer));
+        line::end(f.op, row::hash(f.op == 15, peer));
     }
 }
 

@@ -1,6 +1,6 @@
 // A reply as a line: document 01's number, then the values of SCRIPT.md's table.
 use link::calls::Reply;
-use parts::groups::Outgoing;
+use record::groups::Outgoing;
 use script::line;
 use script::row::Row;
 
@@ -12,21 +12,21 @@ pub(crate) fn tell(reply: Reply) {
     }
 }
 
-fn outward(reply: outward::calls::Reply) {
+fn outward(reply: link_out::calls::Reply) {
     match reply {
-        outward::calls::Reply::Called(r) => called(r),
-        outward::calls::Reply::Stepped(r) => stepped(r),
-        outward::calls::Reply::Acknowledged(r) => acknowledged(r),
-        outward::calls::Reply::Checked(r) => checked(r),
-        outward::calls::Reply::Throttled(r) => throttled(r),
+        link_out::calls::Reply::Called(r) => called(r),
+        link_out::calls::Reply::Stepped(r) => stepped(r),
+        link_out::calls::Reply::Acknowledged(r) => acknowledged(r),
+        link_out::calls::Reply::Checked(r) => checked(r),
+        link_out::calls::Reply::Throttled(r) => throttled(r),
     }
 }
 
-fn inward(reply: inward::calls::Reply) {
+fn inward(reply: link_in::calls::Reply) {
     match reply {
-        inward::calls::Reply::Arrived(r) => arrived(r),
-        inward::calls::Reply::Called(r) => called(r),
-        inward::calls::Reply::Received(r) => received(r),
+        link_in::calls::Reply::Arrived(r) => arrived(r),
+        link_in::calls::Reply::Called(r) => called(r),
+        link_in::calls::Reply::Received(r) => received(r),
     }
 }
 
@@ -38,11 +38,11 @@ fn called(reply: peer::calls::Reply) {
 }
 
 // 0 nothing to send, or 1 and the head's numbers.
-fn stepped(reply: sendstep::calls::Reply) {
+fn stepped(reply: send_step::Reply) {
     match reply {
-        sendstep::calls::Reply::Refused(why) => line::value(why.number()),
-        sendstep::calls::Reply::Nothing => line::pair(0, 0),
-        sendstep::calls::Reply::Head(o) => head(o),
+        send_step::Reply::Refused(why) => line::value(why.number()),
+        send_step::Reply::Nothing => line::pair(0, 0),
+        send_step::Reply::Head(o) => head(o),
     }
 }
 
@@ -52,7 +52,7 @@ fn head(o: Outgoing) {
         hash: 0,
         is_shown: true,
     };
-    rows::outgoing_slot(row, o);
+    script_record::outgoing_slot(row, o);
 }
 
 // 0 passed over, 1 done, 2 connect, 3 disconnect, 4 disconnect now.
@@ -77,11 +77,11 @@ fn checked(reply: timeouts::Reply) {
 }
 
 // 0 passed over, 1 stored.
-fn arrived(reply: arriving::Reply) {
+fn arrived(reply: arrival::Reply) {
     match reply {
-        arriving::Reply::Refused(why) => line::value(why.number()),
-        arriving::Reply::Passed => line::pair(0, 0),
-        arriving::Reply::Stored => line::pair(0, 1),
+        arrival::Reply::Refused(why) => line::value(why.number()),
+        arrival::Reply::Passed => line::pair(0, 0),
+        arrival::Reply::Stored => line::pair(0, 1),
     }
 }
 
@@ -105,11 +105,11 @@ fn packet(channel: u8, cell: u16, length: u32) {
 }
 
 // 0 held, 1 raised, 2 lowered.
-fn throttled(reply: throttling::Reply) {
+fn throttled(reply: round_trip::Reply) {
     match reply {
-        throttling::Reply::Refused(why) => line::value(why.number()),
-        throttling::Reply::Held => line::pair(0, 0),
-        throttling::Reply::Raised => line::pair(0, 1),
-        throttling::Reply::Lowered => line::pair(0, 2),
+        round_trip::Reply::Refused(why) => line::value(why.number()),
+        round_trip::Reply::Held => line::pair(0, 0),
+        round_trip::Reply::Raised => line::pair(0, 1),
+        round_trip::Reply::Lowered => line::pair(0, 2),
     }
 }

@@ -1,14 +1,14 @@
 // Ops 20 to 24: the bench's own changes of the record, sound or not. The frame was seen to fit.
-use bench::values;
-use parts::groups::CHANNELS;
-use parts::groups::Channel;
-use parts::groups::Lists;
-use peer::record::Peer;
-use placing::cells;
-use placing::pools;
-use placing::sets;
+use peer::Peer;
+use record::groups::CHANNELS;
+use record::groups::Channel;
+use record::groups::Lists;
 use script::frames;
 use script::frames::Frame;
+use script_set::cells;
+use script_set::pools;
+use script_set::sets;
+use script_set::values;
 
 // Op 20: each group, which changes where the number is its own.
 pub(crate) fn number(which: u32, x: u32, mut p: Peer) -> Peer {
@@ -33,7 +33,7 @@ pub(crate) fn part(f: Frame, input: &[u8], mut p: Peer) -> Peer {
     let out_pool = p.outgoing;
     let in_pool = p.incoming;
     let c = channel(f, all[f.n0 as usize % CHANNELS]);
-    let command = commands::command(input, 10, 11);
+    let command = script_commands::command(input, 10, 11);
     let all = pools::channels(f.n0, c, all);
     let out_pool = pools::outgoing(f.op == 23, f.n0, sets::outgoing(f, command), out_pool);
     let in_pool = pools::incoming(f.op == 24, f.n0, sets::incoming(f), in_pool);

@@ -1,6 +1,6 @@
 // Op 0: the settings for the calls that follow.
+use peer::Peer;
 use peer::defaults::Kept;
-use peer::record::Peer;
 use peer::settings::Settings;
 use script::frames::Frame;
 

@@ -4,7 +4,7 @@ use Prim.Native.Nat.{ℕ, _+_, _<_}
 use mathlib.Core.Path.{_≡_, refl, ap, sym, _∙_}
 use mathlib.Core.List.{List, [], _∷_, _++_}
 use lib.ListN.{length, take, drop, getD}
-use Rattle.runs.proofs.Views.{rest-step, part-step}
+use Rattle.cells.proofs.Views.{rest-step, part-step}
 use Rattle.script.specs.Row.{mixed, hashed, told}
 use Rattle.script.specs.declared.row.Row.{Row}
 

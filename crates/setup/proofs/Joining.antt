@@ -10,21 +10,20 @@ use lib.ListN.{length, length-append}
 use borrow.Author.Tests.{lt-ltb}
 use Rattle.numbers.specs.Pick.{pick}
 use Rattle.numbers.proofs.BoolLaws.{both-true}
-use Rattle.slots.specs.Lists.{outgoing, outItems}
-use Rattle.runs.specs.Runs.{has, pushed}
-use Rattle.runs.specs.Free.{lowest, exist, once}
-use Rattle.runs.specs.declared.Free.the-variants.{Lowest}
-use Rattle.slots.proofs.Keeps.{one, times, times-append, times-pushed, once-more, exist-more}
-use Rattle.slots.proofs.Views.{out-items-keep}
-use Rattle.runs.proofs.Lowest.{lowest-exists, lowest-free, free-and-named}
-use Rattle.parts.specs.Damage.{usedOut}
-use Rattle.peer.specs.Damage.{sound}
-use Rattle.peer.specs.declared.record.Peer.{Peer}
-use Rattle.parts.specs.declared.groups.Lists.{Lists}
+use Rattle.record.specs.Lists.{outgoing, outItems}
+use Rattle.cells.specs.Runs.{has, pushed}
+use Rattle.cells.specs.Free.{lowest, exist, once}
+use Rattle.cells.specs.declared.Free.the-variants.{Lowest}
+use Rattle.record.proofs.Keeps.{one, times, times-append, times-pushed, once-more, exist-more}
+use Rattle.record.proofs.Views.{out-items-keep}
+use Rattle.cells.proofs.Lowest.{lowest-exists, lowest-free, free-and-named}
+use Rattle.record.specs.Damage.{usedOut}
+use Rattle.peer.specs.declared.Peer.{Peer}
+use Rattle.record.specs.declared.groups.Lists.{Lists}
 use Rattle.peer.proofs.Clauses.{Clauses}
-use Rattle.parts.specs.Updates.{longer}
-use Rattle.stamps.specs.Pieces.{toReliable, listsWith}
-use Rattle.stamps.specs.declared.pieces.Piece.{Piece}
+use Rattle.record.specs.Updates.{longer}
+use Rattle.outbox.specs.Pieces.{toReliable, listsWith}
+use Rattle.outbox.specs.declared.pieces.Piece.{Piece}
 
 -- a slot that is free leaves room in every list of its pool
 room-for : (n : ℕ) (xs : List ℕ) (s : ℕ) → s < n → has xs s ≡ false → exist n xs ≡ true → once xs ≡ true → length xs < n
@@ -44,20 +43,20 @@ module _ (l : Lists) (s : ℕ) where
   sent = outItems (l .sent)
 
   abbrev reliable : List ℕ
-  reliable = outItems (l .reliable)
+  reliable = outItems (l .«send_reliable»)
 
   abbrev rest : List ℕ
   rest = outItems (l .outgoing)
 
   -- the two lists that a piece may join
   abbrev pub toFirst : Lists
-  toFirst = record { sent = l .sent; reliable = longer (l .reliable) s; outgoing = l .outgoing; dispatched = l .dispatched }
+  toFirst = record { sent = l .sent; «send_reliable» = longer (l .«send_reliable») s; outgoing = l .outgoing; dispatched = l .dispatched }
 
   abbrev pub toLast : Lists
-  toLast = record { sent = l .sent; reliable = l .reliable; outgoing = longer (l .outgoing) s; dispatched = l .dispatched }
+  toLast = record { sent = l .sent; «send_reliable» = l .«send_reliable»; outgoing = longer (l .outgoing) s; dispatched = l .dispatched }
 
   first-names : usedOut toFirst ≡ sent ++ (pushed outgoing reliable s ++ rest)
-  first-names = ap (λ (m : List ℕ). sent ++ (m ++ rest)) (out-items-keep (l .reliable) (pushed outgoing reliable s))
+  first-names = ap (λ (m : List ℕ). sent ++ (m ++ rest)) (out-items-keep (l .«send_reliable») (pushed outgoing reliable s))
 
   last-names : usedOut toLast ≡ sent ++ (reliable ++ pushed outgoing rest s)
   last-names = ap (λ (m : List ℕ). sent ++ (reliable ++ m)) (out-items-keep (l .outgoing) (pushed outgoing rest s))

@@ -6,30 +6,30 @@ use mathlib.Core.List.{List}
 use lib.ListN.{set}
 use borrow.Author.Tests.{leb-true}
 use Rattle.numbers.specs.declared.refusals.Refusal.{Refusal}
-use Rattle.slots.specs.Lists.{outgoing}
-use Rattle.parts.specs.Updates.{withOutgoingTotal, withReliable, withOutgoingGroup, withQueued}
-use Rattle.parts.specs.declared.groups.Channel.{Channel}
-use Rattle.parts.specs.declared.groups.Outgoing.{Outgoing}
+use Rattle.record.specs.Lists.{outgoing}
+use Rattle.record.specs.Updates.{withOutgoingTotal, withReliable, withOutgoingGroup, withQueued}
+use Rattle.record.specs.declared.groups.Channel.{Channel}
+use Rattle.record.specs.declared.groups.Outgoing.{Outgoing}
 use Rattle.peer.specs.Outcome.{Outcome, Came, finished}
-use Rattle.peer.specs.Gate.{fits, gateOf, behind, onRecord}
+use Rattle.peer.specs.Gate.{behind, onRecord}
 use Rattle.peer.specs.Calls.{answerOf}
 use Rattle.peer.specs.Updates.{renewed}
 use Rattle.peer.specs.declared.settings.Settings.{Settings}
-use Rattle.peer.specs.declared.record.Peer.{Peer}
+use Rattle.peer.specs.declared.Peer.{Peer}
 use Rattle.peer.specs.declared.gate.Gate.{Gate}
 use Rattle.peer.specs.declared.gate.Gate.the-variants.{Open, Shut}
 use Rattle.peer.specs.declared.gate.Lent.the-variants.{Nothing}
 use Rattle.peer.specs.declared.calls.Reply.the-variants.{Done, Refused}
-use Rattle.peer.proofs.Gates.{worthsOf, soundBy, behind-shut, behind-open, came-open}
-use Rattle.stamps.specs.Counting.{numbered}
-use Rattle.stamps.specs.Outboxes.{queueing, outboxOf, freeIn}
-use Rattle.stamps.specs.declared.pieces.Piece.{Piece}
-use Rattle.stamps.specs.declared.outbox.Outbox.{Outbox}
-use Rattle.stamps.specs.declared.outbox.Queued.{Queued}
+use Rattle.peer.proofs.Gates.{behind-shut, behind-open, came-open, AtGate}
+use Rattle.outbox.specs.Counting.{numbered}
+use Rattle.outbox.specs.CodeOutboxes.{queueing, outboxOf, freeIn}
+use Rattle.outbox.specs.declared.pieces.Piece.{Piece}
+use Rattle.outbox.specs.CodeOutboxes.{Outbox}
+use Rattle.outbox.specs.CodeOutboxes.{Queued}
 use Rattle.setup.specs.Queueing.{room, queued}
 use Rattle.setup.specs.Calls.{setupGate}
 use Rattle.setup.proofs.Sound.{setup-open}
-use Rattle.setup.proofs.Stored.{one-exists, one-stored, open-room}
+use Rattle.setup.proofs.Stored.{one-stored, open-room}
 
 -- the record as a call leaves it: an outbox's numbers, lists and channels, and the pool with another slot
 abbrev pub leaves : Peer → Outbox → List Channel → ℕ → Outgoing → Peer
@@ -38,8 +38,8 @@ leaves p o cs at slot =
     (withOutgoingGroup (p .groups) (o .counters .group)) (withQueued (p .waiting) (o .queued)) cs (set (p .outgoing) at slot)
 
 -- a call that queues one piece behind a gate of its own: ws, g, o and may are what the code answered, in this order
-module _ (s : Settings) (x : Piece) (p : Peer) (ws : List ℕ) (v : ws ≡ worthsOf p) (g : Gate) (e : g ≡ gateOf (fits s Nothing) (soundBy p ws))
-    (passed : g ≡ Open) (o : Outbox)
+module _ (s : Settings) (x : Piece) (p : Peer) (g : AtGate s Nothing p)
+    (passed : g .gate ≡ Open) (o : Outbox)
     (oe : o ≡ outboxOf (p .totals) (p .waiting) (p .flow) (p .groups) (p .channels) (x .command .channel) (p .lists)) (rule may : Gate) (me : may ≡ rule)
     (some : rule ≡ Open → 1 ≤ room p) where
   abbrev rest : Outcome Peer
@@ -47,25 +47,22 @@ module _ (s : Settings) (x : Piece) (p : Peer) (ws : List ℕ) (v : ws ≡ worth
 
   pub one-shut : (why : Refusal) → may ≡ Shut why → Came answerOf (onRecord s p rest) (Refused why) p
   one-shut why q =
-      came-open s Nothing p ws v g e p rest answerOf (Refused why) p passed
+      came-open g p rest answerOf (Refused why) p passed
       (rw (behind-shut rule p (finished (queued x p)) why (sym me ∙ q)) (record { answer = refl; after = refl }))
 
   module _ (opened : may ≡ Open) (q : Queued) (qe : q ≡ queueing o x) where
-    pub one-at : q .at < outgoing
-    one-at = one-exists x p (some (sym me ∙ opened)) o oe q qe
-
     pub one-left : (cs : List Channel) → cs ≡ numbered (p .channels) (x .command .channel) (q .outbox .counters)
         → Came answerOf (onRecord s p rest) Done (leaves p (q .outbox) cs (q .at) (q .slot))
     one-left cs ce =
-        came-open s Nothing p ws v g e p rest answerOf Done _ passed
+        came-open g p rest answerOf Done _ passed
         (rw (behind-open rule p (finished (queued x p)) (sym me ∙ opened))
         (record { answer = refl; after = rw ce (sym (one-stored x p (some (sym me ∙ opened)) o oe q qe)) }))
 
 -- setup's own gate, on as many free slots as the code counted
 pub setup-gate : (x : Piece) (p : Peer) (o : Outbox)
     → o ≡ outboxOf (p .totals) (p .waiting) (p .flow) (p .groups) (p .channels) (x .command .channel) (p .lists) → (free : ℕ) → free ≡ freeIn (o .marks)
-    → (may : Gate) → may ≡ setupGate x (p .standing .count) free → may ≡ setupGate x (p .standing .count) (room p)
-setup-gate x p o oe free fe may me = me ∙ ap (setupGate x (p .standing .count)) (fe ∙ open-room p (x .command .channel) o oe)
+    → (may : Gate) → may ≡ setupGate x (p .standing .channels) free → may ≡ setupGate x (p .standing .channels) (room p)
+setup-gate x p o oe free fe may me = me ∙ ap (setupGate x (p .standing .channels)) (fe ∙ open-room p (x .command .channel) o oe)
 
-pub setup-some : (x : Piece) (p : Peer) → setupGate x (p .standing .count) (room p) ≡ Open → 1 ≤ room p
+pub setup-some : (x : Piece) (p : Peer) → setupGate x (p .standing .channels) (room p) ≡ Open → 1 ≤ room p
 setup-some x p e = leb-true 1 (room p) (setup-open x p e .1)

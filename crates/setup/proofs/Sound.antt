@@ -17,41 +17,41 @@ use Rattle.numbers.proofs.BoolLaws.{both-left, both-right, both-true}
 use Rattle.command.specs.Rows.{kindOf, namesFields}
 use Rattle.command.specs.declared.fields.Fields.{Fields}
 use Rattle.command.specs.declared.fields.Fields.the-variants as vr
-use Rattle.slots.specs.Lists.{outgoing, incoming, outItems, inItems}
-use Rattle.runs.specs.Free.{lowest, exist, once}
-use Rattle.runs.specs.declared.Free.{Free}
-use Rattle.runs.specs.declared.Free.the-variants.{Lowest, Full}
-use Rattle.slots.specs.declared.outgoing.OutList.{OutList}
-use Rattle.slots.specs.declared.incoming.InList.{InList}
-use Rattle.slots.proofs.Keeps.{times, times-append, times-none}
-use Rattle.runs.proofs.Lengths.{pushed-fits}
-use Rattle.parts.specs.Fresh.{noChannel, noOutgoing, noIncoming}
-use Rattle.parts.specs.Damage.{listsFit, heldFit, held, below, all, own, lengths, outFit, tried, inFit, inSound, usedOut, usedIn}
+use Rattle.record.specs.Lists.{outgoing, incoming, outItems, inItems}
+use Rattle.cells.specs.Free.{lowest, exist, once}
+use Rattle.cells.specs.declared.Free.{Free}
+use Rattle.cells.specs.declared.Free.the-variants.{Lowest, Full}
+use Rattle.record.specs.declared.outgoing.OutList.{OutList}
+use Rattle.record.specs.declared.incoming.InList.{InList}
+use Rattle.record.proofs.Keeps.{times, times-append, times-none}
+use Rattle.cells.proofs.Lengths.{pushed-fits}
+use Rattle.record.specs.Fresh.{noChannel, noOutgoing, noIncoming}
+use Rattle.record.specs.Damage.{listsFit, heldFit, held, below, all, own, lengths, outFit, tried, inFit, inSound, usedOut, usedIn}
 use Rattle.peer.specs.Damage.{sound}
 use Rattle.numbers.specs.declared.refusals.Refusal.the-variants.{InvalidChannel, FailedToQueue, BadCommand}
 use Rattle.peer.specs.Outcome.{Outcome, finished}
 use Rattle.peer.specs.Sounds.{Whole, Sounds}
 use Rattle.peer.specs.declared.settings.Settings.{Settings}
-use Rattle.peer.specs.declared.record.Peer.{Peer}
-use Rattle.parts.specs.declared.groups.Lists.{Lists}
-use Rattle.parts.specs.declared.groups.Standing.{Standing}
-use Rattle.parts.specs.declared.groups.Channel.{Channel}
-use Rattle.parts.specs.declared.groups.Outgoing.{Outgoing}
-use Rattle.parts.specs.declared.groups.Incoming.{Incoming}
+use Rattle.peer.specs.declared.Peer.{Peer}
+use Rattle.record.specs.declared.groups.Lists.{Lists}
+use Rattle.record.specs.declared.groups.Standing.{Standing}
+use Rattle.record.specs.declared.groups.Channel.{Channel}
+use Rattle.record.specs.declared.groups.Outgoing.{Outgoing}
+use Rattle.record.specs.declared.groups.Incoming.{Incoming}
 use Rattle.peer.specs.declared.gate.Gate.{Gate}
 use Rattle.peer.specs.declared.gate.Gate.the-variants.{Open, Shut}
 use Rattle.peer.proofs.Gates.{openness, behind-has}
 use Rattle.peer.proofs.Sound.{gated-sounds}
 use Rattle.peer.proofs.Clauses.{Clauses, sound-clauses, clauses-sound, all-at, at-all}
-use Rattle.stamps.specs.Counting.{channelAt, numbered}
-use Rattle.stamps.specs.Pieces.{fieldsNow, toReliable, listsWith}
-use Rattle.parts.specs.Sizes.{itself}
-use Rattle.parts.specs.Updates.{longer, withNumbers}
+use Rattle.outbox.specs.Counting.{channelAt, numbered}
+use Rattle.outbox.specs.Pieces.{fieldsNow, toReliable, listsWith}
+use Rattle.record.specs.Sizes.{itself}
+use Rattle.record.specs.Updates.{longer, withNumbers}
 use Rattle.setup.specs.Queueing.{room, stampOf, made, queuedAt, queuedIn, queued, queuedAll}
 use Rattle.setup.specs.Calls.{onChannel, setupGate, setsUp, setsUpSound}
 use Rattle.setup.specs.Taking.{allFit}
-use Rattle.stamps.specs.declared.counting.Counters.{Counters}
-use Rattle.stamps.specs.declared.pieces.Piece.{Piece}
+use Rattle.outbox.specs.declared.counting.Counters.{Counters}
+use Rattle.outbox.specs.declared.pieces.Piece.{Piece}
 use Rattle.setup.proofs.Joining.{joined-sent, joined-dispatched, first-room, last-room, toFirst, toLast, slot-free, slot-exists, slot-room, after-times, after-exist, after-once}
 
 -- a channel's other numbers are not read
@@ -128,11 +128,11 @@ lists-after l x s space h = go (toReliable x)
   where
     go : (b : Bool) → listsFit (pick b (toFirst l s) (toLast l s)) ≡ true
     go true =
-        second (leb (l .sent .len) outgoing) (leb (l .reliable .len) outgoing) (leb (longer (l .reliable) s .len) outgoing)
-        (both (leb (l .outgoing .len) outgoing) (leb (l .dispatched .len) incoming)) (longer-fits (l .reliable) s (first-room l s x space)) h
+        second (leb (l .sent .len) outgoing) (leb (l .«send_reliable» .len) outgoing) (leb (longer (l .«send_reliable») s .len) outgoing)
+        (both (leb (l .outgoing .len) outgoing) (leb (l .dispatched .len) incoming)) (longer-fits (l .«send_reliable») s (first-room l s x space)) h
     go false =
         let a = leb (l .sent .len) outgoing in
-        let b = leb (l .reliable .len) outgoing in
+        let b = leb (l .«send_reliable» .len) outgoing in
         let c = leb (l .outgoing .len) outgoing in
         let c′ = leb (longer (l .outgoing) s .len) outgoing in
         let d = leb (l .dispatched .len) incoming in
@@ -148,7 +148,7 @@ abbrev attempts : Outgoing → Bool
 attempts o = leb 1 (o .attempts)
 
 module _ (x : Piece) (p : Peer) (s : ℕ) (low : lowest outgoing (usedOut (p .lists)) ≡ Lowest s) (w : Clauses p) (whole : Whole p)
-    (on : onChannel (x .command .channel) (p .standing .count) ≡ true) (names : namesFields (x .command) ≡ true) where
+    (on : onChannel (x .command .channel) (p .standing .channels) ≡ true) (names : namesFields (x .command) ≡ true) where
   abbrev used : List ℕ
   used = usedOut (p .lists)
 
@@ -162,7 +162,7 @@ module _ (x : Piece) (p : Peer) (s : ℕ) (low : lowest outgoing (usedOut (p .li
   slots = set (p .outgoing) s (made x p)
 
   abbrev count : ℕ
-  count = p .standing .count
+  count = p .standing .channels
 
   others : (k : ℕ) → eqb s k ≡ false → getD slots k noOutgoing ≡ getD (p .outgoing) k noOutgoing
   others k t = getD-set-other (p .outgoing) s k (made x p) noOutgoing (λ e. eqb-false s k t (sym e))
@@ -196,7 +196,7 @@ module _ (x : Piece) (p : Peer) (s : ℕ) (low : lowest outgoing (usedOut (p .li
       at k q true t =
           let z : s ≡ k = eqb-true s k t in
           let none : times used k ≡ 0 = rw z at (times-none used s (slot-free x p s low w)) in
-          absurd (omega (arith, times-append sent (outItems (p .lists .reliable) ++ outItems (p .lists .outgoing)) k))
+          absurd (omega (arith, times-append sent (outItems (p .lists .«send_reliable») ++ outItems (p .lists .outgoing)) k))
       at k q false t = ap attempts (others k t) ∙ all-at (tried (p .outgoing)) sent (w .sent) k q
 
   at-sound : sound (queuedAt s x p) ≡ true
@@ -216,7 +216,7 @@ module _ (x : Piece) (p : Peer) (s : ℕ) (low : lowest outgoing (usedOut (p .li
         arrived = in-same (p .incoming) (p .lists) x s (p .channels) channel k count (p .waiting .total) ∙ w .arrived;
       })
 
-pub queued-sound : (x : Piece) (p : Peer) → Whole p → sound p ≡ true → onChannel (x .command .channel) (p .standing .count) ≡ true
+pub queued-sound : (x : Piece) (p : Peer) → Whole p → sound p ≡ true → onChannel (x .command .channel) (p .standing .channels) ≡ true
     → namesFields (x .command) ≡ true → sound (queued x p) ≡ true
 unfolding queued
 queued-sound x p whole h on names = go (lowest outgoing (usedOut (p .lists))) refl
@@ -248,26 +248,26 @@ queued-standing x p = go (lowest outgoing (usedOut (p .lists)))
     go Full = refl
 
 -- pieces one after another
-module _ (x : Piece) (xs : List Piece) (p : Peer) (fit : allFit (p .standing .count) (x ∷ xs) ≡ true) where
+module _ (x : Piece) (xs : List Piece) (p : Peer) (fit : allFit (p .standing .channels) (x ∷ xs) ≡ true) where
   abbrev isOn : Bool
-  isOn = onChannel (x .command .channel) (p .standing .count)
+  isOn = onChannel (x .command .channel) (p .standing .channels)
 
   abbrev isNamed : Bool
   isNamed = namesFields (x .command)
 
   pub fit-on : isOn ≡ true
   unfolding allFit
-  fit-on = both-left isOn isNamed (both-left (both isOn isNamed) (allFit (p .standing .count) xs) fit)
+  fit-on = both-left isOn isNamed (both-left (both isOn isNamed) (allFit (p .standing .channels) xs) fit)
 
   pub fit-names : isNamed ≡ true
   unfolding allFit
-  fit-names = both-right isOn isNamed (both-left (both isOn isNamed) (allFit (p .standing .count) xs) fit)
+  fit-names = both-right isOn isNamed (both-left (both isOn isNamed) (allFit (p .standing .channels) xs) fit)
 
-  pub fit-rest : allFit (queued x p .standing .count) xs ≡ true
+  pub fit-rest : allFit (queued x p .standing .channels) xs ≡ true
   unfolding allFit
   fit-rest =
-      ap (λ (s : Standing). allFit (s .count) xs) (queued-standing x p)
-      ∙ both-right (both isOn isNamed) (allFit (p .standing .count) xs) fit
+      ap (λ (s : Standing). allFit (s .channels) xs) (queued-standing x p)
+      ∙ both-right (both isOn isNamed) (allFit (p .standing .channels) xs) fit
 
   pub fit-sound : Whole p → sound p ≡ true → sound (queued x p) ≡ true
   fit-sound whole h = queued-sound x p whole h fit-on fit-names
@@ -282,7 +282,7 @@ unfolding queuedAll
 queuedAll-standing [] p = refl
 queuedAll-standing (x ∷ xs) p = queuedAll-standing xs (queued x p) ∙ queued-standing x p
 
-pub queuedAll-sound : (xs : List Piece) (p : Peer) → Whole p → sound p ≡ true → allFit (p .standing .count) xs ≡ true → sound (queuedAll xs p) ≡ true
+pub queuedAll-sound : (xs : List Piece) (p : Peer) → Whole p → sound p ≡ true → allFit (p .standing .channels) xs ≡ true → sound (queuedAll xs p) ≡ true
 unfolding queuedAll
 queuedAll-sound [] p whole h fit = h
 queuedAll-sound (x ∷ xs) p whole h fit =
@@ -299,18 +299,18 @@ module _ (x : Piece) (p : Peer) where
   gate-fit true false c e = absurd (omega (arith, ap openness e))
   gate-fit false b c e = absurd (omega (arith, ap openness e))
 
-  pub setup-open : setupGate x (p .standing .count) (room p) ≡ Open
-      → (onChannel (x .command .channel) (p .standing .count) ≡ true) × (leb 1 (room p) ≡ true) × (namesFields (x .command) ≡ true)
-  setup-open = gate-fit (onChannel (x .command .channel) (p .standing .count)) (leb 1 (room p)) (namesFields (x .command))
+  pub setup-open : setupGate x (p .standing .channels) (room p) ≡ Open
+      → (onChannel (x .command .channel) (p .standing .channels) ≡ true) × (leb 1 (room p) ≡ true) × (namesFields (x .command) ≡ true)
+  setup-open = gate-fit (onChannel (x .command .channel) (p .standing .channels)) (leb 1 (room p)) (namesFields (x .command))
 
 setup-keeps : (x : Piece) (p : Peer) → Whole p → sound p ≡ true → sound (setsUpSound x p .after) ≡ true
 setup-keeps x p whole h =
-    behind-has (setupGate x (p .standing .count) (room p)) p (finished (queued x p)) (λ (o : Outcome Peer). sound (o .after) ≡ true) (λ why. h)
+    behind-has (setupGate x (p .standing .channels) (room p)) p (finished (queued x p)) (λ (o : Outcome Peer). sound (o .after) ≡ true) (λ why. h)
     (λ e. let f = setup-open x p e in queued-sound x p whole h (f .0) (f .2))
 
 setup-whole : (x : Piece) (p : Peer) → Whole p → Whole (setsUpSound x p .after)
 setup-whole x p whole =
-    behind-has (setupGate x (p .standing .count) (room p)) p (finished (queued x p)) (λ (o : Outcome Peer). Whole (o .after)) (λ why. whole)
+    behind-has (setupGate x (p .standing .channels) (room p)) p (finished (queued x p)) (λ (o : Outcome Peer). Whole (o .after)) (λ why. whole)
     (λ e. queued-whole x p whole)
 
 pub setup-sounds : (s : Settings) (x : Piece) → Sounds (setsUp s x)

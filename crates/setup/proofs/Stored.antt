@@ -10,27 +10,27 @@ use lib.Dec.{eqb}
 use lib.ListN.{length, set, replicate, length-set, length-replicate}
 use lib.Seq.{getD-set-same, set-getD}
 use Rattle.numbers.specs.Pick.{pick}
-use Rattle.slots.specs.Lists.{outgoing}
-use Rattle.runs.specs.Runs.{has}
-use Rattle.runs.specs.Free.{isMarked, markedAll, firstFrom, lowest}
-use Rattle.runs.specs.declared.Free.{Free}
-use Rattle.runs.specs.declared.Free.the-variants.{Lowest, Full}
-use Rattle.runs.proofs.Lowest.{lowest-exists}
-use Rattle.runs.proofs.Scans.{first-same, set-mark-past}
-use Rattle.runs.proofs.Marked.{marked-length, marked-says, marked-count}
-use Rattle.parts.specs.Fresh.{noChannel}
-use Rattle.parts.specs.Damage.{usedOut}
-use Rattle.parts.specs.Updates.{withOutgoingTotal, withReliable, withOutgoingGroup, withQueued, withNumbers}
-use Rattle.parts.specs.declared.groups.Channel.{Channel}
-use Rattle.parts.specs.declared.groups.Outgoing.{Outgoing}
+use Rattle.record.specs.Lists.{outgoing}
+use Rattle.cells.specs.Runs.{has}
+use Rattle.cells.specs.Free.{isMarked, markedAll, firstFrom, lowest}
+use Rattle.cells.specs.declared.Free.{Free}
+use Rattle.cells.specs.declared.Free.the-variants.{Lowest, Full}
+use Rattle.cells.proofs.Lowest.{lowest-exists}
+use Rattle.cells.proofs.Scans.{first-same, set-mark-past}
+use Rattle.cells.proofs.Marked.{marked-length, marked-says, marked-count}
+use Rattle.record.specs.Fresh.{noChannel}
+use Rattle.record.specs.Damage.{usedOut}
+use Rattle.record.specs.Updates.{withOutgoingTotal, withReliable, withOutgoingGroup, withQueued, withNumbers}
+use Rattle.record.specs.declared.groups.Channel.{Channel}
+use Rattle.record.specs.declared.groups.Outgoing.{Outgoing}
 use Rattle.peer.specs.Updates.{renewed}
-use Rattle.peer.specs.declared.record.Peer.{Peer}
-use Rattle.stamps.specs.Counting.{channelAt, countersAt, numbered}
-use Rattle.stamps.specs.Outboxes.{stampIn, slotIn, placedIn, queueingIn, queueing, outboxOf, freeIn}
-use Rattle.stamps.specs.declared.counting.Counters.{Counters}
-use Rattle.stamps.specs.declared.pieces.Piece.{Piece}
-use Rattle.stamps.specs.declared.outbox.Outbox.{Outbox}
-use Rattle.stamps.specs.declared.outbox.Queued.{Queued}
+use Rattle.peer.specs.declared.Peer.{Peer}
+use Rattle.outbox.specs.Counting.{channelAt, countersAt, numbered}
+use Rattle.outbox.specs.CodeOutboxes.{stampIn, slotIn, placedIn, queueingIn, queueing, outboxOf, freeIn}
+use Rattle.outbox.specs.declared.counting.Counters.{Counters}
+use Rattle.outbox.specs.declared.pieces.Piece.{Piece}
+use Rattle.outbox.specs.CodeOutboxes.{Outbox}
+use Rattle.outbox.specs.CodeOutboxes.{Queued}
 use Rattle.setup.specs.Queueing.{room, queuedAt, queued}
 use Rattle.setup.specs.Taking.{Ready}
 use Rattle.setup.proofs.Taking.{none-left, queued-at, queued-names, step}
@@ -41,7 +41,7 @@ opened p channel marks =
     record {
       total = p .totals .outgoing;
       queued = p .waiting .queued;
-      counters = countersAt (p .flow .reliable) (p .channels) channel (p .groups .outgoing);
+      counters = countersAt (p .flow .«own_number») (p .channels) channel (p .groups .outgoing);
       lists = p .lists;
       marks = marks;
     }
@@ -108,9 +108,6 @@ module _ (x : Piece) (p : Peer) (h : 1 ≤ room p) (o : Outbox)
 
   says₀ : Says marks₀ (usedOut (p .lists))
   says₀ = says-first (usedOut (p .lists))
-
-  pub one-exists : q .at < outgoing
-  one-exists = let f = room-slot p h in queue-exists x p marks₀ says₀ (f .slot) (f .low) q (e ∙ ap (λ (o : Outbox). queueing o x) oe)
 
   pub one-stored : queued x p ≡ stored p (x .command .channel) (q .outbox) (set (p .outgoing) (q .at) (q .slot))
   one-stored = let f = room-slot p h in queue-stored x p marks₀ says₀ (f .slot) (f .low) q (e ∙ ap (λ (o : Outbox). queueing o x) oe)

@@ -12,16 +12,16 @@ use lib.Seq.{getD-set-same, getD-set-other, getD-take}
 use borrow.Author.Tests.{eqb-true, eqb-false, eq-eqb, ne-eqb, le-leb}
 use Rattle.numbers.specs.Pick.{pick}
 use Rattle.command.specs.Rows.{namesFields}
-use Rattle.slots.specs.Lists.{outgoing}
-use Rattle.runs.specs.Runs.{has}
-use Rattle.runs.specs.Free.{firstFrom, countFrom, lowest}
-use Rattle.runs.specs.declared.Free.{Free}
-use Rattle.runs.specs.declared.Free.the-variants.{Lowest, Full}
-use Rattle.slots.proofs.Keeps.{has-times}
-use Rattle.runs.proofs.Lowest.{lowest-exists, lowest-free, free-and-named}
+use Rattle.record.specs.Lists.{outgoing}
+use Rattle.cells.specs.Runs.{has}
+use Rattle.cells.specs.Free.{firstFrom, countFrom, lowest}
+use Rattle.cells.specs.declared.Free.{Free}
+use Rattle.cells.specs.declared.Free.the-variants.{Lowest, Full}
+use Rattle.record.proofs.Keeps.{has-times}
+use Rattle.cells.proofs.Lowest.{lowest-exists, lowest-free, free-and-named}
 use Rattle.peer.specs.Settings.{fitSettings}
-use Rattle.parts.specs.Fresh.{noOutgoing}
-use Rattle.parts.specs.Damage.{usedOut}
+use Rattle.record.specs.Fresh.{noOutgoing}
+use Rattle.record.specs.Damage.{usedOut}
 use Rattle.peer.specs.Damage.{sound}
 use Rattle.numbers.specs.declared.refusals.Refusal.the-variants.{InvalidChannel, FailedToQueue, BadCommand}
 use Rattle.peer.specs.Outcome.{Outcome, finished}
@@ -30,16 +30,16 @@ use Rattle.peer.specs.Sounds.{Whole}
 use Rattle.peer.specs.declared.gate.Gate.the-variants.{Open, Shut}
 use Rattle.peer.proofs.Gates.{behind-open}
 use Rattle.peer.specs.declared.settings.Settings.{Settings}
-use Rattle.peer.specs.declared.record.Peer.{Peer}
-use Rattle.parts.specs.declared.groups.Lists.{Lists}
-use Rattle.parts.specs.declared.groups.Outgoing.{Outgoing}
+use Rattle.peer.specs.declared.Peer.{Peer}
+use Rattle.record.specs.declared.groups.Lists.{Lists}
+use Rattle.record.specs.declared.groups.Outgoing.{Outgoing}
 use Rattle.peer.proofs.Clauses.{sound-clauses}
-use Rattle.stamps.specs.Room.{roomIn}
-use Rattle.stamps.specs.Pieces.{listsWith}
+use Rattle.record.specs.Room.{roomIn}
+use Rattle.outbox.specs.Pieces.{listsWith}
 use Rattle.setup.specs.Queueing.{room, made, queuedAt, queuedIn, queued, queuedAll}
 use Rattle.setup.specs.Calls.{onChannel, setupGate, setsUp, setsUpSound}
 use Rattle.setup.specs.Taking.{freeFrom, frees, takenIn, taken, filled, runs, answers, Ready}
-use Rattle.stamps.specs.declared.pieces.Piece.{Piece}
+use Rattle.outbox.specs.declared.pieces.Piece.{Piece}
 use Rattle.setup.proofs.Joining.{after-times, after-length, after-exist, after-once}
 use Rattle.setup.proofs.Sound.{queued-whole, fit-on, fit-names, fit-rest, fit-sound}
 
@@ -293,8 +293,8 @@ module _ (s : Settings) (fit : fitSettings s ≡ true) where
   pub setup-done : (x : Piece) (xs : List Piece) (p : Peer) → Ready (x ∷ xs) p → setsUp s x p ≡ finished (queued x p)
   setup-done x xs p r =
       behind-open (gateOf (fitSettings s) (sound p)) p (setsUpSound x p) (rw (fit, r .good))
-      ∙ behind-open (setupGate x (p .standing .count) (room p)) p (finished (queued x p))
-      (gate-past (onChannel (x .command .channel) (p .standing .count)) (leb 1 (room p)) (namesFields (x .command)) (fit-on x xs p (r .fit))
+      ∙ behind-open (setupGate x (p .standing .channels) (room p)) p (finished (queued x p))
+      (gate-past (onChannel (x .command .channel) (p .standing .channels)) (leb 1 (room p)) (namesFields (x .command)) (fit-on x xs p (r .fit))
       (le-leb 1 (room p) (omega (arith, r .few))) (fit-names x xs p (r .fit)))
 
   pub runs-queued : (xs : List Piece) (p : Peer) → Ready xs p → runs s xs p ≡ queuedAll xs p

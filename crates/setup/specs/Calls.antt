@@ -9,12 +9,12 @@ use Rattle.command.specs.Rows.{namesFields}
 use Rattle.peer.specs.Outcome.{Outcome, finished}
 use Rattle.peer.specs.Gate.{behind, onRecord}
 use Rattle.peer.specs.declared.settings.Settings.{Settings}
-use Rattle.peer.specs.declared.record.Peer.{Peer}
+use Rattle.peer.specs.declared.Peer.{Peer}
 use Rattle.peer.specs.declared.gate.Gate.{Gate}
 use Rattle.peer.specs.declared.gate.Gate.the-variants.{Open, Shut}
-use Rattle.stamps.specs.Counting.{isItself}
+use Rattle.outbox.specs.Counting.{isItself}
 use Rattle.setup.specs.Queueing.{room, queued}
-use Rattle.stamps.specs.declared.pieces.Piece.{Piece}
+use Rattle.outbox.specs.declared.pieces.Piece.{Piece}
 
 abbrev pub onChannel : ℕ → ℕ → Bool
 onChannel channel count = pick (ltb channel count) true (isItself channel)
@@ -27,7 +27,7 @@ setupGate x count free =
     (Shut InvalidChannel)
 
 abbrev pub setsUpSound : Piece → Peer → Outcome Peer
-setsUpSound x p = behind (setupGate x (p .standing .count) (room p)) p (finished (queued x p))
+setsUpSound x p = behind (setupGate x (p .standing .channels) (room p)) p (finished (queued x p))
 
 abbrev pub setsUp : Settings → Piece → Peer → Outcome Peer
 setsUp s x p = onRecord s p (setsUpSound x p)

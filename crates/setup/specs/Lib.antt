@@ -1,3 +1,4 @@
+pub mod Pings
 pub mod Queueing
 pub mod Calls
 pub mod Taking

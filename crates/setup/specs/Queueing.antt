@@ -3,20 +3,20 @@ use Prim.Native.Nat.{ℕ}
 use mathlib.Core.List.{List, [], _∷_}
 use lib.ListN.{set}
 use Rattle.numbers.specs.Modulo.{sum}
-use Rattle.slots.specs.Lists.{outgoing}
-use Rattle.runs.specs.Free.{lowest}
-use Rattle.runs.specs.declared.Free.{Free}
-use Rattle.runs.specs.declared.Free.the-variants.{Lowest, Full}
-use Rattle.parts.specs.Damage.{usedOut}
-use Rattle.parts.specs.Updates.{withOutgoingTotal, withReliable, withOutgoingGroup, withQueued}
-use Rattle.parts.specs.declared.groups.Outgoing.{Outgoing}
+use Rattle.record.specs.Lists.{outgoing}
+use Rattle.cells.specs.Free.{lowest}
+use Rattle.cells.specs.declared.Free.{Free}
+use Rattle.cells.specs.declared.Free.the-variants.{Lowest, Full}
+use Rattle.record.specs.Damage.{usedOut}
+use Rattle.record.specs.Updates.{withOutgoingTotal, withReliable, withOutgoingGroup, withQueued}
+use Rattle.record.specs.declared.groups.Outgoing.{Outgoing}
 use Rattle.peer.specs.Updates.{withTotals, withFlow, withLists, withGroups, withWaiting, withChannels, withOutgoing}
-use Rattle.peer.specs.declared.record.Peer.{Peer}
-use Rattle.stamps.specs.Counting.{stamped, countersAt, numbered}
-use Rattle.stamps.specs.Pieces.{slotOf, grown, listsWith}
-use Rattle.stamps.specs.Room.{roomIn}
-use Rattle.stamps.specs.declared.counting.Stamped.{Stamped}
-use Rattle.stamps.specs.declared.pieces.Piece.{Piece}
+use Rattle.peer.specs.declared.Peer.{Peer}
+use Rattle.outbox.specs.Counting.{stamped, countersAt, numbered}
+use Rattle.outbox.specs.Pieces.{slotOf, grown, listsWith}
+use Rattle.record.specs.Room.{roomIn}
+use Rattle.outbox.specs.declared.counting.Stamped.{Stamped}
+use Rattle.outbox.specs.declared.pieces.Piece.{Piece}
 
 -- the free outgoing slots, counted
 abbrev pub room : Peer → ℕ
@@ -26,7 +26,7 @@ room p = roomIn (p .lists)
 abbrev pub stampOf : Piece → Peer → Stamped
 stampOf x p =
     let channel = x .command .channel in
-    stamped (x .command .byte) channel (x .offset) (countersAt (p .flow .reliable) (p .channels) channel (p .groups .outgoing))
+    stamped (x .command .byte) channel (x .offset) (countersAt (p .flow .«own_number») (p .channels) channel (p .groups .outgoing))
 
 -- the host count steps before it becomes the queue time
 abbrev pub queueTime : Peer → ℕ

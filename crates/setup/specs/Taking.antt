@@ -6,20 +6,20 @@ use mathlib.Core.List.{List, [], _∷_}
 use lib.ListN.{length}
 use Rattle.numbers.specs.Pick.{pick, both}
 use Rattle.command.specs.Rows.{namesFields}
-use Rattle.slots.specs.Lists.{outgoing}
-use Rattle.runs.specs.Runs.{has}
-use Rattle.runs.specs.Free.{lowest}
-use Rattle.runs.specs.declared.Free.{Free}
-use Rattle.runs.specs.declared.Free.the-variants.{Lowest, Full}
-use Rattle.parts.specs.Damage.{usedOut}
+use Rattle.record.specs.Lists.{outgoing}
+use Rattle.cells.specs.Runs.{has}
+use Rattle.cells.specs.Free.{lowest}
+use Rattle.cells.specs.declared.Free.{Free}
+use Rattle.cells.specs.declared.Free.the-variants.{Lowest, Full}
+use Rattle.record.specs.Damage.{usedOut}
 use Rattle.peer.specs.Damage.{sound}
 use Rattle.peer.specs.Sounds.{Whole}
 use Rattle.peer.specs.declared.settings.Settings.{Settings}
-use Rattle.peer.specs.declared.record.Peer.{Peer}
-use Rattle.parts.specs.declared.groups.Outgoing.{Outgoing}
+use Rattle.peer.specs.declared.Peer.{Peer}
+use Rattle.record.specs.declared.groups.Outgoing.{Outgoing}
 use Rattle.setup.specs.Queueing.{room, made, queued}
 use Rattle.setup.specs.Calls.{onChannel, setsUp}
-use Rattle.stamps.specs.declared.pieces.Piece.{Piece}
+use Rattle.outbox.specs.declared.pieces.Piece.{Piece}
 
 -- the numbers at which a test fails, of the `left` from k on
 unfoldable pub freeFrom : (ℕ → Bool) → ℕ → ℕ → List ℕ
@@ -62,5 +62,5 @@ allFit count (x ∷ xs) = both (both (onChannel (x .command .channel) count) (na
 pub record Ready (xs : List Piece) (p : Peer) : Type 0 where
   pub whole : Whole p
   pub good : sound p ≡ true
-  pub fit : allFit (p .standing .count) xs ≡ true
+  pub fit : allFit (p .standing .channels) xs ≡ true
   pub few : length xs ≤ room p

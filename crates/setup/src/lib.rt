@@ -1,3 +1,114 @@
-// Setting up an outgoing command on the record.
-pub mod calls;
-pub mod lent;
+// Setup (a command, whether a packet goes with it, the offset and the piece's length) and ping: each queues one command behind a gate of its own.
+ghost use mathlib.Core.Path.{_≡_};
+ghost use Rattle.setup.specs.Pings.{pingGate, pings};
+ghost use Rattle.peer.specs.Outcome.{Came};
+ghost use Rattle.peer.specs.Calls.{answerOf};
+ghost use Rattle.places.specs.Whole.{whole};
+ghost use Rattle.setup.specs.Calls.{onChannel, setupGate, setsUp};
+use command::bytes;
+use command::fields::Command;
+use command::fields::Fields;
+use command::rows;
+use numbers::counters::Reliable;
+use numbers::refusals::Refusal;
+use outbox::pieces::Piece;
+use peer::Peer;
+use peer::calls::Reply;
+use peer::gate::Gate;
+use peer::gate::Lent;
+use peer::settings::Settings;
+use places::RECORD;
+use places::groups;
+use record::groups::ITSELF;
+use record::groups::Standing;
+
+// A channel below the count, or the peer itself.
+fn on_channel(channel: u8, count: u32) -> bool
+    ensures { λ r. ⌜ r ≡ onChannel channel count ⌝ }
+{
+    if (channel as u32) < count {
+        return true;
+    }
+    channel == ITSELF
+}
+
+pub(crate) fn setup_gate(x: Piece, count: u32, free: usize) -> Gate
+    ensures { λ r. ⌜ r ≡ setupGate x count free ⌝ }
+{
+    let c = x.command;
+    if !on_channel(c.channel, count) {
+        return Gate::Shut(Refusal::InvalidChannel);
+    }
+    if free < 1 {
+        return Gate::Shut(Refusal::FailedToQueue);
+    }
+    if !rows::names_fields(c) {
+        return Gate::Shut(Refusal::BadCommand);
+    }
+    Gate::Open
+}
+
+// Refused by 11, 13, 2, 5 and 9, in this order.
+pub fn setup(words: &mut [u32; RECORD], settings: Settings, x: Piece) -> Reply
+    ensures { λ r. ⌜ Came answerOf (setsUp settings x (whole (now (words .entry)))) r (whole (now (words .exit))) ⌝ }
+{
+    let gate = gate::ask(words, settings, Lent::Nothing);
+    if let Gate::Shut(why) = gate {
+        return Reply::Refused(why);
+    }
+    let c = x.command;
+    let o = outbox::open(words, c.channel);
+    let marks = o.marks;
+    let standing = groups::standing(words);
+    let may = setup_gate(x, standing.channels, outbox::free_in(marks));
+    if let Gate::Shut(why) = may {
+        return Reply::Refused(why);
+    }
+    let after = outbox::queue(words, o, x);
+    outbox::close(words, c.channel, after);
+    Reply::Done
+}
+
+// Command 5 with the acknowledge flag, channel 255, no packet.
+pub(crate) const PING: Piece = Piece {
+    command: Command {
+        byte: bytes::PING + bytes::ACKNOWLEDGE,
+        channel: ITSELF,
+        number: Reliable(0),
+        fields: Fields::Ping,
+    },
+    packet: false,
+    offset: 0,
+    length: 0,
+};
+
+pub(crate) fn ping_gate(standing: Standing, free: usize) -> Gate
+    ensures { λ r. ⌜ r ≡ pingGate standing free ⌝ }
+{
+    if standing.state != Peer::CONNECTED {
+        return Gate::Shut(Refusal::NotConnected);
+    }
+    if free < 1 {
+        return Gate::Shut(Refusal::FailedToQueue);
+    }
+    Gate::Open
+}
+
+// Refused by 11, 13, 1 and 5, in this order.
+pub fn ping(words: &mut [u32; RECORD], settings: Settings) -> Reply
+    ensures { λ r. ⌜ Came answerOf (pings settings (whole (now (words .entry)))) r (whole (now (words .exit))) ⌝ }
+{
+    let gate = gate::ask(words, settings, Lent::Nothing);
+    if let Gate::Shut(why) = gate {
+        return Reply::Refused(why);
+    }
+    let o = outbox::open(words, ITSELF);
+    let marks = o.marks;
+    let may = ping_gate(groups::standing(words), outbox::free_in(marks));
+    if let Gate::Shut(why) = may {
+        return Reply::Refused(why);
+    }
+    let after = outbox::queue(words, o, PING);
+    outbox::close(words, ITSELF, after);
+    Reply::Done
+}

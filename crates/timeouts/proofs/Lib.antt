@@ -1,3 +1,4 @@
-pub mod Walk
-pub mod LentLaws
+pub mod BackLaws
+pub mod Walking
+pub mod PlaceLaws
 pub mod Settled

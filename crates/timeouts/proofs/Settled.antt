@@ -8,11 +8,11 @@ use Rattle.numbers.specs.Answers.{Answer, numbersOf}
 use Rattle.numbers.proofs.Settled.{refused-apart, refused-not-done}
 use Rattle.peer.specs.Outcome.{Came}
 use Rattle.peer.specs.declared.settings.Settings.{Settings}
-use Rattle.peer.specs.declared.record.Peer.{Peer}
+use Rattle.peer.specs.declared.Peer.{Peer}
+use Rattle.peer.proofs.Settled.{settles, Settles}
 use Rattle.timeouts.specs.Calls.{answerOf, checks}
 use Rattle.timeouts.specs.declared.Reply.{Reply}
 use Rattle.timeouts.specs.declared.Reply.the-variants as vr
-use Rattle.timeouts.specs.declared.Checked.{Checked}
 
 abbrev numberIn : Answer → ℕ
 numberIn a = a .number
@@ -31,8 +31,6 @@ replies-apart (vr.Refused r) vr.Done e = absurd (refused-not-done r (ap numberIn
 replies-apart (vr.Refused r) vr.Disconnect e = absurd (refused-not-done r (ap numberIn e))
 replies-apart (vr.Refused r) (vr.Refused w) e = ap vr.Refused (refused-apart r w e)
 
-pub check-settled : (s : Settings) (clock : ℕ) (p : Peer) (a b : Checked) → Came answerOf (checks s clock p) (a .reply) (a .peer)
-    → Came answerOf (checks s clock p) (b .reply) (b .peer) → a ≡ b
-check-settled s clock p a b x y =
-    ap (λ (r : Reply). record { peer = a .peer; reply = r }) (replies-apart (a .reply) (b .reply) (x .answer ∙ sym (y .answer)))
-    ∙ ap (λ (z : Peer). record { peer = z; reply = b .reply }) (x .after ∙ sym (y .after))
+pub check-settled : (s : Settings) (clock : ℕ) (p : Peer) (a b : Reply) (x y : Peer) → Came answerOf (checks s clock p) a x
+    → Came answerOf (checks s clock p) b y → Settles a b x y
+check-settled s clock p = settles answerOf replies-apart (checks s clock p)

@@ -4,13 +4,13 @@ use mathlib.Core.Bool.{Bool}
 use mathlib.Core.List.{[], _∷_}
 use Rattle.numbers.specs.Pick.{pick}
 use Rattle.numbers.specs.Answers.{Answer, done, refused}
-use Rattle.slots.specs.Lists.{outItems}
-use Rattle.parts.specs.Updates.{withTimeouts, withPacketsLost, withTransit}
+use Rattle.record.specs.Lists.{outItems}
+use Rattle.record.specs.Updates.{withTimeouts, withPacketsLost, withTransit}
 use Rattle.peer.specs.Outcome.{Outcome}
 use Rattle.peer.specs.Gate.{onRecord}
 use Rattle.peer.specs.Updates.{withChecked}
 use Rattle.peer.specs.declared.settings.Settings.{Settings}
-use Rattle.peer.specs.declared.record.Peer.{Peer}
+use Rattle.peer.specs.declared.Peer.{Peer}
 use Rattle.overdue.specs.Walking.{Walked, atEntry, walked, listsBy}
 use Rattle.timeouts.specs.declared.Reply.{Reply}
 use Rattle.timeouts.specs.declared.Reply.the-variants as vr

@@ -1,18 +1,29 @@
 // The timeout check: one walk over the sent list, oldest first.
+pub mod back;
+
 ghost use mathlib.Core.Path.{_≡_};
+ghost use Rattle.timeouts.specs.Calls.{replyBy, answerOf, walkOf, checks};
+ghost use lib.ListN.{length, take};
+ghost use Rattle.numbers.specs.Pick.{pick};
+ghost use Rattle.record.specs.Lists.{outItems};
+ghost use Rattle.record.specs.Updates.{withTimeouts, withPacketsLost, withTransit};
 ghost use Rattle.peer.specs.Outcome.{Came};
-ghost use Rattle.timeouts.specs.Calls.{answerOf, replyBy, checks};
+ghost use Rattle.peer.specs.Updates.{withChecked, withLists, withOutgoing};
+ghost use Rattle.places.specs.Whole.{whole, recordLength};
+ghost use Rattle.overdue.specs.Walking.{atEntry, listsBy};
+use crate::back::send_back;
+use crate::back::turn;
 use numbers::refusals::Refusal;
-use overdue::back::send_back;
-use overdue::turn;
+use overdue::step::Walk;
+use overdue::turn::at_entry;
 use peer::gate::Gate;
 use peer::gate::Lent;
-use peer::gate::pass;
-use peer::record::Peer;
 use peer::settings::Settings;
-use slots::OUTGOING;
-
-pub mod lent;
+use places::RECORD;
+use places::groups;
+use queues::Out;
+use queues::outgoing;
+use record::OUTGOING;
 
 pub enum Reply {
     Done,
@@ -20,12 +31,7 @@ pub enum Reply {
     Refused(Refusal),
 }
 
-pub struct Checked {
-    pub peer: Peer,
-    pub reply: Reply,
-}
-
-fn reply_of(over: bool) -> Reply
+fn reply_by(over: bool) -> Reply
     ensures { λ r. ⌜ r ≡ replyBy over ⌝ }
 {
     if over {
@@ -34,58 +40,84 @@ fn reply_of(over: bool) -> Reply
     Reply::Done
 }
 
-// Refused by 11 and 13.
-pub fn check(peer: Peer, settings: Settings, clock: u32) -> Checked
-    ensures { λ r. ⌜ Came answerOf (checks settings clock peer) (r .reply) (r .peer) ⌝ }
+// The numbers that the walk begins with.
+fn begin(words: &[u32]) -> Walk
+    requires { ⌜ length (now words) ≡ recordLength ⌝ }
+    ensures { λ r. ⌜ r ≡ atEntry (whole (now (words .entry)) .times) (whole (now (words .entry)) .loss) (whole (now (words .entry)) .flow) ⌝ }
 {
-    let mut p = peer;
-    let lists = p.lists;
-    let channels = p.channels;
-    let incoming = p.incoming;
-    let outgoing = p.outgoing;
-    let worths = damage::worths(outgoing, p.standing.count);
-    let gate = pass(
-        settings,
-        Lent::Nothing,
-        p.flow.mtu,
-        p.standing.count,
-        p.waiting.total,
-        lists,
-        channels,
-        worths,
-        incoming,
-    );
-    if let Gate::Shut(why) = gate {
-        return Checked {
-            peer,
-            reply: Reply::Refused(why),
-        };
-    }
-    let sent = lists.sent;
-    let n = sent.count();
-    let cells = sent.slots;
-    let limits = p.limits;
-    let mut w = turn::start(p.times, p.loss, p.flow);
+    at_entry(
+        groups::times(words),
+        groups::loss(words),
+        groups::flow(words),
+    )
+}
+
+// The numbers that the walk ends with, and a mark for each slot of the sent list.
+struct Marked {
+    walk: Walk,
+    marks: [u8; OUTGOING],
+}
+
+fn walk(words: &mut [u32], clock: u32) -> Marked
+    requires { ⌜ length (now words) ≡ recordLength ⌝ }
+    ensures walk { λ r. ⌜ r .walk ≡ walkOf clock (whole (now (words .entry))) .walk ⌝ }
+    ensures marks { λ r. ⌜ take (length (outItems (whole (now (words .entry)) .lists .sent))) (r .marks) ≡ walkOf clock (whole (now (words .entry))) .marks ⌝ }
+    ensures slots { λ r. ⌜ whole (now (words .exit)) ≡ withOutgoing (whole (now (words .entry))) (walkOf clock (whole (now (words .entry))) .slots) ⌝ }
+{
+    let limits = groups::limits(words);
+    let n = outgoing::count(words, Out::Sent);
+    let mut w = begin(words);
     let mut marks = [0u8; OUTGOING];
     let mut j: usize = 0;
     while j < n {
-        let at = cells[j] as usize;
-        let slot = p.outgoing[at];
-        let t = turn::turn(limits, clock, w, slot);
-        let after = t.slot;
-        p.outgoing[at] = after;
+        let s = outgoing::slot_at(words, Out::Sent, j);
+        let t = turn(words, limits, clock, w, s as usize);
         marks[j] = t.mark;
         w = t.walk;
         j = j + 1;
     }
-    let left = send_back(lists, marks);
-    p.times.next_timeout = w.next;
-    p.times.earliest_timeout = w.earliest;
-    p.loss.lost = w.lost;
-    p.flow.transit = w.transit;
-    p.lists = left;
-    Checked {
-        peer: p,
-        reply: reply_of(w.over),
+    Marked { walk: w, marks }
+}
+
+// Where one went back: what stays is sent, the others go before what stood in their list.
+fn divide(words: &mut [u32], back: bool, marks: [u8; OUTGOING])
+    requires { ⌜ length (now words) ≡ recordLength ⌝ }
+    ensures { λ _. ⌜ whole (now (words .exit)) ≡ pick back (withLists (whole (now (words .entry))) (listsBy marks (whole (now (words .entry)) .lists))) (whole (now (words .entry))) ⌝ }
+{
+    if back {
+        send_back(words, marks);
     }
+}
+
+// Times, loss and flow get the walk's numbers.
+fn settle(words: &mut [u32], w: Walk)
+    requires { ⌜ length (now words) ≡ recordLength ⌝ }
+    ensures { λ _. ⌜ whole (now (words .exit)) ≡ withChecked (whole (now (words .entry))) (withTimeouts (whole (now (words .entry)) .times) (w .next) (w .earliest)) (withPacketsLost (whole (now (words .entry)) .loss) (w .lost)) (withTransit (whole (now (words .entry)) .flow) (w .transit)) (whole (now (words .entry)) .lists) (whole (now (words .entry)) .outgoing) ⌝ }
+{
+    let mut times = groups::times(words);
+    let mut loss = groups::loss(words);
+    let mut flow = groups::flow(words);
+    times.next_timeout = w.next;
+    times.earliest_timeout = w.earliest;
+    loss.lost = w.lost;
+    flow.transit = w.transit;
+    groups::put_times(words, times);
+    groups::put_loss(words, loss);
+    groups::put_flow(words, flow);
+}
+
+// Refused by 11 and 13.
+pub fn check(words: &mut [u32; RECORD], settings: Settings, clock: u32) -> Reply
+    ensures { λ r. ⌜ Came answerOf (checks settings clock (whole (now (words .entry)))) r (whole (now (words .exit))) ⌝ }
+{
+    let gate = gate::ask(words, settings, Lent::Nothing);
+    if let Gate::Shut(why) = gate {
+        return Reply::Refused(why);
+    }
+    let m = walk(words, clock);
+    let w = m.walk;
+    let marks = m.marks;
+    divide(words, w.back, marks);
+    settle(words, w);
+    reply_by(w.over)
 }

@@ -28,7 +28,7 @@ pub struct Judged {
 }
 
 // Whether the group is marked in the words.
-fn is_marked(words: [u32; UNSEQUENCED_WORDS], group: Group) -> bool
+fn marked(words: [u32; UNSEQUENCED_WORDS], group: Group) -> bool
     ensures { λ r. ⌜ r ≡ marked words (group .0) ⌝ }
 {
     let index = group.0 % WINDOW;
@@ -40,7 +40,7 @@ fn is_marked(words: [u32; UNSEQUENCED_WORDS], group: Group) -> bool
 pub fn judge(base: Group, words: [u32; UNSEQUENCED_WORDS], group: Group) -> Judged
     ensures { λ r. ⌜ Judges base words group r ⌝ }
 {
-    if is_distant(base, group) {
+    if distant(base, group) {
         return Judged {
             base,
             words,
@@ -57,7 +57,7 @@ pub fn judge(base: Group, words: [u32; UNSEQUENCED_WORDS], group: Group) -> Judg
             verdict: Verdict::Taken,
         };
     }
-    if is_marked(words, group) {
+    if marked(words, group) {
         return Judged {
             base,
             words,
@@ -72,7 +72,7 @@ pub fn judge(base: Group, words: [u32; UNSEQUENCED_WORDS], group: Group) -> Judg
 }
 
 // Whether the group lies past all free windows from the base on; below the base, it counts as 65,536 more.
-fn is_distant(base: Group, group: Group) -> bool
+fn distant(base: Group, group: Group) -> bool
     ensures { λ r. ⌜ r ≡ distant (base .0) (group .0) ⌝ }
 {
     let low = base.0 as u32;
@@ -84,7 +84,7 @@ fn is_distant(base: Group, group: Group) -> bool
 }
 
 // The words with the group marked: done once it is stored.
-pub fn mark(words: [u32; UNSEQUENCED_WORDS], group: Group) -> [u32; UNSEQUENCED_WORDS]
+pub fn marking(words: [u32; UNSEQUENCED_WORDS], group: Group) -> [u32; UNSEQUENCED_WORDS]
     ensures { λ r. ⌜ r ≡ marking words (group .0) ⌝ }
 {
     let index = group.0 % WINDOW;

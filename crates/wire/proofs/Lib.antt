@@ -1,3 +1,5 @@
+pub mod ShapeLaws
+pub mod BuildSettled
 pub mod ReadLaws
 pub mod WriteLaws
 pub mod Settled

@@ -11,14 +11,14 @@ use borrow.Author.Tests.{lt-leb, le-leb, leb-true}
 use Rattle.numbers.specs.Pick.{pick, both}
 use Rattle.numbers.specs.Answers.{done, refused}
 use Rattle.numbers.specs.declared.refusals.Refusal.the-variants.{BadCommand}
-use Rattle.table.specs.Layout.{known, layout, sizeOf}
-use Rattle.table.specs.Bytes.{rowAt, pad, fits, Bytes}
-use Rattle.build.specs.Built.{builtFrom}
+use Rattle.command.specs.Layout.{known, layout, sizeOf}
+use Rattle.command.specs.Bytes.{rowAt, pad, fits, Bytes}
+use Rattle.wire.specs.Built.{builtFrom}
 use Rattle.wire.specs.Reading.{kindAt, readable, readAt}
 use Rattle.wire.specs.Steps.{wholeKind, placed}
 use Rattle.numbers.proofs.BoolLaws.{both-left, both-right, both-true, both-false}
-use Rattle.table.proofs.LayoutLaws.{known-low, layout-length}
-use Rattle.table.proofs.RowLaws.{row-length, take-pad, fits-read}
+use Rattle.command.proofs.LayoutLaws.{known-low, layout-length}
+use Rattle.command.proofs.RowLaws.{row-length, take-pad, fits-read}
 
 module _ (s : List ℕ) (i : ℕ) where
   abbrev pub whole : List ℕ

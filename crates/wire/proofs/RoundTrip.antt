@@ -14,8 +14,8 @@ use Rattle.numbers.specs.Pick.{pick, both}
 use Rattle.numbers.specs.Answers.{Answer, done, refused, numbersOf}
 use Rattle.numbers.proofs.Settled.{done-apart}
 use Rattle.numbers.specs.declared.refusals.Refusal.the-variants.{BadCommand}
-use Rattle.table.specs.Layout.{known, layout, total, sizeOf}
-use Rattle.table.specs.Bytes.{numberAt, putNumber, rowAt, putRow, fits, Bytes}
+use Rattle.command.specs.Layout.{known, layout, total, sizeOf}
+use Rattle.command.specs.Bytes.{numberAt, putNumber, rowAt, putRow, fits, Bytes}
 use Rattle.command.specs.Rows.{kindOf, rowOf, namesFields}
 use Rattle.wire.specs.Reading.{kindAt, readable, readAt, answerOf}
 use Rattle.wire.specs.Writing.{writable, writeBytes, Written}
@@ -27,8 +27,8 @@ use Rattle.wire.specs.declared.reader.Reading.the-variants as rd
 use Rattle.wire.specs.declared.writer.Writing.{Writing}
 use Rattle.wire.specs.declared.writer.Writing.the-variants as wr
 use Rattle.numbers.proofs.BoolLaws.{both-left, both-right, both-true, both-false}
-use Rattle.table.proofs.ByteLaws.{put-length, put-below, put-above, number-same, number-put, put-read, sets-append}
-use Rattle.table.proofs.LayoutLaws.{named, layout-known}
+use Rattle.command.proofs.ByteLaws.{put-length, put-below, put-above, number-same, number-put, put-read, sets-append}
+use Rattle.command.proofs.LayoutLaws.{named, layout-known}
 use Rattle.command.proofs.Settled.{apart}
 use Rattle.wire.proofs.ReadLaws.{chosen, whole-room}
 use Rattle.command.proofs.RowLengths.{row-of-length}

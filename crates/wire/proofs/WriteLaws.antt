@@ -11,15 +11,15 @@ use borrow.Author.Tests.{lt-leb, le-leb, eqb-true}
 use Rattle.numbers.specs.Pick.{pick, both}
 use Rattle.numbers.specs.Answers.{done, refused}
 use Rattle.numbers.specs.declared.refusals.Refusal.the-variants.{BadCommand}
-use Rattle.table.specs.Layout.{layout, sizeOf}
-use Rattle.table.specs.Bytes.{putRow, pad}
+use Rattle.command.specs.Layout.{layout, sizeOf}
+use Rattle.command.specs.Bytes.{putRow, pad}
 use Rattle.command.specs.Rows.{kindOf, rowOf, namesFields}
 use Rattle.wire.specs.Writing.{writable, writeAnswer, writeBytes, Written}
 use Rattle.command.specs.declared.fields.Command.{Command}
 use Rattle.wire.specs.declared.writer.Writing.the-variants as writing
 use Rattle.numbers.proofs.BoolLaws.{both-true, both-false}
-use Rattle.table.proofs.LayoutLaws.{layout-length}
-use Rattle.table.proofs.RowLaws.{put-pad}
+use Rattle.command.proofs.LayoutLaws.{layout-length}
+use Rattle.command.proofs.RowLaws.{put-pad}
 use Rattle.command.proofs.RowLengths.{row-of-length}
 
 module _ (s : List ℕ) (i : ℕ) (c : Command) where

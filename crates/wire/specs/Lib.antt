@@ -1,3 +1,5 @@
+pub mod Built
+pub mod Decoded
 pub mod Reading
 pub mod Writing
 pub mod RoundTrip

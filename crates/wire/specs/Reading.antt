@@ -7,8 +7,8 @@ use lib.ListN.{length, getD}
 use Rattle.numbers.specs.Pick.{pick, both}
 use Rattle.numbers.specs.Answers.{Answer, done, refused}
 use Rattle.numbers.specs.declared.refusals.Refusal.the-variants.{BadCommand}
-use Rattle.table.specs.Layout.{known, layout, sizeOf}
-use Rattle.table.specs.Bytes.{rowAt}
+use Rattle.command.specs.Layout.{known, layout, sizeOf}
+use Rattle.command.specs.Bytes.{rowAt}
 use Rattle.command.specs.Rows.{kindOf, rowOf}
 use Rattle.wire.specs.declared.reader.Reading.{Reading}
 use Rattle.wire.specs.declared.reader.Reading.the-variants as vr

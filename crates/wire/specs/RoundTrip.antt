@@ -5,8 +5,8 @@ use mathlib.Core.Path.{_≡_}
 use mathlib.Core.Bool.{true}
 use mathlib.Core.List.{List, _++_}
 use lib.ListN.{length, take, drop}
-use Rattle.table.specs.Layout.{layout}
-use Rattle.table.specs.Bytes.{fits, Bytes}
+use Rattle.command.specs.Layout.{layout}
+use Rattle.command.specs.Bytes.{fits, Bytes}
 use Rattle.command.specs.Rows.{kindOf, rowOf}
 use Rattle.command.specs.declared.fields.Command.{Command}
 use Rattle.wire.specs.Reading.{readAt, answerOf}

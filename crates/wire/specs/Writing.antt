@@ -8,8 +8,8 @@ use lib.ListN.{length}
 use Rattle.numbers.specs.Pick.{pick, both}
 use Rattle.numbers.specs.Answers.{Answer, done, refused}
 use Rattle.numbers.specs.declared.refusals.Refusal.the-variants.{BadCommand}
-use Rattle.table.specs.Layout.{layout, sizeOf}
-use Rattle.table.specs.Bytes.{putRow}
+use Rattle.command.specs.Layout.{layout, sizeOf}
+use Rattle.command.specs.Bytes.{putRow}
 use Rattle.command.specs.Rows.{kindOf, rowOf, namesFields}
 use Rattle.command.specs.declared.fields.Command.{Command}
 use Rattle.wire.specs.declared.writer.Writing.{Writing}

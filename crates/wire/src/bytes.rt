@@ -2,9 +2,9 @@
 ghost use mathlib.Core.Path.{_≡_};
 ghost use Prim.Native.Nat.{_+_, _≤_, _<_, _^_};
 ghost use lib.ListN.{length};
-ghost use Rattle.table.specs.Layout.{known, layout, sizeOf};
-ghost use Rattle.table.specs.Bytes.{numberAt, putNumber, rowAt, putRow, pad};
-use table::layout;
+ghost use Rattle.command.specs.Layout.{layout, sizeOf};
+ghost use Rattle.command.specs.Bytes.{numberAt, putNumber, rowAt, putRow, pad};
+use command::layout;
 
 fn wide(x: u8) -> u32
     ensures { λ r. ⌜ (r ≡ x) × (r < 256) ⌝ }
@@ -49,7 +49,7 @@ pub(crate) fn row_at(s: &[u8], at: usize, kind: u8) -> [u32; 16]
     let mut place = at;
     let mut j: usize = 0;
     while j < 16 {
-        let width = layout::width(kind, j);
+        let width = layout::width_of(kind, j);
         row[j] = number_at(s, place, width);
         place = place + width;
         j = j + 1;
@@ -65,7 +65,7 @@ pub(crate) fn put_row(out: &mut [u8], at: usize, kind: u8, row: [u32; 16])
     let mut place = at;
     let mut j: usize = 0;
     while j < 16 {
-        let width = layout::width(kind, j);
+        let width = layout::width_of(kind, j);
         put_number(out, place, width, row[j]);
         place = place + width;
         j = j + 1;

@@ -1,12 +1,12 @@
 // The reader: a command from bytes at a place.
 ghost use mathlib.Core.Path.{_≡_};
 ghost use Rattle.wire.specs.Reading.{answerOf, readAt};
-ghost use Rattle.build.specs.Built.{builtFrom};
+ghost use Rattle.wire.specs.Built.{builtFrom};
 ghost use Rattle.wire.specs.Steps.{placed, wholeKind};
+use crate::build::Built;
 use crate::bytes;
-use build::Built;
 use command::fields::Command;
-use table::layout;
+use command::layout;
 
 pub enum Reading {
     Found { command: Command, next: usize },
@@ -21,7 +21,7 @@ pub fn read(s: &[u8], at: usize) -> Reading
         return Reading::Refused;
     }
     let row = bytes::row_at(s, at, kind);
-    let next = at + layout::size(kind);
+    let next = at + layout::size_of(kind);
     found(kind, row, next)
 }
 
@@ -33,7 +33,7 @@ fn whole_kind(s: &[u8], at: usize) -> u8
         return 0;
     }
     let kind = s[at] % 16;
-    let size = layout::size(kind);
+    let size = layout::size_of(kind);
     if size == 0 {
         return 0;
     }
@@ -47,7 +47,7 @@ fn whole_kind(s: &[u8], at: usize) -> u8
 fn found(kind: u8, row: [u32; 16], next: usize) -> Reading
     ensures { λ r. ⌜ answerOf r ≡ placed next (builtFrom kind row) ⌝ }
 {
-    let Built::Done(command) = build::build(kind, row) else {
+    let Built::Done(command) = crate::build::build(kind, row) else {
         return Reading::Refused;
     };
     Reading::Found { command, next }

@@ -3,8 +3,8 @@ ghost use mathlib.Core.Path.{_≡_};
 ghost use Rattle.wire.specs.Writing.{Written};
 use crate::bytes;
 use command::fields::Command;
+use command::layout;
 use command::rows;
-use table::layout;
 
 pub enum Writing {
     Done(usize),
@@ -14,11 +14,11 @@ pub enum Writing {
 pub fn write(out: &mut [u8], at: usize, c: Command) -> Writing
     ensures { λ r. ⌜ Written (now (out .entry)) at c r (now (out .exit)) ⌝ }
 {
-    if !rows::is_named(c) {
+    if !rows::names_fields(c) {
         return Writing::Refused;
     }
     let kind = c.byte % 16;
-    let size = layout::size(kind);
+    let size = layout::size_of(kind);
     if out.len() < at {
         return Writing::Refused;
     }

@@ -1,8 +1,8 @@
 -- `append` meets its contract: the run is laid after the n cells.
 use native.Mathlib.Omega.{arith}
 use borrow.Author.Needs.{needs}
-use Rattle.runs.proofs.CellLaws.{clip, clip-take}
-use Rattle.runs.proofs.MakeLaws.{append-full, append-room}
+use Rattle.cells.proofs.CellLaws.{clip, clip-take}
+use Rattle.cells.proofs.MakeLaws.{append-full, append-room}
 use Rattle.cells.proofs.append.Statement.{statement}
 use Rattle.cells.proofs.append.Tie as tie
 

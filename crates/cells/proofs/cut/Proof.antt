@@ -1,8 +1,8 @@
 -- `cut` meets its contract: the cells from k on go down by k.
 use native.Mathlib.Omega.{arith}
 use borrow.Author.Needs.{needs}
-use Rattle.runs.proofs.CellLaws.{clip-drop}
-use Rattle.runs.proofs.MakeLaws.{cut-makes}
+use Rattle.cells.proofs.CellLaws.{clip-drop}
+use Rattle.cells.proofs.MakeLaws.{cut-makes}
 use Rattle.cells.proofs.cut.Statement.{statement}
 use Rattle.cells.proofs.cut.Tie as tie
 

@@ -1,7 +1,7 @@
 -- `insert` meets its contract: the cells from i on go up by one and s goes to i; past the end it is a push.
 use native.Mathlib.Omega.{arith}
 use borrow.Author.Needs.{needs}
-use Rattle.runs.proofs.MakeLaws.{insert-full, insert-end, insert-room}
+use Rattle.cells.proofs.MakeLaws.{insert-full, insert-end, insert-room}
 use Rattle.cells.proofs.insert.Statement.{statement}
 use Rattle.cells.proofs.insert.Tie as tie
 

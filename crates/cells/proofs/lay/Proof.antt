@@ -5,7 +5,7 @@ use native.Mathlib.Omega.{arith}
 use lib.ListN.{length, take, length-set}
 use lib.Seq.{sets}
 use borrow.Author.Needs.{needs}
-use Rattle.runs.proofs.CellLaws.{lay-turn}
+use Rattle.cells.proofs.CellLaws.{lay-turn}
 use Rattle.cells.proofs.lay.Statement.{statement}
 use Rattle.cells.proofs.lay.Tie as tie
 

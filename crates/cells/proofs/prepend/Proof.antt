@@ -1,8 +1,8 @@
 -- `prepend` meets its contract: the cells go up by k and the run is laid below them.
 use native.Mathlib.Omega.{arith}
 use borrow.Author.Needs.{needs}
-use Rattle.runs.proofs.CellLaws.{clip}
-use Rattle.runs.proofs.MakeLaws.{prepend-full, prepend-room}
+use Rattle.cells.proofs.CellLaws.{clip}
+use Rattle.cells.proofs.MakeLaws.{prepend-full, prepend-room}
 use Rattle.cells.proofs.prepend.Statement.{statement}
 use Rattle.cells.proofs.prepend.Tie as tie
 

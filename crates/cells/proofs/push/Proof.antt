@@ -1,7 +1,7 @@
 -- `push` meets its contract: one store at place n, or none.
 use native.Mathlib.Omega.{arith}
 use borrow.Author.Needs.{needs}
-use Rattle.runs.proofs.MakeLaws.{push-full, push-room}
+use Rattle.cells.proofs.MakeLaws.{push-full, push-room}
 use Rattle.cells.proofs.push.Statement.{statement}
 use Rattle.cells.proofs.push.Tie as tie
 

@@ -5,7 +5,7 @@ use native.Mathlib.Omega.{arith}
 use lib.ListN.{length, take, drop, length-set}
 use lib.Seq.{sets}
 use borrow.Author.Needs.{needs}
-use Rattle.runs.proofs.CellLaws.{raise-turn}
+use Rattle.cells.proofs.CellLaws.{raise-turn}
 use Rattle.cells.proofs.raise.Statement.{statement}
 use Rattle.cells.proofs.raise.Tie as tie
 

@@ -1,8 +1,8 @@
 -- `remove` meets its contract: the cells after i go down by one.
 use native.Mathlib.Omega.{arith}
 use borrow.Author.Needs.{needs}
-use Rattle.runs.proofs.CellLaws.{clip}
-use Rattle.runs.proofs.MakeLaws.{remove-past, remove-in}
+use Rattle.cells.proofs.CellLaws.{clip}
+use Rattle.cells.proofs.MakeLaws.{remove-past, remove-in}
 use Rattle.cells.proofs.remove.Statement.{statement}
 use Rattle.cells.proofs.remove.Tie as tie
 

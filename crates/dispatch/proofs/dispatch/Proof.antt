@@ -1,119 +1,88 @@
--- `dispatch` passes the gate and its own refusal; a sound record has the channel then, and its groups are what `dispatching` answers.
-use Prim.Native.Nat.{_<_}
-use mathlib.Core.Path.{_≡_, refl, sym, _∙_}
-use lib.ListN.{length, length-map}
+-- `dispatch` passes the gate and its own refusal; a sound record has the channel then, and `dispatching` makes the rule's record.
+use Prim.Native.Nat.{_≤_, _<_}
+use mathlib.Core.Path.{_≡_, refl, ap, sym, subst, _∙_}
+use native.Mathlib.Omega.{arith}
 use borrow.Author.Needs.{needs}
-use Rattle.parts.specs.Sizes.{channels}
-use Rattle.parts.specs.Fresh.{noChannel}
+use Rattle.record.specs.declared.groups.Standing.{Standing}
+use Rattle.peer.specs.Outcome.{Came}
 use Rattle.peer.specs.Calls.{answerOf}
+use Rattle.peer.specs.declared.calls.Reply.the-variants.{Done, Refused}
 use Rattle.peer.specs.declared.gate.Lent.the-variants.{Nothing}
-use Rattle.peer.proofs.Gates.{came-shut}
-use Rattle.dispatch.specs.Calls.{dispatchesSound}
-use Rattle.runs.proofs.Views.{at-any}
+use Rattle.peer.specs.declared.Peer.{Peer}
+use Rattle.peer.proofs.Gates.{AtGate, came-shut}
+use Rattle.places.specs.Whole.{whole}
+use Rattle.places.specs.Updates.{channelAt}
+use Rattle.dispatch.specs.Dispatching.{dispatchedBy}
+use Rattle.dispatch.specs.Calls.{dispatches, dispatchesSound}
 use Rattle.dispatch.proofs.Calling.{dispatch-refused, channel-exists, dispatch-done}
 use Rattle.dispatch.proofs.dispatch.Statement.{statement}
 use Rattle.dispatch.proofs.dispatch.Tie as tie
 
-worths-requires : tie.Need-worths-requires
-worths-requires c κs = search needs
+ask-requires : tie.Need-ask-requires
+ask-requires c κs = search needs
 
-pass-requires : tie.Need-pass-requires
-pass-requires c κs = search needs
-
-enum-known-gate : tie.Need-enum-known-gate
-enum-known-gate c = search needs
+enum-known-asked : tie.Need-enum-known-asked
+enum-known-asked c = search needs
 
 returns : tie.Need-returns
 returns c =
-    let g = c .before .before .before in
-    let w = g .before in
-    let a = w .before .before .before .before .before .args in
-    let k = c .before .gate .given in
-    came-shut (a .settings) Nothing (a .peer) (w .worths .result) (w .worths .ensures) (g .pass .result) (g .pass .ensures) (a .peer)
-    (dispatchesSound (a .channel) (a .peer)) answerOf _ (k .0 .0) refl (k .1)
+    let k = c .before .before .before .ask in
+    let a = c .before .before .before .before .before .before .args in
+    let p = whole (a .words .now) in
+    let q : AtGate (a .settings) Nothing p = record { gate = k .result; is = k .ensures } in
+    let s = c .before .asked .given in
+    came-shut q p (dispatchesSound (a .channel) p) answerOf (Refused (s .0 .0)) (s .0 .0) refl (s .1)
 
 enum-told : tie.Need-enum-told
 enum-told c = search needs
 
+standing-requires : tie.Need-standing-requires
+standing-requires c κs = search needs
+
 returns-2 : tie.Need-returns-2
 returns-2 c =
-    let o = c .before in
-    let g = o .before .before in
-    let w = g .before in
-    let a = w .before .before .before .before .before .args in
-    dispatch-refused (a .settings) (a .channel) (a .peer) (w .worths .result) (w .worths .ensures) (g .pass .result) (g .pass .ensures)
-    (o .enum-told .given .1) (c .if1 .taken)
-
-mul-own : tie.Need-mul-own
-mul-own c = search needs
-
-element-copy-out-own : tie.Need-element-copy-out-own
-element-copy-out-own c =
-    let o = c .before in
-    let g = o .before .before in
-    let w = g .before in
-    let a = w .before .before .before .before .before .args in
-    channel-exists (a .settings) (a .channel) (a .peer) (w .worths .result) (w .worths .ensures) (g .pass .result) (g .pass .ensures)
-    (o .enum-told .given .1) (c .if1 .left)
+    let t = c .before .before .standing in
+    let o = c .before .before .before .before .before in
+    let k = o .before .before .ask in
+    let a = o .before .before .before .before .before .args in
+    let p = whole (a .words .now) in
+    let q : AtGate (a .settings) Nothing p = record { gate = k .result; is = k .ensures } in
+    let h : p .standing .channels ≤ a .channel = omega (arith, ap (λ (x : Standing). x .channels) (t .ensures), c .if1 .taken) in
+    dispatch-refused (a .settings) (a .channel) p q (o .enum-told .given .1) h
 
 dispatch-requires : tie.Need-dispatch-requires
-dispatch-requires c κs = search needs
-
-mul-c : tie.Need-mul-c
-mul-c c =
-    let i = c .before .before .before .before .before .before in
-    let o = i .before in
-    let g = o .before .before in
-    let w = g .before in
-    let a = w .before .before .before .before .before .args in
-    let h : a .channel < channels =
-    channel-exists (a .settings) (a .channel) (a .peer) (w .worths .result) (w .worths .ensures) (g .pass .result) (g .pass .ensures)
-    (o .enum-told .given .1) (i .if1 .left) in
-    search needs
-
-element-set-from-c : tie.Need-element-set-from-c
-element-set-from-c c =
-    let i = c .before .before .before .before .before .before in
-    let o = i .before in
-    let g = o .before .before in
-    let w = g .before in
-    let a = w .before .before .before .before .before .args in
-    let h : a .channel < channels =
-    channel-exists (a .settings) (a .channel) (a .peer) (w .worths .result) (w .worths .ensures) (g .pass .result) (g .pass .ensures)
-    (o .enum-told .given .1) (i .if1 .left) in
-    search needs
+dispatch-requires c κs =
+    let t = c .before .before .before .standing in
+    let o = c .before .before .before .before .before .before in
+    let k = o .before .before .ask in
+    let a = o .before .before .before .before .before .args in
+    let p = whole (a .words .now) in
+    let q : AtGate (a .settings) Nothing p = record { gate = k .result; is = k .ensures } in
+    let h : a .channel < p .standing .channels = omega (arith, ap (λ (x : Standing). x .channels) (t .ensures), c .before .if1 .left) in
+    (search needs, channel-exists (a .settings) (a .channel) p q (o .enum-told .given .1) h)
 
 returns-3 : tie.Need-returns-3
 returns-3 c =
-    let d = c .before .before .before in
-    let i = d .before .before .before in
-    let o = i .before in
-    let g = o .before .before in
-    let w = g .before in
-    let b = w .before .before .before .before .before in
-    let a = b .args in
-    let h : a .channel < channels =
-    channel-exists (a .settings) (a .channel) (a .peer) (w .worths .result) (w .worths .ensures) (g .pass .result) (g .pass .ensures)
-    (o .enum-told .given .1) (i .if1 .left) in
-    let u = b .good .0 .1 .1 .1 .1 .1 .1 .1 .1 .1 .1 .1 .1 .1 .1 .1 in
-    let eight : length (a .peer .channels) ≡ channels = sym (length-map (a .peer .channels) _) ∙ u .0 .1 .0 .1 in
-    dispatch-done (a .settings) (a .channel) (a .peer) (w .worths .result) (w .worths .ensures) (g .pass .result) (g .pass .ensures)
-    (o .enum-told .given .1) (i .if1 .left) _ (d .dispatch .result)
-    (at-any (a .peer .channels) (a .channel) _ noChannel (rw eight h)) (d .dispatch .ensures)
+    let t = c .before .before .before .before .standing in
+    let o = c .before .before .before .before .before .before .before in
+    let k = o .before .before .ask in
+    let a = o .before .before .before .before .before .args in
+    let p = whole (a .words .now) in
+    let q : AtGate (a .settings) Nothing p = record { gate = k .result; is = k .ensures } in
+    let h : a .channel < p .standing .channels = omega (arith, ap (λ (x : Standing). x .channels) (t .ensures), c .before .before .if1 .left) in
+    subst (λ (y : Peer). Came answerOf (dispatches (a .settings) (a .channel) p) Done y) (sym (c .dispatch .ensures))
+    (dispatch-done (a .settings) (a .channel) p q (o .enum-told .given .1) h (channelAt p (a .channel))
+    (dispatchedBy (p .incoming) (channelAt p (a .channel)) (p .lists) (p .groups)) refl refl)
 
 pub dispatch-spec : {M : Type 1} → statement M
 dispatch-spec =
     tie.close
     (tie.spec
-    worths-requires
-    pass-requires
-    enum-known-gate
+    ask-requires
+    enum-known-asked
     returns
     enum-told
+    standing-requires
     returns-2
-    mul-own
-    element-copy-out-own
     dispatch-requires
-    mul-c
-    element-set-from-c
     returns-3)

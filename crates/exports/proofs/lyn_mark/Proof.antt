@@ -11,8 +11,8 @@ use Rattle.exports.proofs.lyn_mark.Tie as tie
 read-words-requires : tie.Need-read-words-requires
 read-words-requires c κs = search needs
 
-mark-requires : tie.Need-mark-requires
-mark-requires c κs = search needs
+marking-requires : tie.Need-marking-requires
+marking-requires c κs = search needs
 
 slice-aggregate-write-words : tie.Need-slice-aggregate-write-words
 slice-aggregate-write-words c = search needs
@@ -26,7 +26,7 @@ same-length c = search needs
 returns : tie.Need-returns
 returns c =
     let full = eq-eqb _ _ (c .before .before .before .before .before .before .before .before .if1 .taken) in
-    let marked = c .before .before .before .before .before .mark in
+    let marked = c .before .before .before .before .before .marking in
     let long : length (marked .result) ≡ windowWords = search needs in
     let write = c .before .before .write-words in
     let wrote = put-all 0 windowWords (c .before .before .before .before .before .before .before .before .before .before .args .words .now) (marked .result) (write .last .0) long (write .ensures) in
@@ -45,7 +45,7 @@ lyn-mark-spec =
     tie.close
     (tie.spec
     read-words-requires
-    mark-requires
+    marking-requires
     slice-aggregate-write-words
     write-words-requires
     same-length

@@ -2,7 +2,7 @@
 use mathlib.Core.Path.{_≡_, _∙_}
 use lib.ListN.{length}
 use borrow.Author.Needs.{needs}
-use Rattle.table.specs.Bytes.{putRow}
+use Rattle.command.specs.Bytes.{putRow}
 use Rattle.exports.proofs.Words.{put-all}
 use Rattle.exports.proofs.put_command.Statement.{statement}
 use Rattle.exports.proofs.put_command.Tie as tie
@@ -13,8 +13,8 @@ cast-put-word c = search needs
 put-word-requires : tie.Need-put-word-requires
 put-word-requires c κs = search needs
 
-kind-requires : tie.Need-kind-requires
-kind-requires c κs = search needs
+kind-of-requires : tie.Need-kind-of-requires
+kind-of-requires c κs = search needs
 
 cast-put-word-2 : tie.Need-cast-put-word-2
 cast-put-word-2 c = search needs
@@ -40,7 +40,7 @@ returns c =
     let row = c .before .before .before .before .before .of .result in
     let long : length row ≡ 16 = search needs in
     put-all 8 16 _ row (c .before .before .write-words .last .0) long (c .before .before .write-words .ensures)
-    ∙ rw (c .before .before .before .before .before .before .before .before .put-word2 .ensures, c .before .before .before .before .before .before .before .before .before .before .before .before .before .put-word .ensures, c .before .before .before .before .before .before .before .before .before .kind .ensures, c .before .before .before .before .before .of .ensures)
+    ∙ rw (c .before .before .before .before .before .before .before .before .put-word2 .ensures, c .before .before .before .before .before .before .before .before .before .before .before .before .before .put-word .ensures, c .before .before .before .before .before .before .before .before .before .kind-of .ensures, c .before .before .before .before .before .of .ensures)
 
 pub put-command-spec : {M : Type 1} → statement M
 put-command-spec =
@@ -48,7 +48,7 @@ put-command-spec =
     (tie.spec
     cast-put-word
     put-word-requires
-    kind-requires
+    kind-of-requires
     cast-put-word-2
     put-word-requires-2
     of-requires

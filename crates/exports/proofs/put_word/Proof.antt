@@ -4,7 +4,7 @@ use Prim.Native.Nat.{_+_}
 use native.Mathlib.Omega.{arith}
 use lib.ListN.{length-set}
 use borrow.Author.Needs.{needs}
-use Rattle.table.specs.Bytes.{putNumber}
+use Rattle.command.specs.Bytes.{putNumber}
 use Rattle.exports.proofs.put_word.Statement.{statement}
 use Rattle.exports.proofs.put_word.Tie as tie
 

@@ -3,7 +3,7 @@ use mathlib.Core.Path.{_≡_}
 use Prim.Native.Nat.{_+_}
 use native.Mathlib.Omega.{arith}
 use borrow.Author.Needs.{needs}
-use Rattle.table.specs.Bytes.{numberAt}
+use Rattle.command.specs.Bytes.{numberAt}
 use Rattle.exports.proofs.word_at.Statement.{statement}
 use Rattle.exports.proofs.word_at.Tie as tie
 

@@ -5,8 +5,8 @@ use Prim.Native.Nat.{ℕ, _+_, _*_, _-_, _≤_}
 use native.Mathlib.Omega.{arith}
 use lib.ListN.{length, getD, replicate}
 use borrow.Author.Needs.{needs}
-use Rattle.table.specs.Bytes.{putRow}
-use Rattle.table.proofs.ByteLaws.{put-length}
+use Rattle.command.specs.Bytes.{putRow}
+use Rattle.command.proofs.ByteLaws.{put-length}
 use Rattle.exports.proofs.Words.{rest, put-start, put-step, put-done}
 use Rattle.exports.proofs.write_words.Statement.{statement}
 use Rattle.exports.proofs.write_words.Tie as tie

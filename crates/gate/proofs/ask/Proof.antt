@@ -11,22 +11,22 @@ is-fit-requires c κs = search needs
 returns : tie.Need-returns
 returns c = simp (sym (c .before .is-fit .ensures) ∙ not-true _ (c .if1 .taken))
 
-is-sound-requires : tie.Need-is-sound-requires
-is-sound-requires c κs = search needs
+sound-requires : tie.Need-sound-requires
+sound-requires c κs = search needs
 
 returns-2 : tie.Need-returns-2
 returns-2 c =
     simp (
       sym (c .before .before .before .is-fit .ensures) ∙ not-false _ (c .before .before .if1 .left),
-      sym (c .before .is-sound .ensures) ∙ not-true _ (c .if2 .taken),
+      sym (c .before .sound .ensures) ∙ not-true _ (c .if2 .taken),
     )
 
 returns-3 : tie.Need-returns-3
 returns-3 c =
     simp (
       sym (c .before .before .before .is-fit .ensures) ∙ not-false _ (c .before .before .if1 .left),
-      sym (c .before .is-sound .ensures) ∙ not-false _ (c .if2 .left),
+      sym (c .before .sound .ensures) ∙ not-false _ (c .if2 .left),
     )
 
 pub ask-spec : {M : Type 1} → statement M
-ask-spec = tie.close (tie.spec is-fit-requires returns is-sound-requires returns-2 returns-3)
+ask-spec = tie.close (tie.spec is-fit-requires returns sound-requires returns-2 returns-3)

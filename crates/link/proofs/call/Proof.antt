@@ -1,9 +1,9 @@
 -- The record is written down, the lent link is called on its numbers, and what they mean then is the record that comes back.
 use mathlib.Core.Path.{_≡_, sym, subst}
-use Rattle.peer.specs.Outcome.{State, Came}
-use Rattle.peer.specs.declared.record.Peer.{Peer}
+use Rattle.peer.specs.Outcome.{Came}
+use Rattle.peer.specs.declared.Peer.{Peer}
 use Rattle.places.specs.Whole.{whole}
-use Rattle.link.specs.Steps.{answerOf, step}
+use Rattle.link.specs.Steps.{answerOf, calls}
 use borrow.Author.Needs.{needs}
 use Rattle.link.proofs.call.Statement.{statement}
 use Rattle.link.proofs.call.Tie as tie
@@ -30,8 +30,8 @@ returns c =
     let a = w .before .before .before .before .args in
     let after = k .call .last .0 in
     let before : whole (w .write .last .0) ≡ a .peer = w .write .ensures in
-    let came = subst (λ (p : Peer). Came answerOf (step (a .settings) (a .call) (a .datagram .now) (record { peer = p; store = a .store .now })) (k .call .result) (record { peer = whole after; store = k .call .last .1 .1 .1 .0 })) before (k .call .ensures .0) in (
-      subst (λ (p : Peer). Came answerOf (step (a .settings) (a .call) (a .datagram .now) (record { peer = a .peer; store = a .store .now })) (k .call .result) (record { peer = p; store = k .call .last .1 .1 .1 .0 })) (sym (c .meant .ensures)) came,
+    let came = subst (λ (p : Peer). Came answerOf (calls (a .settings) (a .call) (a .datagram .now) (record { peer = p; store = a .store .now })) (k .call .result) (record { peer = whole after; store = k .call .last .1 .1 .1 .0 })) before (k .call .ensures .0) in (
+      subst (λ (p : Peer). Came answerOf (calls (a .settings) (a .call) (a .datagram .now) (record { peer = a .peer; store = a .store .now })) (k .call .result) (record { peer = p; store = k .call .last .1 .1 .1 .0 })) (sym (c .meant .ensures)) came,
       k .call .ensures .1,
     )
 

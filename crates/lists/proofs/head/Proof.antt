@@ -1,7 +1,7 @@
 -- `head` meets its contract: an empty list has none, else it is place 0.
 use mathlib.Core.Path.{sym, ap, _∙_}
-use Rattle.runs.specs.declared.First.the-variants.{Slot}
-use Rattle.runs.proofs.ListLaws.{first-none}
+use Rattle.cells.specs.declared.First.the-variants.{Slot}
+use Rattle.cells.proofs.ListLaws.{first-none}
 use Rattle.lists.specs.Rows.{rowAt, itemsOf}
 use Rattle.lists.proofs.Placed.{first-at}
 use borrow.Author.Needs.{needs}

@@ -6,7 +6,7 @@ use native.Mathlib.Omega.{arith}
 use lib.ListN.{length, drop, length-set}
 use lib.Seq.{set-out}
 use borrow.Author.Needs.{needs}
-use Rattle.runs.specs.Free.{markedAll}
+use Rattle.cells.specs.Free.{markedAll}
 use Rattle.lists.specs.Rows.{rowAt, itemsOf}
 use Rattle.lists.proofs.Placed.{marks-turn, marks-end}
 use Rattle.lists.proofs.mark.Statement.{statement}

@@ -1,6 +1,6 @@
 -- Past the end the default; else the slot's own numbers, a part of the pool.
 use mathlib.Core.Path.{ap, sym, _∙_}
-use Rattle.parts.specs.Fresh.{noOutgoing}
+use Rattle.record.specs.Fresh.{noOutgoing}
 use Rattle.pool.specs.Slots.{slotFrom, briefOf}
 use Rattle.pool.proofs.Rows.{rows-past, rows-part}
 use borrow.Author.Needs.{needs}

@@ -1,6 +1,6 @@
 -- Past the end the default; else the slot's own numbers, a part of the pool.
 use mathlib.Core.Path.{sym, _∙_}
-use Rattle.parts.specs.Fresh.{noIncoming}
+use Rattle.record.specs.Fresh.{noIncoming}
 use Rattle.pool.specs.Slots.{inSlotFrom}
 use Rattle.pool.proofs.Rows.{rows-past, rows-part}
 use borrow.Author.Needs.{needs}
@@ -21,26 +21,26 @@ mul-at c = search needs
 add-end : tie.Need-add-end
 add-end c = search needs
 
-mul-in-from : tie.Need-mul-in-from
-mul-in-from c = search needs
+mul-in-slot-from : tie.Need-mul-in-slot-from
+mul-in-slot-from c = search needs
 
-sub-in-from : tie.Need-sub-in-from
-sub-in-from c = search needs
+sub-in-slot-from : tie.Need-sub-in-slot-from
+sub-in-slot-from c = search needs
 
-part-in-from-start : tie.Need-part-in-from-start
-part-in-from-start c = search needs
+part-in-slot-from-start : tie.Need-part-in-slot-from-start
+part-in-slot-from-start c = search needs
 
-part-in-from-end : tie.Need-part-in-from-end
-part-in-from-end c = search needs
+part-in-slot-from-end : tie.Need-part-in-slot-from-end
+part-in-slot-from-end c = search needs
 
-in-from-requires : tie.Need-in-from-requires
-in-from-requires c κs = search needs
+in-slot-from-requires : tie.Need-in-slot-from-requires
+in-slot-from-requires c κs = search needs
 
 returns-2 : tie.Need-returns-2
 returns-2 c =
     let t = c .before .before in
     let a = t .before .before .args in
-    c .in-from .ensures ∙ rows-part inSlotFrom 6 12 (a .pool .now) (a .i) noIncoming (t .if1 .left)
+    c .in-slot-from .ensures ∙ rows-part inSlotFrom 6 12 (a .pool .now) (a .i) noIncoming (t .if1 .left)
 
 pub in-slot-at-spec : {M : Type 1} → statement M
 in-slot-at-spec =
@@ -50,9 +50,9 @@ in-slot-at-spec =
     returns
     mul-at
     add-end
-    mul-in-from
-    sub-in-from
-    part-in-from-start
-    part-in-from-end
-    in-from-requires
+    mul-in-slot-from
+    sub-in-slot-from
+    part-in-slot-from-start
+    part-in-slot-from-end
+    in-slot-from-requires
     returns-2)

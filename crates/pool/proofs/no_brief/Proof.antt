@@ -1,6 +1,6 @@
 -- By computing.
 use mathlib.Core.Path.{refl}
-use Rattle.parts.specs.Fresh.{noOutgoing}
+use Rattle.record.specs.Fresh.{noOutgoing}
 use Rattle.pool.proofs.no_brief.Statement.{statement}
 use Rattle.pool.proofs.no_brief.Tie as tie
 

@@ -1,6 +1,6 @@
 -- By computing.
 use mathlib.Core.Path.{refl}
-use Rattle.parts.specs.Fresh.{noIncoming}
+use Rattle.record.specs.Fresh.{noIncoming}
 use Rattle.pool.proofs.no_incoming.Statement.{statement}
 use Rattle.pool.proofs.no_incoming.Tie as tie
 

@@ -3,8 +3,8 @@ use Prim.Native.Nat.{_<_}
 use mathlib.Core.Path.{sym}
 use native.Mathlib.Omega.{arith}
 use lib.ListN.{length-set, getD}
-use Rattle.parts.specs.Fresh.{noOutgoing}
-use Rattle.parts.specs.Updates.{withAttempt}
+use Rattle.record.specs.Fresh.{noOutgoing}
+use Rattle.record.specs.Updates.{withAttempt}
 use Rattle.pool.specs.Slots.{slotFrom, slotsOf}
 use Rattle.pool.proofs.Rows.{rows-out}
 use Rattle.pool.proofs.Slots.{slots-attempt}

@@ -5,12 +5,12 @@ use borrow.Author.Tests.{eq-eqb, ne-eqb}
 use Rattle.window.proofs.judge.Statement.{statement}
 use Rattle.window.proofs.judge.Tie as tie
 
-is-distant-requires : tie.Need-is-distant-requires
-is-distant-requires c κs = search needs
+distant-requires : tie.Need-distant-requires
+distant-requires c κs = search needs
 
 returns : tie.Need-returns
 returns c =
-    let far = sym (c .before .is-distant .ensures) ∙ c .if1 .taken in
+    let far = sym (c .before .distant .ensures) ∙ c .if1 .taken in
     record { base = simp far; words = simp far; answer = simp far }
 
 sub-first : tie.Need-sub-first
@@ -18,35 +18,35 @@ sub-first c = search needs
 
 returns-2 : tie.Need-returns-2
 returns-2 c =
-    let far = sym (c .before .before .before .before .before .is-distant .ensures) ∙ c .before .before .before .before .if1 .left in
+    let far = sym (c .before .before .before .before .before .distant .ensures) ∙ c .before .before .before .before .if1 .left in
     let here = ne-eqb _ _ (c .if2 .taken) in
     record { base = simp (far, here); words = simp (far, here); answer = simp (far, here) }
 
-is-marked-requires : tie.Need-is-marked-requires
-is-marked-requires c κs = search needs
+marked-requires : tie.Need-marked-requires
+marked-requires c κs = search needs
 
 returns-3 : tie.Need-returns-3
 returns-3 c =
-    let far = sym (c .before .before .before .before .before .before .before .is-distant .ensures) ∙ c .before .before .before .before .before .before .if1 .left in
+    let far = sym (c .before .before .before .before .before .before .before .distant .ensures) ∙ c .before .before .before .before .before .before .if1 .left in
     let here = eq-eqb _ _ (c .before .before .if2 .left) in
-    let again = sym (c .before .is-marked .ensures) ∙ c .if3 .taken in
+    let again = sym (c .before .marked .ensures) ∙ c .if3 .taken in
     record { base = simp (far, here, again); words = simp (far, here, again); answer = simp (far, here, again) }
 
 returns-4 : tie.Need-returns-4
 returns-4 c =
-    let far = sym (c .before .before .before .before .before .before .before .is-distant .ensures) ∙ c .before .before .before .before .before .before .if1 .left in
+    let far = sym (c .before .before .before .before .before .before .before .distant .ensures) ∙ c .before .before .before .before .before .before .if1 .left in
     let here = eq-eqb _ _ (c .before .before .if2 .left) in
-    let again = sym (c .before .is-marked .ensures) ∙ c .if3 .left in
+    let again = sym (c .before .marked .ensures) ∙ c .if3 .left in
     record { base = simp (far, here, again); words = simp (far, here, again); answer = simp (far, here, again) }
 
 pub judge-spec : {M : Type 1} → statement M
 judge-spec =
     tie.close
     (tie.spec
-    is-distant-requires
+    distant-requires
     returns
     sub-first
     returns-2
-    is-marked-requires
+    marked-requires
     returns-3
     returns-4)

@@ -1,7 +1,7 @@
 -- An arm a variant: by computing the definition at the arm's variant.
 use mathlib.Core.Path.{ap}
 use mathlib.Core.List.{_∷_}
-use Rattle.table.specs.Bytes.{pad}
+use Rattle.command.specs.Bytes.{pad}
 use Rattle.command.specs.Rows.{fieldsRow}
 use Rattle.command.specs.declared.fields.Fields.{Fields}
 use borrow.Author.Needs.{needs}

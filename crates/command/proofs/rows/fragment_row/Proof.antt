@@ -1,5 +1,5 @@
 -- The numbers of a fragment at the fields' places: by computing the row.
-use Rattle.table.specs.Bytes.{pad}
+use Rattle.command.specs.Bytes.{pad}
 use borrow.Author.Needs.{needs}
 use Rattle.command.proofs.rows.fragment_row.Statement.{statement}
 use Rattle.command.proofs.rows.fragment_row.Tie as tie

@@ -1,5 +1,5 @@
 -- Byte, channel and number over the zeros before the fields: by computing the row.
-use Rattle.table.specs.Bytes.{pad}
+use Rattle.command.specs.Bytes.{pad}
 use borrow.Author.Needs.{needs}
 use Rattle.command.proofs.rows.of.Statement.{statement}
 use Rattle.command.proofs.rows.of.Tie as tie

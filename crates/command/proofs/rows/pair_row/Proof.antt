@@ -1,5 +1,5 @@
 -- Two numbers at the fields' places: by computing the row.
-use Rattle.table.specs.Bytes.{pad}
+use Rattle.command.specs.Bytes.{pad}
 use borrow.Author.Needs.{needs}
 use Rattle.command.proofs.rows.pair_row.Statement.{statement}
 use Rattle.command.proofs.rows.pair_row.Tie as tie

@@ -1,6 +1,6 @@
 -- Three numbers at the fields' places: by computing the row.
 use mathlib.Core.Path.{refl}
-use Rattle.table.specs.Bytes.{pad}
+use Rattle.command.specs.Bytes.{pad}
 use Rattle.command.proofs.rows.triple_row.Statement.{statement}
 use Rattle.command.proofs.rows.triple_row.Tie as tie
 

@@ -3,7 +3,7 @@ use Prim.Native.Nat.{_-_, _≤_}
 use mathlib.Core.Path.{_≡_, refl}
 use native.Mathlib.Omega.{arith}
 use lib.ListN.{length, take, length-set}
-use Rattle.parts.specs.Fresh.{noIncoming}
+use Rattle.record.specs.Fresh.{noIncoming}
 use Rattle.places.specs.Whole.{whole}
 use Rattle.copies.proofs.Filling.{take-turn, take-end}
 use Rattle.copies.proofs.RecordLaws.{incoming-length}

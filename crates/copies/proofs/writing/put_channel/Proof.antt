@@ -3,8 +3,8 @@ use Prim.Native.Nat.{ℕ, _+_, _*_}
 use mathlib.Core.Path.{_≡_, _∙_}
 use mathlib.Core.List.{List}
 use lib.ListN.{length, set}
-use Rattle.slots.specs.declared.incoming.InList.{InList}
-use Rattle.parts.specs.Updates.{withHeld}
+use Rattle.record.specs.declared.incoming.InList.{InList}
+use Rattle.record.specs.Updates.{withHeld}
 use Rattle.peer.specs.Updates.{withChannels}
 use Rattle.places.specs.Updates.{channelAt}
 use Rattle.places.specs.Whole.{inListFrom, whole}

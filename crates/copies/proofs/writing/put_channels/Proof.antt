@@ -5,8 +5,8 @@ use mathlib.Core.List.{List, []}
 use native.Mathlib.Omega.{arith}
 use lib.ListN.{length, getD}
 use lib.Seq.{paste, paste-zero}
-use Rattle.parts.specs.declared.groups.Channel.{Channel}
-use Rattle.peer.specs.declared.record.Peer.{Peer}
+use Rattle.record.specs.declared.groups.Channel.{Channel}
+use Rattle.peer.specs.declared.Peer.{Peer}
 use Rattle.peer.specs.Updates.{withChannels}
 use Rattle.places.specs.Whole.{whole}
 use Rattle.copies.proofs.Filling.{put-turn, put-end}

@@ -1,9 +1,9 @@
 -- The four lists, each to its place.
 use mathlib.Core.Path.{_≡_, _∙_}
 use lib.ListN.{length}
-use Rattle.slots.specs.declared.outgoing.OutList.{OutList}
-use Rattle.slots.specs.declared.incoming.InList.{InList}
-use Rattle.parts.specs.Updates.{withSentList, withReliableList, withOutgoingList, withDispatched}
+use Rattle.record.specs.declared.outgoing.OutList.{OutList}
+use Rattle.record.specs.declared.incoming.InList.{InList}
+use Rattle.record.specs.Updates.{withSentList, withReliableList, withOutgoingList, withDispatched}
 use Rattle.peer.specs.Updates.{withLists}
 use Rattle.places.specs.Whole.{outListFrom, inListFrom, whole}
 use Rattle.copies.proofs.ListLaws.{list-in, row-sent, row-reliable, row-outgoing, row-dispatched, lists-put}
@@ -44,8 +44,8 @@ returns c =
     let es : whole (s .put-out .last .0) ≡ withLists (whole ws) (withSentList (whole ws .lists) (x .sent)) =
     list-in OutList outListFrom (λ (y : OutList). withLists (whole ws) (withSentList (whole ws .lists) y)) ws (s .put-out .last .0) 43 32 (row-sent ws (b .pre)) (x .sent) (x .sent .len) (x .sent .slots)
     (s .put-out .ensures .1 .0) (s .put-out .ensures .0) (s .put-out .ensures .1 .1) in
-    let er : whole (r .put-out2 .last .0) ≡ withLists (whole v) (withReliableList (whole v .lists) (x .reliable)) =
-    list-in OutList outListFrom (λ (y : OutList). withLists (whole v) (withReliableList (whole v .lists) y)) v (r .put-out2 .last .0) 76 32 (row-reliable v lv) (x .reliable) (x .reliable .len) (x .reliable .slots)
+    let er : whole (r .put-out2 .last .0) ≡ withLists (whole v) (withReliableList (whole v .lists) (x .«send_reliable»)) =
+    list-in OutList outListFrom (λ (y : OutList). withLists (whole v) (withReliableList (whole v .lists) y)) v (r .put-out2 .last .0) 76 32 (row-reliable v lv) (x .«send_reliable») (x .«send_reliable» .len) (x .«send_reliable» .slots)
     (r .put-out2 .ensures .1 .0) (r .put-out2 .ensures .0) (r .put-out2 .ensures .1 .1) in
     let eo : whole (o .put-out3 .last .0) ≡ withLists (whole w) (withOutgoingList (whole w .lists) (x .outgoing)) =
     list-in OutList outListFrom (λ (y : OutList). withLists (whole w) (withOutgoingList (whole w .lists) y)) w (o .put-out3 .last .0) 109 32 (row-outgoing w lw) (x .outgoing) (x .outgoing .len) (x .outgoing .slots)

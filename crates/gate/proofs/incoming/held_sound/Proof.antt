@@ -6,11 +6,11 @@ use lib.ListN.{length, take, drop}
 use borrow.Author.Needs.{needs}
 use borrow.Author.Tests.{not-true, not-false}
 use Rattle.lists.specs.Rows.{rowAt}
-use Rattle.parts.specs.Damage.{held, lengths}
-use Rattle.held.proofs.HeldLaws.{held-sum-end}
+use Rattle.record.specs.Damage.{held, lengths}
+use Rattle.damage.proofs.HeldLaws.{held-sum-end}
 use Rattle.places.specs.Whole.{whole}
 use Rattle.places.proofs.ChannelLaws.{held-is}
-use Rattle.gate.specs.Halves.{heldSound}
+use Rattle.gate.specs.CodeHalves.{heldSound}
 use Rattle.gate.proofs.Groups.{total-is, channels-length}
 use Rattle.gate.proofs.Held.{held-stop, held-turn, held-sums, held-end}
 use Rattle.gate.proofs.incoming.held_sound.Statement.{statement}

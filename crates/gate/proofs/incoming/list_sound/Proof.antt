@@ -7,10 +7,10 @@ use lib.ListN.{length, getD, drop, length-set}
 use borrow.Author.Needs.{needs}
 use borrow.Author.Tests.{not-true, not-false}
 use Rattle.lists.specs.Rows.{rowAt, itemsOf}
-use Rattle.parts.specs.Fresh.{noIncoming}
-use Rattle.parts.specs.Damage.{lengths}
-use Rattle.held.specs.Walks.{inPasses}
-use Rattle.held.proofs.SumLaws.{pass-short}
+use Rattle.record.specs.Fresh.{noIncoming}
+use Rattle.record.specs.Damage.{lengths}
+use Rattle.damage.specs.CodeInWalks.{inPasses}
+use Rattle.damage.proofs.SumLaws.{pass-short}
 use Rattle.places.specs.Whole.{whole}
 use Rattle.gate.proofs.Turns.{Listed, Left, left-all, long, end, past, twice, unfit, turn, summed, summed-end}
 use Rattle.gate.proofs.Stops.{says}
@@ -101,8 +101,8 @@ returns-3 c =
     let s = c .before .before .before .narrow2 in
     (twice f ws (a .at) 12 (v .result) i (omega arith) (a .marks .now) (m .marks) (m .j) (m .inv .2) (omega arith) (s .result) (s .ensures) (omega arith) (c .if3 .taken), sums-stop slots (itemsOf (rowAt (a .at) 12 ws)) (a .from) (m .total))
 
-slot-passes-requires : tie.Need-slot-passes-requires Inv-loop μ-loop
-slot-passes-requires c κs = search needs
+in-passes-requires : tie.Need-in-passes-requires Inv-loop μ-loop
+in-passes-requires c κs = search needs
 
 same-length-3 : tie.Need-same-length-3 Inv-loop μ-loop
 same-length-3 c = search needs
@@ -118,7 +118,7 @@ returns-4 c =
     let i : Listed ws (a .at) 12 (v .result) = record { room = omega (arith, b .pre .0, b .pre .1 .0); is = v .ensures } in
     let m = c .before .before .before .before .before .before .before .before .loop in
     let s = c .before .before .before .before .before .narrow2 in
-    let bad : f (s .result) ≡ false = says (c .before .slot-passes .result) (f (s .result)) false (c .before .slot-passes .ensures) (not-true _ (c .if4 .taken)) in
+    let bad : f (s .result) ≡ false = says (c .before .in-passes .result) (f (s .result)) false (c .before .in-passes .ensures) (not-true _ (c .if4 .taken)) in
     (unfit f ws (a .at) 12 (v .result) i (omega arith) (a .marks .now) (m .marks) (m .j) (m .inv .2) (omega arith) (s .result) (s .ensures) (omega arith) (c .before .before .if3 .left) bad, sums-stop slots (itemsOf (rowAt (a .at) 12 ws)) (a .from) (m .total))
 
 length-at-requires : tie.Need-length-at-requires Inv-loop μ-loop
@@ -135,7 +135,7 @@ add-total c =
     let i : Listed ws (a .at) 12 (v .result) = record { room = omega (arith, b .pre .0, b .pre .1 .0); is = v .ensures } in
     let m = c .before .before .before .before .before .before .before .before .before .loop in
     let s = c .before .before .before .before .before .before .narrow2 in
-    let good : f (s .result) ≡ true = says (c .before .before .slot-passes .result) (f (s .result)) true (c .before .before .slot-passes .ensures) (not-false _ (c .before .if4 .left)) in
+    let good : f (s .result) ≡ true = says (c .before .before .in-passes .result) (f (s .result)) true (c .before .before .in-passes .ensures) (not-false _ (c .before .if4 .left)) in
     let short = pass-short (a .count) (a .own) (a .k) (getD slots (s .result) noIncoming) good in
     omega (arith, c .length-at .ensures)
 
@@ -159,7 +159,7 @@ loop-again c =
     let i : Listed ws (a .at) 12 (v .result) = record { room = omega (arith, b .pre .0, b .pre .1 .0); is = v .ensures } in
     let m = c .before .before .before .before .before .before .before .before .before .loop in
     let s = c .before .before .before .before .before .before .narrow2 in
-    let good : f (s .result) ≡ true = says (c .before .before .slot-passes .result) (f (s .result)) true (c .before .before .slot-passes .ensures) (not-false _ (c .before .if4 .left)) in
+    let good : f (s .result) ≡ true = says (c .before .before .in-passes .result) (f (s .result)) true (c .before .before .in-passes .ensures) (not-false _ (c .before .if4 .left)) in
     let short = pass-short (a .count) (a .own) (a .k) (getD slots (s .result) noIncoming) good in
     let sum = summed f ws (a .at) 12 (v .result) i (omega arith) (a .marks .now) (m .marks) (m .j) (m .inv .2) (omega arith) (s .result) (s .ensures) slots in
     let length-is = c .length-at .ensures in (
@@ -207,7 +207,7 @@ list-sound-spec =
     slice-read-if3
     same-length-2
     returns-3
-    slot-passes-requires
+    in-passes-requires
     same-length-3
     returns-4
     length-at-requires

@@ -8,8 +8,8 @@ use lib.ListN.{length, length-set}
 use borrow.Author.Needs.{needs}
 use borrow.Author.Tests.{not-true, not-false}
 use Rattle.lists.specs.Rows.{rowAt, itemsOf}
-use Rattle.damage.specs.Walks.{worthOf, worthPasses, enough}
-use Rattle.parts.specs.declared.groups.Outgoing.{Outgoing}
+use Rattle.damage.specs.CodeOutWalks.{slotGrade, gradePasses, enough}
+use Rattle.record.specs.declared.groups.Outgoing.{Outgoing}
 use Rattle.places.specs.Whole.{whole}
 use Rattle.gate.proofs.Turns.{Listed, Left, long, end, past, twice, unfit, turn}
 use Rattle.places.proofs.PoolLaws.{pool-is}
@@ -18,7 +18,7 @@ use Rattle.gate.proofs.outgoing.list_sound.Tie as tie
 
 abbrev Inv-loop : tie.InvT-loop
 Inv-loop words at count sent marks₀ n from j₀ marks j =
-    (j ≤ n) × (length marks ≡ 32) × Left (worthPasses (map (worthOf count) (whole words .outgoing)) sent) marks₀ (itemsOf (rowAt at 32 words)) marks j
+    (j ≤ n) × (length marks ≡ 32) × Left (gradePasses (map (slotGrade count) (whole words .outgoing)) sent) marks₀ (itemsOf (rowAt at 32 words)) marks j
 
 abbrev μ-loop : tie.MeasureT-loop
 μ-loop words at count sent marks₀ n from j₀ marks j = n - j
@@ -38,7 +38,7 @@ returns c =
     let a = b .args in
     let ws = a .words .now in
     let v = c .before .narrow in
-    let f = worthPasses (map (worthOf (a .count)) (whole ws .outgoing)) (a .sent) in
+    let f = gradePasses (map (slotGrade (a .count)) (whole ws .outgoing)) (a .sent) in
     let i : Listed ws (a .at) 32 (v .result) = record { room = omega (arith, b .pre .0, b .pre .1 .0); is = v .ensures } in
     long f ws (a .at) 32 (v .result) i (a .marks .now) (a .marks .now) (c .if1 .taken)
 
@@ -69,7 +69,7 @@ returns-2 c =
     let a = b .args in
     let ws = a .words .now in
     let v = c .before .before .before .before .before .before .narrow in
-    let f = worthPasses (map (worthOf (a .count)) (whole ws .outgoing)) (a .sent) in
+    let f = gradePasses (map (slotGrade (a .count)) (whole ws .outgoing)) (a .sent) in
     let i : Listed ws (a .at) 32 (v .result) = record { room = omega (arith, b .pre .0, b .pre .1 .0); is = v .ensures } in
     let m = c .before .before .before .before .loop in
     let s = c .before .narrow2 in
@@ -87,7 +87,7 @@ returns-3 c =
     let a = b .args in
     let ws = a .words .now in
     let v = c .before .before .before .before .before .before .before .before .narrow in
-    let f = worthPasses (map (worthOf (a .count)) (whole ws .outgoing)) (a .sent) in
+    let f = gradePasses (map (slotGrade (a .count)) (whole ws .outgoing)) (a .sent) in
     let i : Listed ws (a .at) 32 (v .result) = record { room = omega (arith, b .pre .0, b .pre .1 .0); is = v .ensures } in
     let m = c .before .before .before .before .before .before .loop in
     let s = c .before .before .before .narrow2 in
@@ -105,8 +105,8 @@ part-grade-at-end c = search needs
 grade-at-requires : tie.Need-grade-at-requires Inv-loop μ-loop
 grade-at-requires c κs = search needs
 
-is-enough-requires : tie.Need-is-enough-requires Inv-loop μ-loop
-is-enough-requires c κs = search needs
+enough-requires : tie.Need-enough-requires Inv-loop μ-loop
+enough-requires c κs = search needs
 
 same-length-3 : tie.Need-same-length-3 Inv-loop μ-loop
 same-length-3 c = search needs
@@ -117,11 +117,11 @@ returns-4 c =
     let a = b .args in
     let ws = a .words .now in
     let v = c .before .before .before .before .before .before .before .before .before .before .before .before .narrow in
-    let f = worthPasses (map (worthOf (a .count)) (whole ws .outgoing)) (a .sent) in
+    let f = gradePasses (map (slotGrade (a .count)) (whole ws .outgoing)) (a .sent) in
     let i : Listed ws (a .at) 32 (v .result) = record { room = omega (arith, b .pre .0, b .pre .1 .0); is = v .ensures } in
     let m = c .before .before .before .before .before .before .before .before .before .before .loop in
     let s = c .before .before .before .before .before .before .before .narrow2 in
-    let bad : f (s .result) ≡ false = ap (λ (o : List Outgoing). worthPasses (map (worthOf (a .count)) o) (a .sent) (s .result)) (pool-is ws) ∙ ap (λ (w : ℕ). enough w (a .sent)) (sym (c .before .before .grade-at .ensures)) ∙ sym (c .before .is-enough .ensures) ∙ not-true (c .before .is-enough .result) (c .if4 .taken) in
+    let bad : f (s .result) ≡ false = ap (λ (o : List Outgoing). gradePasses (map (slotGrade (a .count)) o) (a .sent) (s .result)) (pool-is ws) ∙ ap (λ (w : ℕ). enough w (a .sent)) (sym (c .before .before .grade-at .ensures)) ∙ sym (c .before .enough .ensures) ∙ not-true (c .before .enough .result) (c .if4 .taken) in
     unfit f ws (a .at) 32 (v .result) i (omega arith) (a .marks .now) (m .marks) (m .j) (m .inv .2) (omega arith) (s .result) (s .ensures) (omega arith) (c .before .before .before .before .if3 .left) bad
 
 slice-write-marks : tie.Need-slice-write-marks Inv-loop μ-loop
@@ -139,11 +139,11 @@ loop-again c =
     let a = b .args in
     let ws = a .words .now in
     let v = c .before .before .before .before .before .before .before .before .before .before .before .before .narrow in
-    let f = worthPasses (map (worthOf (a .count)) (whole ws .outgoing)) (a .sent) in
+    let f = gradePasses (map (slotGrade (a .count)) (whole ws .outgoing)) (a .sent) in
     let i : Listed ws (a .at) 32 (v .result) = record { room = omega (arith, b .pre .0, b .pre .1 .0); is = v .ensures } in
     let m = c .before .before .before .before .before .before .before .before .before .before .loop in
     let s = c .before .before .before .before .before .before .before .narrow2 in
-    let good : f (s .result) ≡ true = ap (λ (o : List Outgoing). worthPasses (map (worthOf (a .count)) o) (a .sent) (s .result)) (pool-is ws) ∙ ap (λ (w : ℕ). enough w (a .sent)) (sym (c .before .before .grade-at .ensures)) ∙ sym (c .before .is-enough .ensures) ∙ not-false (c .before .is-enough .result) (c .if4 .left) in
+    let good : f (s .result) ≡ true = ap (λ (o : List Outgoing). gradePasses (map (slotGrade (a .count)) o) (a .sent) (s .result)) (pool-is ws) ∙ ap (λ (w : ℕ). enough w (a .sent)) (sym (c .before .before .grade-at .ensures)) ∙ sym (c .before .enough .ensures) ∙ not-false (c .before .enough .result) (c .if4 .left) in
     (omega arith, simp length-set (m .inv .1), turn f ws (a .at) 32 (v .result) i (omega arith) (a .marks .now) (m .marks) (m .j) (m .inv .2) (omega arith) (s .result) (s .ensures) (omega arith) (c .before .before .before .before .if3 .left) good)
 
 same-length-4 : tie.Need-same-length-4 Inv-loop μ-loop
@@ -155,7 +155,7 @@ returns-5 c =
     let a = b .args in
     let ws = a .words .now in
     let v = c .before .before .before .narrow in
-    let f = worthPasses (map (worthOf (a .count)) (whole ws .outgoing)) (a .sent) in
+    let f = gradePasses (map (slotGrade (a .count)) (whole ws .outgoing)) (a .sent) in
     let i : Listed ws (a .at) 32 (v .result) = record { room = omega (arith, b .pre .0, b .pre .1 .0); is = v .ensures } in
     let m = c .before .loop in
     end f ws (a .at) 32 (v .result) i (omega arith) (a .marks .now) (m .marks) (m .j) (m .inv .2) (omega arith)
@@ -185,7 +185,7 @@ list-sound-spec =
     part-grade-at-start
     part-grade-at-end
     grade-at-requires
-    is-enough-requires
+    enough-requires
     same-length-3
     returns-4
     slice-write-marks

@@ -4,10 +4,10 @@ use Prim.Native.Nat.{ℕ, _+_, _*_}
 use Rattle.peer.specs.Outcome.{State}
 use Rattle.places.specs.Whole.{whole}
 use borrow.Author.Needs.{needs}
-use Rattle.peer.specs.Calls as calls
-use Rattle.outward.specs.Steps as outward
-use Rattle.inward.specs.Steps as inward
-use Rattle.inward.proofs.Calling.{came-beside}
+use Rattle.peer.specs.Calls as plain
+use Rattle.link_out.specs.Steps as outward
+use Rattle.link_in.specs.Steps as inward
+use Rattle.link_in.proofs.Calling.{came-beside}
 use Rattle.link.specs.declared.calls.Reply.the-variants as vr
 use Rattle.link.proofs.Calling.{promised}
 use Rattle.link.proofs.lent.call.Statement.{statement}
@@ -47,19 +47,19 @@ returns : tie.Need-returns
 returns c =
     let a = c .before .before .before .before .before .before .args in
     let x : State = record { peer = whole (a .words .now); store = a .store .now } in
-    promised (a .settings) (a .call) (a .datagram .now) x calls.answerOf vr.Called _ (c .before .before .enum-told .given .1) _ refl refl tt _ refl _ (came-beside x _ (c .reset .ensures))
+    promised (a .settings) (a .call) (a .datagram .now) x plain.answerOf vr.Called _ (c .before .before .enum-told .given .1) _ refl refl tt _ refl _ (came-beside x _ (c .reset .ensures))
 
 returns-2 : tie.Need-returns-2
 returns-2 c =
     let a = c .before .before .before .before .before .before .before .args in
     let x : State = record { peer = whole (a .words .now); store = a .store .now } in
-    promised (a .settings) (a .call) (a .datagram .now) x calls.answerOf vr.Called _ (c .before .before .before .call .given .1) _ refl refl tt _ refl _ (came-beside x _ (c .begin .ensures))
+    promised (a .settings) (a .call) (a .datagram .now) x plain.answerOf vr.Called _ (c .before .before .before .call .given .1) _ refl refl tt _ refl _ (came-beside x _ (c .begin .ensures))
 
 returns-3 : tie.Need-returns-3
 returns-3 c =
     let a = c .before .before .before .before .before .before .before .args in
     let x : State = record { peer = whole (a .words .now); store = a .store .now } in
-    promised (a .settings) (a .call) (a .datagram .now) x calls.answerOf vr.Called _ (c .before .before .before .call2 .given .1) _ refl refl tt _ refl _ (came-beside x _ (c .set-state .ensures))
+    promised (a .settings) (a .call) (a .datagram .now) x plain.answerOf vr.Called _ (c .before .before .before .call2 .given .1) _ refl refl tt _ refl _ (came-beside x _ (c .set-state .ensures))
 
 returns-4 : tie.Need-returns-4
 returns-4 c =

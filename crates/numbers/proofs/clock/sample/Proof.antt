@@ -14,8 +14,8 @@ gap-of : (clock sent full r : ℕ) → clock < 2 ^ 32 → full < 2 ^ 32 → r < 
     → (r + full) % 2 ^ 32 ≡ clock → r ≡ gap clock sent
 gap-of clock sent full r a b d e s = minus-of clock full r a b d s ∙ ap (minus 32 clock) e
 
-complete-requires : tie.Need-complete-requires
-complete-requires c κs = search needs
+completed-requires : tie.Need-completed-requires
+completed-requires c κs = search needs
 
 wrapping-sub-u32-requires : tie.Need-wrapping-sub-u32-requires
 wrapping-sub-u32-requires c κs = search needs
@@ -24,23 +24,23 @@ returns : tie.Need-returns
 returns c =
     let clock = c .before .before .before .args .clock in
     let sent = c .before .before .before .args .sent in
-    let e = gap-of clock sent _ _ (search needs) (search needs) (search needs) (c .before .before .complete .ensures) (c .before .wrapping-sub-u32 .ensures) in
+    let e = gap-of clock sent _ _ (search needs) (search needs) (search needs) (c .before .before .completed .ensures) (c .before .wrapping-sub-u32 .ensures) in
     rw (← e, le-leb _ _ (c .if1 .taken))
 
 returns-2 : tie.Need-returns-2
 returns-2 c =
     let clock = c .before .before .before .before .args .clock in
     let sent = c .before .before .before .before .args .sent in
-    let e = gap-of clock sent _ _ (search needs) (search needs) (search needs) (c .before .before .before .complete .ensures) (c .before .before .wrapping-sub-u32 .ensures) in
+    let e = gap-of clock sent _ _ (search needs) (search needs) (search needs) (c .before .before .before .completed .ensures) (c .before .before .wrapping-sub-u32 .ensures) in
     rw (← e, lt-leb _ _ (c .before .if1 .left), lt-ltb _ _ (c .if2 .taken))
 
 returns-3 : tie.Need-returns-3
 returns-3 c =
     let clock = c .before .before .before .before .args .clock in
     let sent = c .before .before .before .before .args .sent in
-    let e = gap-of clock sent _ _ (search needs) (search needs) (search needs) (c .before .before .before .complete .ensures) (c .before .before .wrapping-sub-u32 .ensures) in
+    let e = gap-of clock sent _ _ (search needs) (search needs) (search needs) (c .before .before .before .completed .ensures) (c .before .before .wrapping-sub-u32 .ensures) in
     rw (← e, lt-leb _ _ (c .before .if1 .left), le-ltb _ _ (c .if2 .left))
 
 pub sample-spec : {M : Type 1} → statement M
 sample-spec =
-    tie.close (tie.spec complete-requires wrapping-sub-u32-requires returns returns-2 returns-3)
+    tie.close (tie.spec completed-requires wrapping-sub-u32-requires returns returns-2 returns-3)

@@ -16,8 +16,8 @@ returns-2 c =
     let d = c .before .before in
     rw (ne-eqb _ _ (d .before .if1 .left), ← d .distance .ensures, le-leb _ _ (c .if2 .taken))
 
-reached-requires : tie.Need-reached-requires
-reached-requires c κs = search needs
+reaches-requires : tie.Need-reaches-requires
+reaches-requires c κs = search needs
 
 returns-3 : tie.Need-returns-3
 returns-3 c =
@@ -27,7 +27,7 @@ returns-3 c =
       ne-eqb _ _ (d .before .if1 .left),
       ← d .distance .ensures,
       lt-leb _ _ (r .before .if2 .left),
-      sym (r .reached .ensures) ∙ not-true _ (c .if3 .taken),
+      sym (r .reaches .ensures) ∙ not-true _ (c .if3 .taken),
     )
 
 returns-4 : tie.Need-returns-4
@@ -38,9 +38,9 @@ returns-4 c =
       ne-eqb _ _ (d .before .if1 .left),
       ← d .distance .ensures,
       lt-leb _ _ (r .before .if2 .left),
-      sym (r .reached .ensures) ∙ not-false _ (c .before .if3 .left),
+      sym (r .reaches .ensures) ∙ not-false _ (c .before .if3 .left),
     )
 
 pub is-given-up-spec : {M : Type 1} → statement M
 is-given-up-spec =
-    tie.close (tie.spec returns distance-requires returns-2 reached-requires returns-3 returns-4)
+    tie.close (tie.spec returns distance-requires returns-2 reaches-requires returns-3 returns-4)

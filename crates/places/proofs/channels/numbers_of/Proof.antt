@@ -4,7 +4,6 @@ use Rattle.places.proofs.ChannelLaws.{numbers-is}
 use borrow.Author.Needs.{needs}
 use Rattle.places.proofs.channels.numbers_of.Statement.{statement}
 use Rattle.places.proofs.channels.numbers_of.Tie as tie
-use Rattle.places.proofs.groups.low16.Reads as low16-reads
 
 mul-at : tie.Need-mul-at
 mul-at c = search needs

@@ -5,7 +5,6 @@ use Rattle.places.proofs.ChannelLaws.{put-incoming-numbers}
 use borrow.Author.Needs.{needs}
 use Rattle.places.proofs.channels.put_incoming.Statement.{statement}
 use Rattle.places.proofs.channels.put_incoming.Tie as tie
-use Rattle.places.proofs.groups.wide16.Reads as wide16-reads
 
 mul-at : tie.Need-mul-at
 mul-at c = search needs

@@ -4,7 +4,6 @@ use Rattle.places.proofs.GroupLaws.{outgoing-group-is}
 use borrow.Author.Needs.{needs}
 use Rattle.places.proofs.groups.outgoing_group.Statement.{statement}
 use Rattle.places.proofs.groups.outgoing_group.Tie as tie
-use Rattle.places.proofs.groups.low16.Reads as low16-reads
 
 shared-slice-read-low16 : tie.Need-shared-slice-read-low16
 shared-slice-read-low16 c = search needs

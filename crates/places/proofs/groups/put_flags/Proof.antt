@@ -3,7 +3,6 @@ use Rattle.places.proofs.GroupLaws.{put-flags}
 use borrow.Author.Needs.{needs}
 use Rattle.places.proofs.groups.put_flags.Statement.{statement}
 use Rattle.places.proofs.groups.put_flags.Tie as tie
-use Rattle.places.proofs.groups.wide16.Reads as wide16-reads
 
 wide16-requires : tie.Need-wide16-requires
 wide16-requires c κs = search needs

@@ -2,14 +2,13 @@
 use mathlib.Core.Path.{sym, ap, _∙_}
 use mathlib.Core.List.{List}
 use lib.ListN.{getD}
-use Rattle.parts.specs.Fresh.{noOutgoing}
-use Rattle.parts.specs.declared.groups.Outgoing.{Outgoing}
+use Rattle.record.specs.Fresh.{noOutgoing}
+use Rattle.record.specs.declared.groups.Outgoing.{Outgoing}
 use Rattle.pool.specs.Slots.{briefOf}
 use Rattle.places.proofs.PoolLaws.{pool-is}
 use borrow.Author.Needs.{needs}
 use Rattle.places.proofs.pools.brief_at.Statement.{statement}
 use Rattle.places.proofs.pools.brief_at.Tie as tie
-use Rattle.pool.proofs.brief_at.Reads as brief-at-reads
 
 sub-brief-at : tie.Need-sub-brief-at
 sub-brief-at c = search needs

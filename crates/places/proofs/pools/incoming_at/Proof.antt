@@ -2,13 +2,12 @@
 use mathlib.Core.Path.{sym, ap, _∙_}
 use mathlib.Core.List.{List}
 use lib.ListN.{getD}
-use Rattle.parts.specs.Fresh.{noIncoming}
-use Rattle.parts.specs.declared.groups.Incoming.{Incoming}
+use Rattle.record.specs.Fresh.{noIncoming}
+use Rattle.record.specs.declared.groups.Incoming.{Incoming}
 use Rattle.places.proofs.PoolLaws.{in-pool-is}
 use borrow.Author.Needs.{needs}
 use Rattle.places.proofs.pools.incoming_at.Statement.{statement}
 use Rattle.places.proofs.pools.incoming_at.Tie as tie
-use Rattle.pool.proofs.in_slot_at.Reads as in-slot-at-reads
 
 sub-in-slot-at : tie.Need-sub-in-slot-at
 sub-in-slot-at c = search needs

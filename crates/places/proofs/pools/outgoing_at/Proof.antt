@@ -2,13 +2,12 @@
 use mathlib.Core.Path.{sym, ap, _∙_}
 use mathlib.Core.List.{List}
 use lib.ListN.{getD}
-use Rattle.parts.specs.Fresh.{noOutgoing}
-use Rattle.parts.specs.declared.groups.Outgoing.{Outgoing}
+use Rattle.record.specs.Fresh.{noOutgoing}
+use Rattle.record.specs.declared.groups.Outgoing.{Outgoing}
 use Rattle.places.proofs.PoolLaws.{pool-is}
 use borrow.Author.Needs.{needs}
 use Rattle.places.proofs.pools.outgoing_at.Statement.{statement}
 use Rattle.places.proofs.pools.outgoing_at.Tie as tie
-use Rattle.pool.proofs.slot_at.Reads as slot-at-reads
 
 sub-slot-at : tie.Need-sub-slot-at
 sub-slot-at c = search needs

@@ -2,14 +2,13 @@
 use mathlib.Core.Path.{_≡_}
 use mathlib.Core.List.{List}
 use lib.ListN.{length, set, getD}
-use Rattle.parts.specs.Fresh.{noOutgoing}
-use Rattle.parts.specs.Updates.{withAttempt}
-use Rattle.parts.specs.declared.groups.Outgoing.{Outgoing}
+use Rattle.record.specs.Fresh.{noOutgoing}
+use Rattle.record.specs.Updates.{withAttempt}
+use Rattle.record.specs.declared.groups.Outgoing.{Outgoing}
 use Rattle.places.proofs.PoolLaws.{pool-back}
 use borrow.Author.Needs.{needs}
 use Rattle.places.proofs.pools.put_attempt.Statement.{statement}
 use Rattle.places.proofs.pools.put_attempt.Tie as tie
-use Rattle.pool.proofs.put_attempt.Reads as put-attempt-reads
 
 sub-put-attempt : tie.Need-sub-put-attempt
 sub-put-attempt c = search needs

@@ -2,12 +2,11 @@
 use mathlib.Core.Path.{_≡_}
 use mathlib.Core.List.{List}
 use lib.ListN.{length, set}
-use Rattle.parts.specs.declared.groups.Incoming.{Incoming}
+use Rattle.record.specs.declared.groups.Incoming.{Incoming}
 use Rattle.places.proofs.PoolLaws.{in-pool-back}
 use borrow.Author.Needs.{needs}
 use Rattle.places.proofs.pools.put_incoming.Statement.{statement}
 use Rattle.places.proofs.pools.put_incoming.Tie as tie
-use Rattle.pool.proofs.put_in.Reads as put-in-reads
 
 sub-put-in : tie.Need-sub-put-in
 sub-put-in c = search needs

@@ -2,12 +2,11 @@
 use mathlib.Core.Path.{_≡_}
 use mathlib.Core.List.{List}
 use lib.ListN.{length, set}
-use Rattle.parts.specs.declared.groups.Outgoing.{Outgoing}
+use Rattle.record.specs.declared.groups.Outgoing.{Outgoing}
 use Rattle.places.proofs.PoolLaws.{pool-back}
 use borrow.Author.Needs.{needs}
 use Rattle.places.proofs.pools.put_outgoing.Statement.{statement}
 use Rattle.places.proofs.pools.put_outgoing.Tie as tie
-use Rattle.pool.proofs.put.Reads as put-reads
 
 sub-put : tie.Need-sub-put
 sub-put c = search needs

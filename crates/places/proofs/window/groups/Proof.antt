@@ -5,8 +5,6 @@ use Rattle.places.proofs.WindowLaws.{words-are}
 use borrow.Author.Needs.{needs}
 use Rattle.places.proofs.window.groups.Statement.{statement}
 use Rattle.places.proofs.window.groups.Tie as tie
-use Rattle.places.proofs.groups.low16.Reads as low16-reads
-use Rattle.pool.proofs.copy.Reads as copy-reads
 
 slice-aggregate-copy : tie.Need-slice-aggregate-copy
 slice-aggregate-copy c = search needs

@@ -7,8 +7,6 @@ use Rattle.places.proofs.WindowLaws.{put-groups}
 use borrow.Author.Needs.{needs}
 use Rattle.places.proofs.window.put_groups.Statement.{statement}
 use Rattle.places.proofs.window.put_groups.Tie as tie
-use Rattle.places.proofs.groups.wide16.Reads as wide16-reads
-use Rattle.places.proofs.window.put_words.Reads as put-words-reads
 
 wide16-requires : tie.Need-wide16-requires
 wide16-requires c κs = search needs

@@ -6,7 +6,6 @@ use Rattle.places.proofs.WindowLaws.{put-words}
 use borrow.Author.Needs.{needs}
 use Rattle.places.proofs.window.put_words.Statement.{statement}
 use Rattle.places.proofs.window.put_words.Tie as tie
-use Rattle.pool.proofs.copy.Reads as copy-reads
 
 slice-aggregate-copy : tie.Need-slice-aggregate-copy
 slice-aggregate-copy c = search needs

@@ -1,7 +1,7 @@
 -- `append` meets its contract: the list at its place, altered there, by `dispatched-kept`.
 use mathlib.Core.List.{map}
-use Rattle.runs.specs.Runs.{movedTo}
-use Rattle.slots.specs.Lists.{incoming}
+use Rattle.cells.specs.Runs.{movedTo}
+use Rattle.record.specs.Lists.{incoming}
 use Rattle.lists.specs.Rows.{low}
 use Rattle.queues.proofs.QueueLaws.{dispatched-kept}
 use borrow.Author.Needs.{needs}

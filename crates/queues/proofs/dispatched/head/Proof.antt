@@ -1,6 +1,6 @@
 -- `head` meets its contract: the list at its place is the record's.
 use mathlib.Core.Path.{ap, _∙_}
-use Rattle.runs.specs.Runs.{first}
+use Rattle.cells.specs.Runs.{first}
 use Rattle.queues.proofs.QueueLaws.{dispatched-items}
 use borrow.Author.Needs.{needs}
 use Rattle.queues.proofs.dispatched.head.Statement.{statement}

@@ -1,5 +1,5 @@
 -- `leave` meets its contract: the list at its place, altered there, by `dispatched-kept`.
-use Rattle.runs.specs.Runs.{without}
+use Rattle.cells.specs.Runs.{without}
 use Rattle.queues.proofs.QueueLaws.{dispatched-kept}
 use borrow.Author.Needs.{needs}
 use Rattle.queues.proofs.dispatched.leave.Statement.{statement}

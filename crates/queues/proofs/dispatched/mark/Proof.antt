@@ -2,7 +2,7 @@
 use Prim.Native.Nat.{ℕ}
 use mathlib.Core.Path.{ap, _∙_}
 use mathlib.Core.List.{List}
-use Rattle.runs.specs.Free.{markedAll}
+use Rattle.cells.specs.Free.{markedAll}
 use Rattle.queues.proofs.QueueLaws.{dispatched-items}
 use borrow.Author.Needs.{needs}
 use Rattle.queues.proofs.dispatched.mark.Statement.{statement}

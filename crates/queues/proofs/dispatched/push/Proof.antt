@@ -1,6 +1,6 @@
 -- `push` meets its contract: the list at its place, altered there, by `dispatched-kept`.
-use Rattle.runs.specs.Runs.{pushed}
-use Rattle.slots.specs.Lists.{incoming}
+use Rattle.cells.specs.Runs.{pushed}
+use Rattle.record.specs.Lists.{incoming}
 use Rattle.queues.proofs.QueueLaws.{dispatched-kept}
 use borrow.Author.Needs.{needs}
 use Rattle.queues.proofs.dispatched.push.Statement.{statement}

@@ -1,6 +1,6 @@
 -- `insert` meets its contract: the list at its place, altered there, by `held-kept`.
-use Rattle.runs.specs.Runs.{inserted}
-use Rattle.slots.specs.Lists.{incoming}
+use Rattle.cells.specs.Runs.{inserted}
+use Rattle.record.specs.Lists.{incoming}
 use Rattle.queues.proofs.HeldLaws.{held-kept}
 use borrow.Author.Needs.{needs}
 use Rattle.queues.proofs.held.insert.Statement.{statement}

@@ -1,6 +1,6 @@
 -- `head` meets its contract: the list at its place is the record's by that name.
 use mathlib.Core.Path.{ap, _∙_}
-use Rattle.runs.specs.Runs.{first}
+use Rattle.cells.specs.Runs.{first}
 use Rattle.queues.proofs.QueueLaws.{place-fits, out-items}
 use borrow.Author.Needs.{needs}
 use Rattle.queues.proofs.outgoing.head.Statement.{statement}

@@ -2,8 +2,8 @@
 use native.Mathlib.Omega.{arith}
 use mathlib.Core.List.{map}
 use lib.ListN.{take}
-use Rattle.runs.specs.Runs.{prepended}
-use Rattle.slots.specs.Lists.{outgoing}
+use Rattle.cells.specs.Runs.{prepended}
+use Rattle.record.specs.Lists.{outgoing}
 use Rattle.lists.specs.Rows.{low}
 use Rattle.queues.proofs.QueueLaws.{place-fits, out-kept}
 use borrow.Author.Needs.{needs}

@@ -1,7 +1,7 @@
 -- `push` meets its contract: the list at its place, altered there, by `out-kept`.
 use native.Mathlib.Omega.{arith}
-use Rattle.runs.specs.Runs.{pushed}
-use Rattle.slots.specs.Lists.{outgoing}
+use Rattle.cells.specs.Runs.{pushed}
+use Rattle.record.specs.Lists.{outgoing}
 use Rattle.queues.proofs.QueueLaws.{place-fits, out-kept}
 use borrow.Author.Needs.{needs}
 use Rattle.queues.proofs.outgoing.push.Statement.{statement}

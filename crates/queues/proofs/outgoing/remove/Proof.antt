@@ -1,6 +1,6 @@
 -- `remove` meets its contract: the list at its place, altered there, by `out-kept`.
 use native.Mathlib.Omega.{arith}
-use Rattle.runs.specs.Runs.{without}
+use Rattle.cells.specs.Runs.{without}
 use Rattle.queues.proofs.QueueLaws.{place-fits, out-kept}
 use borrow.Author.Needs.{needs}
 use Rattle.queues.proofs.outgoing.remove.Statement.{statement}

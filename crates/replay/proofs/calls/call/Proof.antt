@@ -14,8 +14,8 @@ returns c = search needs
 command-requires : tie.Need-command-requires
 command-requires c κs = search needs
 
-call-requires : tie.Need-call-requires
-call-requires c κs = search needs
+call-of-requires : tie.Need-call-of-requires
+call-of-requires c κs = search needs
 
 slice-relend-prefix-call : tie.Need-slice-relend-prefix-call
 slice-relend-prefix-call c = search needs
@@ -29,8 +29,8 @@ slice-aggregate-call c =
 bytes-requires : tie.Need-bytes-requires
 bytes-requires c κs = search needs
 
-call-requires-2 : tie.Need-call-requires-2
-call-requires-2 c κs = search needs
+call-requires : tie.Need-call-requires
+call-requires c κs = search needs
 
 tell-requires : tie.Need-tell-requires
 tell-requires c κs = search needs
@@ -48,11 +48,11 @@ call-spec =
     cast-n
     returns
     command-requires
-    call-requires
+    call-of-requires
     slice-relend-prefix-call
     slice-aggregate-call
     bytes-requires
-    call-requires-2
+    call-requires
     tell-requires
     same-length
     returns-2)

@@ -5,7 +5,7 @@ use native.Mathlib.Omega.{arith}
 use lib.ListN.{length, drop}
 use borrow.Author.Needs.{needs}
 use Rattle.script.specs.Row.{told}
-use Rattle.runs.proofs.Views.{rest-end}
+use Rattle.cells.proofs.Views.{rest-end}
 use Rattle.script.proofs.Laws.{all-turn, none-left}
 use Rattle.script.proofs.row.put_all.Statement.{statement}
 use Rattle.script.proofs.row.put_all.Tie as tie

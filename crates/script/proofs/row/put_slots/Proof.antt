@@ -6,7 +6,7 @@ use lib.ListN.{length, take, drop}
 use borrow.Author.Needs.{needs}
 use borrow.Author.Tests.{ltb-true, ltb-false}
 use Rattle.script.specs.Row.{told}
-use Rattle.runs.proofs.Views.{part-end, part-out}
+use Rattle.cells.proofs.Views.{part-end, part-out}
 use Rattle.script.proofs.Laws.{first-turn, none-left}
 use Rattle.script.proofs.row.put_slots.Statement.{statement}
 use Rattle.script.proofs.row.put_slots.Tie as tie

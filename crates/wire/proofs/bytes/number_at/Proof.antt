@@ -3,8 +3,8 @@ use mathlib.Core.Path.{_≡_}
 use Prim.Native.Nat.{_-_, _^_, _≤_, _<_}
 use native.Mathlib.Nat.{pow-suc}
 use native.Mathlib.Numerals.{add-one}
-use Rattle.table.specs.Bytes.{numberAt}
-use Rattle.table.proofs.ByteLaws.{pow-3}
+use Rattle.command.specs.Bytes.{numberAt}
+use Rattle.command.proofs.ByteLaws.{pow-3}
 use borrow.Author.Needs.{needs}
 use native.Mathlib.Omega.{arith}
 use Rattle.wire.proofs.bytes.number_at.Statement.{statement}

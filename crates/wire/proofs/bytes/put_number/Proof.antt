@@ -2,8 +2,8 @@
 use mathlib.Core.Path.{_≡_, sym, _∙_}
 use Prim.Native.Nat.{_≤_}
 use lib.ListN.{length, length-set}
-use Rattle.table.specs.Bytes.{putNumber}
-use Rattle.table.proofs.ByteLaws.{put-turn}
+use Rattle.command.specs.Bytes.{putNumber}
+use Rattle.command.proofs.ByteLaws.{put-turn}
 use borrow.Author.Needs.{needs}
 use native.Mathlib.Omega.{arith}
 use Rattle.wire.proofs.bytes.put_number.Statement.{statement}

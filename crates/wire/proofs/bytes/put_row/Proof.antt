@@ -3,10 +3,10 @@ use mathlib.Core.Path.{_≡_, sym, ap, _∙_}
 use Prim.Native.Nat.{_+_, _-_, _≤_}
 use mathlib.Core.List.{[]}
 use lib.ListN.{length, drop, getD, drop-of-length-le}
-use Rattle.table.specs.Layout.{layout, total, sizeOf}
-use Rattle.table.specs.Bytes.{putRow}
-use Rattle.table.proofs.ByteLaws.{put-length}
-use Rattle.table.proofs.RowLaws.{total-step, total-turn, put-turn, put-end}
+use Rattle.command.specs.Layout.{layout, total, sizeOf}
+use Rattle.command.specs.Bytes.{putRow}
+use Rattle.command.proofs.ByteLaws.{put-length}
+use Rattle.command.proofs.RowLaws.{total-step, total-turn, put-turn, put-end}
 use borrow.Author.Needs.{needs}
 use native.Mathlib.Omega.{arith}
 use Rattle.wire.proofs.bytes.put_row.Statement.{statement}
@@ -21,8 +21,8 @@ abbrev μ-loop : tie.MeasureT-loop
 loop-holds : tie.Need-loop-holds Inv-loop μ-loop
 loop-holds c = search needs
 
-width-requires : tie.Need-width-requires Inv-loop μ-loop
-width-requires c κs = search needs
+width-of-requires : tie.Need-width-of-requires Inv-loop μ-loop
+width-of-requires c κs = search needs
 
 mul-put-number : tie.Need-mul-put-number Inv-loop μ-loop
 mul-put-number c = search needs
@@ -34,14 +34,14 @@ put-number-requires : tie.Need-put-number-requires Inv-loop μ-loop
 put-number-requires c κs =
     let l = c .before .before .before .loop in
     let k = c .before .before .before .before .before .args .kind in
-    let e = c .before .width .ensures in
+    let e = c .before .width-of .ensures in
     omega (arith, total-step (layout k) (l .j))
 
 add-place : tie.Need-add-place Inv-loop μ-loop
 add-place c =
     let l = c .before .before .before .before .before .before .loop in
     let k = c .before .before .before .before .before .before .before .before .args .kind in
-    let e = c .before .before .before .before .width .ensures in
+    let e = c .before .before .before .before .width-of .ensures in
     omega (arith, total-step (layout k) (l .j))
 
 add-j : tie.Need-add-j Inv-loop μ-loop
@@ -54,7 +54,7 @@ loop-again : tie.Need-loop-again Inv-loop μ-loop
 loop-again c =
     let l = c .before .before .before .before .before .before .loop in
     let a = c .before .before .before .before .before .before .before .before .args in
-    let w = c .before .before .before .before .width in
+    let w = c .before .before .before .before .width-of in
     let e = c .before .before .put-number .ensures in (
       search needs,
       ap length e ∙ put-length (l .out) (l .place) (w .result) (getD (a .t4) (l .j) 0) ∙ l .inv .1,
@@ -80,7 +80,7 @@ put-row-spec =
     Inv-loop
     μ-loop
     loop-holds
-    width-requires
+    width-of-requires
     mul-put-number
     array-read-put-number
     put-number-requires

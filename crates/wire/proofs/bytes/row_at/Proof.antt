@@ -4,10 +4,10 @@ use Prim.Native.Nat.{ℕ, _+_, _-_, _≤_}
 use mathlib.Core.List.{List, [], _++_, append-nil}
 use lib.ListN.{length, take, drop, length-set}
 use lib.Seq.{take-all}
-use Rattle.table.specs.Layout.{layout, total, sizeOf}
-use Rattle.table.specs.Bytes.{rowAt, pad}
-use Rattle.table.proofs.LayoutLaws.{width-le}
-use Rattle.table.proofs.RowLaws.{total-step, row-turn, total-turn}
+use Rattle.command.specs.Layout.{layout, total, sizeOf}
+use Rattle.command.specs.Bytes.{rowAt, pad}
+use Rattle.command.proofs.LayoutLaws.{width-le}
+use Rattle.command.proofs.RowLaws.{total-step, row-turn, total-turn}
 use borrow.Author.Needs.{needs}
 use native.Mathlib.Omega.{arith}
 use Rattle.wire.proofs.bytes.row_at.Statement.{statement}
@@ -22,14 +22,14 @@ abbrev μ-loop : tie.MeasureT-loop
 loop-holds : tie.Need-loop-holds Inv-loop μ-loop
 loop-holds c = search needs
 
-width-requires : tie.Need-width-requires Inv-loop μ-loop
-width-requires c κs = search needs
+width-of-requires : tie.Need-width-of-requires Inv-loop μ-loop
+width-of-requires c κs = search needs
 
 number-at-requires : tie.Need-number-at-requires Inv-loop μ-loop
 number-at-requires c κs =
     let l = c .before .before .loop in
     let k = c .before .before .before .before .args .kind in
-    let e = c .width .ensures in
+    let e = c .width-of .ensures in
     (omega (arith, total-step (layout k) (l .j)), omega (arith, width-le k (l .j)))
 
 mul-row : tie.Need-mul-row Inv-loop μ-loop
@@ -42,7 +42,7 @@ add-place : tie.Need-add-place Inv-loop μ-loop
 add-place c =
     let l = c .before .before .before .loop in
     let k = c .before .before .before .before .before .args .kind in
-    let e = c .before .width .ensures in
+    let e = c .before .width-of .ensures in
     omega (arith, total-step (layout k) (l .j))
 
 add-j : tie.Need-add-j Inv-loop μ-loop
@@ -55,11 +55,11 @@ loop-again : tie.Need-loop-again Inv-loop μ-loop
 loop-again c =
     let l = c .before .before .before .loop in
     let a = c .before .before .before .before .before .args in
-    let e = c .before .width .ensures in (
+    let e = c .before .width-of .ensures in (
       search needs,
       simp length-set (omega arith),
-      total-turn (layout (a .kind)) (l .place) (c .before .width .result) (l .j) e ∙ l .inv .2,
-      row-turn (a .s .now) (layout (a .kind)) (l .row) (l .place) (c .before .width .result) (l .j) (c .number-at .result) e (c .number-at .ensures .0) (omega arith) (omega arith) ∙ l .inv .3,
+      total-turn (layout (a .kind)) (l .place) (c .before .width-of .result) (l .j) e ∙ l .inv .2,
+      row-turn (a .s .now) (layout (a .kind)) (l .row) (l .place) (c .before .width-of .result) (l .j) (c .number-at .result) e (c .number-at .ensures .0) (omega arith) (omega arith) ∙ l .inv .3,
     )
 
 returns : tie.Need-returns Inv-loop μ-loop
@@ -76,7 +76,7 @@ row-at-spec =
     Inv-loop
     μ-loop
     loop-holds
-    width-requires
+    width-of-requires
     number-at-requires
     mul-row
     array-write-row

@@ -1,6 +1,6 @@
 -- A built command with its place, or the refusal: by the definition at each.
 use mathlib.Core.Path.{sym, ap, _∙_}
-use Rattle.build.specs.Built.{answerOf}
+use Rattle.wire.specs.Built.{answerOf}
 use Rattle.wire.specs.Steps.{placed}
 use borrow.Author.Needs.{needs}
 use Rattle.wire.proofs.reader.found.Statement.{statement}

@@ -2,9 +2,9 @@
 use mathlib.Core.Path.{_≡_, ap, _∙_}
 use Prim.Native.Nat.{ℕ, _+_}
 use mathlib.Core.List.{List}
-use Rattle.table.specs.Layout.{layout, sizeOf}
-use Rattle.table.specs.Bytes.{rowAt, pad, Bytes}
-use Rattle.build.specs.Built.{builtFrom}
+use Rattle.command.specs.Layout.{layout, sizeOf}
+use Rattle.command.specs.Bytes.{rowAt, pad, Bytes}
+use Rattle.wire.specs.Built.{builtFrom}
 use Rattle.wire.specs.Reading.{kindAt}
 use Rattle.wire.specs.Steps.{placed}
 use Rattle.wire.proofs.ReadLaws.{whole-none, whole-some, whole-kind, whole-room, read-found}
@@ -31,8 +31,8 @@ row-at-requires c κs =
     let q = ap sizeOf (e ∙ whole-kind s i r) in
     omega (arith, whole-room s i r)
 
-size-requires : tie.Need-size-requires
-size-requires c κs = search needs
+size-of-requires : tie.Need-size-of-requires
+size-of-requires c κs = search needs
 
 add-next : tie.Need-add-next
 add-next c =
@@ -40,7 +40,7 @@ add-next c =
     let i = c .before .before .before .before .before .args .at in
     let e = c .before .before .before .whole-kind .ensures in
     let r = whole-some s i (λ z. omega arith) in
-    let q = c .size .ensures ∙ ap sizeOf (e ∙ whole-kind s i r) in
+    let q = c .size-of .ensures ∙ ap sizeOf (e ∙ whole-kind s i r) in
     omega (arith, whole-room s i r)
 
 found-requires : tie.Need-found-requires
@@ -52,14 +52,14 @@ returns-2 c =
     let i = c .before .before .before .before .before .before .args .at in
     let k = c .before .before .before .before .whole-kind .result in
     let e = c .before .before .before .before .whole-kind .ensures in
-    let n = i + c .before .size .result in
+    let n = i + c .before .size-of .result in
     let r = whole-some s i (λ z. omega arith) in
     let q : k ≡ kindAt s i = e ∙ whole-kind s i r in
     let bytes : Bytes s = λ j. omega (arith, c .before .before .before .before .before .shared-slice-known .given j) in
     c .found .ensures
     ∙ ap (λ (l : List ℕ). placed n (builtFrom k l)) (c .before .before .row-at .ensures)
     ∙ ap (λ (x : ℕ). placed n (builtFrom x (pad 16 (rowAt s i (layout x))))) q
-    ∙ read-found s i n bytes r (ap (λ (x : ℕ). i + x) (c .before .size .ensures ∙ ap sizeOf q))
+    ∙ read-found s i n bytes r (ap (λ (x : ℕ). i + x) (c .before .size-of .ensures ∙ ap sizeOf q))
 
 pub read-spec : {M : Type 1} → statement M
 read-spec =
@@ -68,7 +68,7 @@ read-spec =
     whole-kind-requires
     returns
     row-at-requires
-    size-requires
+    size-of-requires
     add-next
     found-requires
     returns-2)

@@ -1,6 +1,0 @@
-pub mod Removing
-pub mod Acknowledged
-pub mod Marking
-pub mod Checked
-pub mod Untouched
-pub mod Joined

@@ -1,4 +1,0 @@
-pub mod Freeing
-pub mod Moving
-pub mod Untouched
-pub mod Joining

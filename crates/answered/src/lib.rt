@@ -1,1 +1,0 @@
-// What acknowledgement, throttle and timeout check do: theorems alone.

@@ -1,0 +1,5 @@
+pub mod Laws
+pub mod Admitted
+pub mod Settled
+pub mod Cells
+pub mod Marking

@@ -1,0 +1,45 @@
+-- `fill` meets its contract: where a test fails nothing changes, else the copy is what the tests pick.
+use mathlib.Core.Path.{sym}
+use borrow.Author.Needs.{needs}
+use Rattle.arrival.proofs.Cells.{filled-is, filled-short, filled-ended}
+use Rattle.arrival.proofs.storing.fill.Statement.{statement}
+use Rattle.arrival.proofs.storing.fill.Tie as tie
+
+cast-to : tie.Need-cast-to
+cast-to c = search needs
+
+mul-to : tie.Need-mul-to
+mul-to c = search needs
+
+add-if1 : tie.Need-add-if1
+add-if1 c = search needs
+
+returns : tie.Need-returns
+returns c =
+    let a = c .before .before .before .args in
+    sym (filled-short (a .store .now) (a .s) (a .datagram .now) (a .place) (a .n) (c .if1 .taken))
+
+add-if2 : tie.Need-add-if2
+add-if2 c = search needs
+
+returns-2 : tie.Need-returns-2
+returns-2 c =
+    let a = c .before .before .before .before .args in
+    sym (filled-ended (a .store .now) (a .s) (a .datagram .now) (a .place) (a .n) (c .if2 .taken))
+
+copy-requires : tie.Need-copy-requires
+copy-requires c κs = search needs
+
+same-length : tie.Need-same-length
+same-length c = search needs
+
+returns-3 : tie.Need-returns-3
+returns-3 c =
+    let m = c .before .before .before .before in
+    let a = m .before .before .before .before .args in
+    rw (filled-is (a .store .now) (a .s) (a .datagram .now) (a .place) (a .n) (m .before .if1 .left) (m .if2 .left)) (c .before .before .copy .ensures)
+
+pub fill-spec : {M : Type 1} → statement M
+fill-spec =
+    tie.close
+    (tie.spec cast-to mul-to add-if1 returns add-if2 returns-2 copy-requires same-length returns-3)

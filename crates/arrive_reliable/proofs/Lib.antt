@@ -1,0 +1,4 @@
+pub mod HoldingLaws
+pub mod HoldingPlaces
+pub mod Calling
+pub mod Placed

@@ -1,0 +1,46 @@
+-- `settle` meets its contract: the changes one after the other are the rule's record; the record has the channel.
+use native.Mathlib.Omega.{arith}
+use borrow.Author.Needs.{needs}
+use Rattle.places.specs.Whole.{whole}
+use Rattle.gate.proofs.Groups.{channels-length}
+use Rattle.arrive_reliable.proofs.Placed.{settled}
+use Rattle.arrive_reliable.proofs.settle.Statement.{statement}
+use Rattle.arrive_reliable.proofs.settle.Tie as tie
+
+hold-requires : tie.Need-hold-requires
+hold-requires c κs = search needs
+
+put-incoming-requires : tie.Need-put-incoming-requires
+put-incoming-requires c κs = search needs
+
+put-waiting-requires : tie.Need-put-waiting-requires
+put-waiting-requires c κs = search needs
+
+dispatch-requires : tie.Need-dispatch-requires
+dispatch-requires c κs = search needs
+
+same-length : tie.Need-same-length
+same-length c = search needs
+
+returns : tie.Need-returns
+returns c =
+    let d = c .before .before .dispatch in
+    let w = c .before .before .before .before .before .before .put-waiting in
+    let i = c .before .before .before .before .before .before .before .before .before .before .put-incoming in
+    let h = c .before .before .before .before .before .before .before .before .before .before .before .before .before .before .hold in
+    let b = c .before .before .before .before .before .before .before .before .before .before .before .before .before .before .before .before .before in
+    let a = b .args in
+    let ws = a .words .now in
+    settled (whole ws) (whole (h .last .0)) (whole (i .last .0)) (whole (w .last .0)) (whole (d .last .0)) (a .i) (a .number .0) (a .s) (a .slot) (a .waiting)
+    (omega (arith, channels-length ws, b .pre .1)) (h .ensures) (i .ensures) (w .ensures) (d .ensures)
+
+pub settle-spec : {M : Type 1} → statement M
+settle-spec =
+    tie.close
+    (tie.spec
+    hold-requires
+    put-incoming-requires
+    put-waiting-requires
+    dispatch-requires
+    same-length
+    returns)

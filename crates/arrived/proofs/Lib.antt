@@ -1,5 +1,0 @@
-pub mod Pools
-pub mod Unsequenced
-pub mod Reliable
-pub mod Landing
-pub mod Stores

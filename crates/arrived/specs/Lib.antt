@@ -1,2 +1,0 @@
-pub mod Landing
-pub mod Stores

@@ -1,1 +1,0 @@
-// What an arrival does: theorems alone.

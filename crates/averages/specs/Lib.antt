@@ -1,2 +1,0 @@
-pub mod Averages
-pub mod Interval

@@ -1,2 +1,0 @@
-pub mod Dispatching
-pub mod Lent

@@ -1,4 +1,0 @@
-pub mod WalkLaws
-pub mod SumLaws
-pub mod HeldLaws
-pub mod InLaws

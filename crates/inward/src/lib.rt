@@ -1,3 +1,0 @@
-// The calls of the receiving side as data, and one function that makes each of them on the lent record.
-pub mod calls;
-pub mod lent;

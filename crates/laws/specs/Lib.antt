@@ -1,0 +1,10 @@
+pub mod Freeing
+pub mod Moving
+pub mod Untouched
+pub mod Joining
+pub mod Landing
+pub mod Stores
+pub mod Same
+pub mod Done
+pub mod Steady
+pub mod Transit

@@ -1,0 +1,85 @@
+-- `call` makes each call by its own function, so what that function ensures is carried over, one arm of the match after another.
+use mathlib.Core.Path.{refl}
+use Rattle.peer.specs.Outcome.{State}
+use Rattle.places.specs.Whole.{whole}
+use borrow.Author.Needs.{needs}
+use Rattle.peer.specs.Calls as plain
+use Rattle.arrival.specs.Arrivals as arriving
+use Rattle.receive.specs.Calls as receiving
+use Rattle.link_in.specs.declared.calls.Reply.the-variants as vr
+use Rattle.link_in.proofs.Calling.{came-beside, promised}
+use Rattle.link_in.proofs.call.Statement.{statement}
+use Rattle.link_in.proofs.call.Tie as tie
+
+enum-known-call : tie.Need-enum-known-call
+enum-known-call c = search needs
+
+arrive-requires : tie.Need-arrive-requires
+arrive-requires c κs = search needs
+
+enum-known-call-2 : tie.Need-enum-known-call-2
+enum-known-call-2 c = search needs
+
+arrive-requires-2 : tie.Need-arrive-requires-2
+arrive-requires-2 c κs = search needs
+
+enum-known-call-3 : tie.Need-enum-known-call-3
+enum-known-call-3 c = search needs
+
+dispatch-requires : tie.Need-dispatch-requires
+dispatch-requires c κs = search needs
+
+enum-told : tie.Need-enum-told
+enum-told c = search needs
+
+receive-requires : tie.Need-receive-requires
+receive-requires c κs = search needs
+
+same-length : tie.Need-same-length
+same-length c = search needs
+
+returns : tie.Need-returns
+returns c =
+    let a = c .before .before .before .before .before .before .before .before .before .before .args in
+    let x : State = record { peer = whole (a .words .now); store = a .store .now } in
+    promised (a .settings) (a .call) (a .datagram .now) x arriving.answerOf vr.Arrived _ (c .before .before .before .before .before .before .call .given .1) _ refl refl _ refl _ (c .before .before .arrive .ensures)
+
+same-length-2 : tie.Need-same-length-2
+same-length-2 c = search needs
+
+returns-2 : tie.Need-returns-2
+returns-2 c =
+    let a = c .before .before .before .before .before .before .before .before .before .before .args in
+    let x : State = record { peer = whole (a .words .now); store = a .store .now } in
+    promised (a .settings) (a .call) (a .datagram .now) x arriving.answerOf vr.Arrived _ (c .before .before .before .before .before .before .call2 .given .1) _ refl refl _ refl _ (c .before .before .arrive2 .ensures)
+
+returns-3 : tie.Need-returns-3
+returns-3 c =
+    let a = c .before .before .before .before .before .before .before .args in
+    let x : State = record { peer = whole (a .words .now); store = a .store .now } in
+    promised (a .settings) (a .call) (a .datagram .now) x plain.answerOf vr.Called _ (c .before .before .before .call3 .given .1) _ refl refl _ refl _ (came-beside x _ (c .dispatch .ensures))
+
+returns-4 : tie.Need-returns-4
+returns-4 c =
+    let a = c .before .before .before .before .before .before .args in
+    let x : State = record { peer = whole (a .words .now); store = a .store .now } in
+    promised (a .settings) (a .call) (a .datagram .now) x receiving.answerOf vr.Received _ (c .before .before .enum-told .given .1) _ refl refl _ refl _ (came-beside x _ (c .receive .ensures))
+
+pub call-spec : {M : Type 1} → statement M
+call-spec =
+    tie.close
+    (tie.spec
+    enum-known-call
+    arrive-requires
+    same-length
+    returns
+    enum-known-call-2
+    arrive-requires-2
+    same-length-2
+    returns-2
+    enum-known-call-3
+    dispatch-requires
+    returns-3
+    enum-told
+    receive-requires
+    returns-4)

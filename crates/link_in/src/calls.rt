@@ -1,0 +1,17 @@
+// The calls of the receiving side as data, and their reply.
+use arrival::Arrival;
+use numbers::counters::Group;
+
+pub enum Call {
+    UnsequencedArrival { arrival: Arrival, group: Group },
+    ReliableArrival { arrival: Arrival },
+    Dispatch { channel: u8 },
+    Receive,
+}
+
+// Each call's own reply: the arrivals share one.
+pub enum Reply {
+    Arrived(arrival::Reply),
+    Called(peer::calls::Reply),
+    Received(receive::Reply),
+}

@@ -1,0 +1,30 @@
+-- `counters_at` reads each number off its group; past the channels there is none, and its numbers are 0.
+use borrow.Author.Needs.{needs}
+use Rattle.record.specs.Fresh.{noChannel}
+use Rattle.places.specs.Whole.{whole}
+use Rattle.outbox.proofs.PlaceLaws.{sized, none-there}
+use Rattle.outbox.proofs.counters_at.Statement.{statement}
+use Rattle.outbox.proofs.counters_at.Tie as tie
+
+flow-requires : tie.Need-flow-requires
+flow-requires c κs = search needs
+
+outgoing-group-requires : tie.Need-outgoing-group-requires
+outgoing-group-requires c κs = search needs
+
+returns : tie.Need-returns
+unfolding noChannel
+returns c =
+    let a = c .before .before .before .before .before .args in
+    rw (c .before .before .before .flow .ensures, c .before .outgoing-group .ensures, none-there (whole (a .words .now)) (sized (a .words .now)) (a .channel) (c .if1 .taken))
+
+numbers-of-requires : tie.Need-numbers-of-requires
+numbers-of-requires c κs = search needs
+
+returns-2 : tie.Need-returns-2
+returns-2 c = rw (c .before .before .before .before .before .before .flow .ensures, c .before .before .before .before .outgoing-group .ensures, c .before .before .numbers-of .ensures)
+
+pub counters-at-spec : {M : Type 1} → statement M
+counters-at-spec =
+    tie.close
+    (tie.spec flow-requires outgoing-group-requires returns numbers-of-requires returns-2)

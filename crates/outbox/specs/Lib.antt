@@ -1,0 +1,4 @@
+pub mod Counting
+pub mod Pieces
+pub mod CodeOutboxes
+pub mod CodePlaces

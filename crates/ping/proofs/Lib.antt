@@ -1,2 +1,0 @@
-pub mod Pings
-pub mod Sound

@@ -1,0 +1,4 @@
+pub mod AveragesSettled
+pub mod Laws
+pub mod Settled
+pub mod Sound

@@ -1,0 +1,3 @@
+pub mod Averages
+pub mod Interval
+pub mod Calls

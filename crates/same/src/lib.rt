@@ -1,1 +1,0 @@
-// When two records are the same: a definition and its laws alone.

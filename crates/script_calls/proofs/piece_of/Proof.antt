@@ -1,0 +1,14 @@
+-- Each number is the frame's, as it fits its place.
+use borrow.Author.Needs.{needs}
+use Rattle.script_calls.proofs.piece_of.Statement.{statement}
+use Rattle.script_calls.proofs.piece_of.Tie as tie
+
+short-requires : tie.Need-short-requires
+short-requires c κs = search needs
+
+returns : tie.Need-returns
+returns c =
+    rw (c .short .ensures)
+
+pub piece-of-spec : {M : Type 1} → statement M
+piece-of-spec = tie.close (tie.spec short-requires returns)

@@ -1,0 +1,82 @@
+-- The op picks the call; each number is the frame's, as it fits its place.
+use mathlib.Core.Path.{_≡_}
+use borrow.Author.Tests.{ne-eqb}
+use borrow.Author.Needs.{needs}
+use Rattle.script_calls.proofs.second.Statement.{statement}
+use Rattle.script_calls.proofs.second.Tie as tie
+
+short-requires : tie.Need-short-requires
+short-requires c κs = search needs
+
+byte-requires : tie.Need-byte-requires
+byte-requires c κs = search needs
+
+short-requires-2 : tie.Need-short-requires-2
+short-requires-2 c κs = search needs
+
+short-requires-3 : tie.Need-short-requires-3
+short-requires-3 c κs = search needs
+
+arrival-of-requires : tie.Need-arrival-of-requires
+arrival-of-requires c κs = search needs
+
+arrival-of-requires-2 : tie.Need-arrival-of-requires-2
+arrival-of-requires-2 c κs = search needs
+
+byte-requires-2 : tie.Need-byte-requires-2
+byte-requires-2 c κs = search needs
+
+returns : tie.Need-returns
+returns c =
+    let e : c .before .before .before .before .args .f .op ≡ 8 = c .before .before .before .match .keys1 in
+    rw (e, c .short2 .ensures, c .before .byte .ensures, c .before .before .short .ensures)
+
+returns-2 : tie.Need-returns-2
+returns-2 c =
+    let e : c .before .args .f .op ≡ 9 = c .match .keys2 in
+    rw e
+
+returns-3 : tie.Need-returns-3
+returns-3 c =
+    let e : c .before .before .before .args .f .op ≡ 10 = c .before .before .match .keys3 in
+    rw (e, c .arrival-of .ensures, c .before .short3 .ensures)
+
+returns-4 : tie.Need-returns-4
+returns-4 c =
+    let e : c .before .before .args .f .op ≡ 11 = c .before .match .keys4 in
+    rw (e, c .arrival-of2 .ensures)
+
+returns-5 : tie.Need-returns-5
+returns-5 c =
+    let e : c .before .before .args .f .op ≡ 12 = c .before .match .keys5 in
+    rw (e, c .byte2 .ensures)
+
+returns-6 : tie.Need-returns-6
+returns-6 c =
+    let e : c .before .args .f .op ≡ 13 = c .match .keys6 in
+    rw e
+
+returns-7 : tie.Need-returns-7
+returns-7 c =
+    let op = c .before .args .f .op in
+    let h = c .match .rest in
+    rw (ne-eqb (op) 8 (h .0 .0 .0 .0 .0 .1), ne-eqb (op) 9 (h .0 .0 .0 .0 .1), ne-eqb (op) 10 (h .0 .0 .0 .1), ne-eqb (op) 11 (h .0 .0 .1), ne-eqb (op) 12 (h .0 .1), ne-eqb (op) 13 (h .1))
+
+pub second-spec : {M : Type 1} → statement M
+second-spec =
+    tie.close
+    (tie.spec
+    short-requires
+    byte-requires
+    short-requires-2
+    short-requires-3
+    arrival-of-requires
+    arrival-of-requires-2
+    byte-requires-2
+    returns
+    returns-2
+    returns-3
+    returns-4
+    returns-5
+    returns-6
+    returns-7)

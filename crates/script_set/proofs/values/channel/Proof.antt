@@ -1,0 +1,25 @@
+-- `channel`: each number is what `short` made of it; the list stays.
+use mathlib.Core.Path.{refl}
+use borrow.Author.Needs.{needs}
+use Rattle.script_set.proofs.values.channel.Statement.{statement}
+use Rattle.script_set.proofs.values.channel.Tie as tie
+
+short-requires : tie.Need-short-requires
+short-requires c κs = search needs
+
+short-requires-2 : tie.Need-short-requires-2
+short-requires-2 c κs = search needs
+
+short-requires-3 : tie.Need-short-requires-3
+short-requires-3 c κs = search needs
+
+short-requires-4 : tie.Need-short-requires-4
+short-requires-4 c κs = search needs
+
+returns : tie.Need-returns
+returns c =
+    (c .before .before .before .short .ensures, (c .before .before .short2 .ensures, (c .before .short3 .ensures, (c .short4 .ensures, refl))))
+
+pub channel-spec : {M : Type 1} → statement M
+channel-spec =
+    tie.close (tie.spec short-requires short-requires-2 short-requires-3 short-requires-4 returns)

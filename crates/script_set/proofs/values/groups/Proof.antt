@@ -1,0 +1,34 @@
+-- `groups`: each number is what `short` made of it, the words what `worded` did.
+use borrow.Author.Needs.{needs}
+use Rattle.script_set.proofs.values.groups.Statement.{statement}
+use Rattle.script_set.proofs.values.groups.Tie as tie
+
+short-requires : tie.Need-short-requires
+short-requires c κs = search needs
+
+short-requires-2 : tie.Need-short-requires-2
+short-requires-2 c κs = search needs
+
+words-at-requires : tie.Need-words-at-requires
+words-at-requires c κs = search needs
+
+short-requires-3 : tie.Need-short-requires-3
+short-requires-3 c κs = search needs
+
+short-requires-4 : tie.Need-short-requires-4
+short-requires-4 c κs = search needs
+
+returns : tie.Need-returns
+returns c =
+    (c .before .short3 .ensures, (c .short4 .ensures, (c .before .before .before .before .before .before .short .ensures, (c .before .before .before .before .short2 .ensures, c .before .before .words-at .ensures))))
+
+pub groups-spec : {M : Type 1} → statement M
+groups-spec =
+    tie.close
+    (tie.spec
+    short-requires
+    short-requires-2
+    words-at-requires
+    short-requires-3
+    short-requires-4
+    returns)

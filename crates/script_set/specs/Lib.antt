@@ -1,0 +1,3 @@
+pub mod Values
+pub mod Cells
+pub mod Sets

@@ -1,0 +1,4 @@
+pub mod Ranges
+pub mod Sound
+pub mod Going
+pub mod Placed

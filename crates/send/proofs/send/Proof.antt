@@ -1,0 +1,156 @@
+-- `send` passes the gate and its own refusals; then its loop queues the packet's commands in order, in place, and the numbers go back.
+-- What the loop keeps is `Goes`: Going of the record as it then is.
+use Prim.Native.Nat.{_-_, _≤_}
+use mathlib.Core.Path.{refl}
+use borrow.Author.Needs.{needs}
+use Rattle.numbers.specs.Limits.{mostMtu}
+use Rattle.peer.specs.Calls.{answerOf}
+use Rattle.peer.specs.declared.gate.Lent.the-variants.{Nothing}
+use Rattle.peer.proofs.Ranges.{mtu-high}
+use Rattle.peer.proofs.Gates.{AtGate, came-shut, open-sound}
+use Rattle.places.specs.Whole.{whole}
+use Rattle.outbox.proofs.PlaceLaws.{sized}
+use Rattle.send.specs.Calls.{sendsSound}
+use Rattle.send.proofs.Placed.{Goes, goes-start, goes-turn, lent-shut, lent-left}
+use Rattle.send.proofs.send.Statement.{statement}
+use Rattle.send.proofs.send.Tie as tie
+
+abbrev Inv-loop : tie.InvT-loop
+Inv-loop words₀ channel length flags o₀ packet count j₀ offset₀ words o j offset = Goes packet count channel (whole words₀) (whole words) o j offset
+
+abbrev μ-loop : tie.MeasureT-loop
+μ-loop words₀ channel length flags o₀ packet count j₀ offset₀ words o j offset = count - j
+
+ask-requires : tie.Need-ask-requires Inv-loop μ-loop
+ask-requires c κs = search needs
+
+enum-known-gate : tie.Need-enum-known-gate Inv-loop μ-loop
+enum-known-gate c = search needs
+
+returns : tie.Need-returns Inv-loop μ-loop
+returns c =
+    let k = c .before .gate .given in
+    let g = c .before .before .before .ask in
+    let a = c .before .before .before .before .before .before .args in
+    let p = whole (a .words .now) in
+    let b : AtGate (a .settings) Nothing p = record { gate = g .result; is = g .ensures } in
+    came-shut b p (sendsSound (a .settings) (a .channel) (a .length) (a .flags) p) answerOf _ (k .0 .0) refl (k .1)
+
+enum-told : tie.Need-enum-told Inv-loop μ-loop
+enum-told c = search needs
+
+open-requires : tie.Need-open-requires Inv-loop μ-loop
+open-requires c κs = search needs
+
+packet-of-requires : tie.Need-packet-of-requires Inv-loop μ-loop
+packet-of-requires c κs =
+    let g = c .before .before .before .before .before .before .before .ask in
+    let a = c .before .before .before .before .before .before .before .before .before .before .args in
+    let p = whole (a .words .now) in
+    let b : AtGate (a .settings) Nothing p = record { gate = g .result; is = g .ensures } in
+    let h : p .flow .mtu ≤ mostMtu = mtu-high p (open-sound b (c .before .before .before .before .before .enum-told .given .1)) in
+    search needs
+
+count-of-requires : tie.Need-count-of-requires Inv-loop μ-loop
+count-of-requires c κs = search needs
+
+plan-gate-requires : tie.Need-plan-gate-requires Inv-loop μ-loop
+plan-gate-requires c κs = search needs
+
+enum-known-room : tie.Need-enum-known-room Inv-loop μ-loop
+enum-known-room c = search needs
+
+returns-2 : tie.Need-returns-2 Inv-loop μ-loop
+returns-2 c =
+    let k = c .before .room .given in
+    let j = c .before .before .before .plan-gate in
+    let n = c .before .before .before .before .before .before .before .count-of in
+    let x = c .before .before .before .before .before .before .before .before .packet-of in
+    let o = c .before .before .before .before .before .before .before .before .before .before .before .«open» in
+    let t = c .before .before .before .before .before .before .before .before .before .before .before .before .before .before .enum-told in
+    let g = c .before .before .before .before .before .before .before .before .before .before .before .before .before .before .before .before .ask in
+    let a = c .before .before .before .before .before .before .before .before .before .before .before .before .before .before .before .before .before .before .before .args in
+    lent-shut (a .settings) (a .channel) (a .length) (a .flags) (whole (a .words .now)) (record { gate = g .result; is = g .ensures }) (t .given .1) (o .result) (o .ensures) (x .result)
+    (x .ensures) (n .result) (n .ensures) (j .result) (j .ensures) (k .0 .0) (k .1)
+
+enum-told-2 : tie.Need-enum-told-2 Inv-loop μ-loop
+enum-told-2 c = search needs
+
+loop-holds : tie.Need-loop-holds Inv-loop μ-loop
+loop-holds c =
+    let j = c .before .before .plan-gate in
+    let n = c .before .before .before .before .before .before .count-of in
+    let x = c .before .before .before .before .before .before .before .packet-of in
+    let o = c .before .before .before .before .before .before .before .before .before .before .«open» in
+    let t = c .before .before .before .before .before .before .before .before .before .before .before .before .before .enum-told in
+    let g = c .before .before .before .before .before .before .before .before .before .before .before .before .before .before .before .ask in
+    let a = c .before .before .before .before .before .before .before .before .before .before .before .before .before .before .before .before .before .before .args in
+    goes-start (a .settings) (a .channel) (a .length) (a .flags) (whole (a .words .now)) (record { gate = g .result; is = g .ensures }) (t .given .1) (o .result) (o .ensures) (x .result)
+    (x .ensures) (n .result) (n .ensures) (j .result) (j .ensures) (sized (a .words .now)) (c .enum-told2 .given .1)
+
+queue-requires : tie.Need-queue-requires Inv-loop μ-loop
+queue-requires c κs = search needs
+
+next-at-requires : tie.Need-next-at-requires Inv-loop μ-loop
+next-at-requires c κs = search needs
+
+add-j : tie.Need-add-j Inv-loop μ-loop
+add-j c =
+    let h = c .before .before .before .before .before .before .before .before .before .before .before .count-of .ok in
+    search needs
+
+loop-less : tie.Need-loop-less Inv-loop μ-loop
+loop-less c = search needs
+
+loop-again : tie.Need-loop-again Inv-loop μ-loop
+loop-again c =
+    let q = c .before .queue in
+    let l = c .before .before .before .before .loop in
+    let n = c .before .before .before .before .before .before .before .before .before .before .before .count-of in
+    let x = c .before .before .before .before .before .before .before .before .before .before .before .before .packet-of in
+    let a = c .before .before .before .before .before .before .before .before .before .before .before .before .before .before .before .before .before .before .before .before .before .before .before .args in
+    goes-turn (x .result) (n .result) (a .channel) (whole (a .words .now)) (whole (l .words)) (l .o) (l .j) (l .offset) (l .inv) (c .before .before .before .loop-test .taken) (q .result)
+    (whole (q .last .0)) (q .ensures) (c .next-at .result) (c .next-at .ensures)
+
+close-requires : tie.Need-close-requires Inv-loop μ-loop
+close-requires c κs = search needs
+
+returns-3 : tie.Need-returns-3 Inv-loop μ-loop
+returns-3 c =
+    let l = c .before .before .before .loop in
+    let j = c .before .before .before .before .before .before .plan-gate in
+    let n = c .before .before .before .before .before .before .before .before .before .before .count-of in
+    let x = c .before .before .before .before .before .before .before .before .before .before .before .packet-of in
+    let o = c .before .before .before .before .before .before .before .before .before .before .before .before .before .before .«open» in
+    let t = c .before .before .before .before .before .before .before .before .before .before .before .before .before .before .before .before .before .enum-told in
+    let g = c .before .before .before .before .before .before .before .before .before .before .before .before .before .before .before .before .before .before .before .ask in
+    let a = c .before .before .before .before .before .before .before .before .before .before .before .before .before .before .before .before .before .before .before .before .before .before .args in
+    lent-left (a .settings) (a .channel) (a .length) (a .flags) (whole (a .words .now)) (record { gate = g .result; is = g .ensures }) (t .given .1) (o .result) (o .ensures) (x .result)
+    (x .ensures) (n .result) (n .ensures) (j .result) (j .ensures) (sized (a .words .now)) (c .before .before .before .before .enum-told2 .given .1) (whole (l .words)) (l .o) (l .j) (l .offset) (l .inv)
+    (c .before .before .loop-test .left) (whole (c .close .last .0)) (c .close .ensures)
+
+pub send-spec : {M : Type 1} → statement M
+send-spec =
+    tie.close
+    (tie.spec
+    Inv-loop
+    μ-loop
+    ask-requires
+    enum-known-gate
+    returns
+    enum-told
+    open-requires
+    packet-of-requires
+    count-of-requires
+    plan-gate-requires
+    enum-known-room
+    returns-2
+    enum-told-2
+    loop-holds
+    queue-requires
+    next-at-requires
+    add-j
+    loop-less
+    loop-again
+    close-requires
+    returns-3)

@@ -1,4 +1,0 @@
-pub mod Ranges
-pub mod Sound
-pub mod Going
-pub mod Lents

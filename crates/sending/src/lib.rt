@@ -1,3 +1,0 @@
-// Send: a packet becomes commands, one or a piece each.
-pub mod calls;
-pub mod lent;

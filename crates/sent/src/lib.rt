@@ -1,1 +1,0 @@
-// What a done send is: definitions and theorems alone.

@@ -1,0 +1,52 @@
+-- A setup or a ping on the lent record comes out as its rule says: what it leaves there is what the call by value makes.
+-- The argument: the outbox and the record that the code answered, the lists put to it, are those of Setups; each is given by its equation.
+use Prim.Native.Nat.{ℕ, _≤_}
+use mathlib.Core.Path.{_≡_, refl, ap, sym, subst, _∙_}
+use Rattle.numbers.specs.declared.refusals.Refusal.{Refusal}
+use Rattle.peer.specs.Outcome.{Outcome, Came, finished}
+use Rattle.peer.specs.Gate.{behind, onRecord}
+use Rattle.peer.specs.Calls.{answerOf}
+use Rattle.peer.specs.declared.settings.Settings.{Settings}
+use Rattle.peer.specs.declared.Peer.{Peer}
+use Rattle.peer.specs.declared.gate.Gate.{Gate}
+use Rattle.peer.specs.declared.gate.Gate.the-variants.{Open, Shut}
+use Rattle.peer.specs.declared.gate.Lent.the-variants.{Nothing}
+use Rattle.peer.specs.declared.calls.Reply.the-variants.{Done, Refused}
+use Rattle.peer.proofs.Gates.{AtGate}
+use Rattle.outbox.specs.Counting.{numbered}
+use Rattle.outbox.specs.CodeOutboxes.{queueing, outboxOf}
+use Rattle.outbox.specs.CodePlaces.{inLists, queuedBy, closed}
+use Rattle.outbox.specs.declared.pieces.Piece.{Piece}
+use Rattle.outbox.specs.CodeOutboxes.{Outbox}
+use Rattle.outbox.specs.CodeOutboxes.{Queued}
+use Rattle.outbox.specs.declared.Outbox as lent
+use Rattle.outbox.proofs.PlaceLaws.{Sets}
+use Rattle.setup.specs.Queueing.{room, queued}
+use Rattle.setup.proofs.Setups.{leaves, one-shut, one-left}
+
+-- a piece set up, then the outbox's numbers back
+pub left-is : (p y z : Peer) (channel : ℕ) (r : lent.Outbox) (q : Queued) → inLists r (q .outbox .lists) ≡ q .outbox → y ≡ queuedBy p q → z ≡ closed y channel r
+    → z ≡ leaves p (q .outbox) (numbered (p .channels) channel (q .outbox .counters)) (q .at) (q .slot)
+left-is p y z channel r q re ye ze =
+    ze
+    ∙ ap (λ (y : Peer). closed y channel r) ye
+    ∙ ap (λ (o : Outbox). leaves p o (numbered (p .channels) channel (o .counters)) (q .at) (q .slot)) re
+
+-- a call that queues one piece behind a gate of its own: g, o and may are what the code answered, in this order
+module _ (s : Settings) (x : Piece) (p : Peer) (g : AtGate s Nothing p) (passed : g .gate ≡ Open) (o : lent.Outbox)
+    (oe : inLists o (p .lists) ≡ outboxOf (p .totals) (p .waiting) (p .flow) (p .groups) (p .channels) (x .command .channel) (p .lists)) (rule may : Gate)
+    (me : may ≡ rule) (some : rule ≡ Open → 1 ≤ room p) where
+  abbrev rest : Outcome Peer
+  rest = behind rule p (finished (queued x p))
+
+  pub lent-shut : (why : Refusal) → may ≡ Shut why → Came answerOf (onRecord s p rest) (Refused why) p
+  lent-shut why q = one-shut s x p g passed (inLists o (p .lists)) oe rule may me some why q
+
+  -- y is the record with the piece, z with the numbers back
+  pub lent-left : may ≡ Open → (r : lent.Outbox) (y z : Peer) → Sets p o x r y → z ≡ closed y (x .command .channel) r
+      → Came answerOf (onRecord s p rest) Done z
+  lent-left opened r y z made ze =
+      let q = queueing (inLists o (p .lists)) x in
+      subst (λ (z : Peer). Came answerOf (onRecord s p rest) Done z) (sym (left-is p y z (x .command .channel) r q (made .0) (made .1) ze))
+      (one-left s x p g passed (inLists o (p .lists)) oe rule may me some opened q refl
+      (numbered (p .channels) (x .command .channel) (q .outbox .counters)) refl)

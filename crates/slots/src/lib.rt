@@ -1,9 +1,0 @@
-// Lists of slot numbers, one type for each pool: the linked lists of the source.
-pub mod incoming;
-pub mod marks;
-pub mod outgoing;
-
-// The pools' sizes, in this one place.
-pub const OUTGOING: usize = 32;
-
-pub const INCOMING: usize = 12;

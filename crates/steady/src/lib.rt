@@ -1,1 +1,0 @@
-// What calls leave as it was: a definition and theorems alone.

@@ -1,4 +1,0 @@
-pub mod TableLaws
-pub mod LayoutLaws
-pub mod ByteLaws
-pub mod RowLaws

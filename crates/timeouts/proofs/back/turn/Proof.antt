@@ -1,0 +1,42 @@
+-- `turn` meets its contract: the step's answer on the slot in brief is the rule's, and only the slot's timeout is another.
+use mathlib.Core.Path.{ap}
+use lib.ListN.{getD}
+use borrow.Author.Needs.{needs}
+use Rattle.record.specs.Fresh.{noOutgoing}
+use Rattle.places.specs.Whole.{whole}
+use Rattle.overdue.specs.declared.step.After.{After}
+use Rattle.timeouts.proofs.BackLaws.{turn-is, turn-put}
+use Rattle.timeouts.proofs.back.turn.Statement.{statement}
+use Rattle.timeouts.proofs.back.turn.Tie as tie
+
+brief-at-requires : tie.Need-brief-at-requires
+brief-at-requires c κs = search needs
+
+step-by-requires : tie.Need-step-by-requires
+step-by-requires c κs = search needs
+
+put-attempt-requires : tie.Need-put-attempt-requires
+put-attempt-requires c κs = search needs
+
+same-length : tie.Need-same-length
+same-length c = search needs
+
+returns : tie.Need-returns
+returns c =
+    let u = c .before .before in
+    let t = u .before .before .before in
+    let b = t .before in
+    let a = b .before .before .before .args in
+    let p = whole (a .words .now) in
+    let o = getD (p .outgoing) (a .s) noOutgoing in
+    let is = turn-is (a .limits) (a .clock) (a .walk) o (b .brief-at .result) (t .step-by .result) (b .brief-at .ensures) (t .step-by .ensures) in (
+      ap (λ (r : After). r .walk) is,
+      (
+        ap (λ (r : After). r .mark) is,
+        turn-put (a .limits) (a .clock) (a .walk) o (b .brief-at .result) (t .step-by .result) (b .brief-at .ensures) (t .step-by .ensures) p _ (a .s) (u .put-attempt .ensures),
+      ),
+    )
+
+pub turn-spec : {M : Type 1} → statement M
+turn-spec =
+    tie.close (tie.spec brief-at-requires step-by-requires put-attempt-requires same-length returns)

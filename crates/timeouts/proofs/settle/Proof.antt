@@ -1,0 +1,53 @@
+-- `settle` meets its contract: the three groups one after the other, each with the numbers of the walk.
+use borrow.Author.Needs.{needs}
+use Rattle.places.specs.Whole.{whole}
+use Rattle.timeouts.proofs.PlaceLaws.{settle-is}
+use Rattle.timeouts.proofs.settle.Statement.{statement}
+use Rattle.timeouts.proofs.settle.Tie as tie
+
+times-requires : tie.Need-times-requires
+times-requires c κs = search needs
+
+loss-requires : tie.Need-loss-requires
+loss-requires c κs = search needs
+
+flow-requires : tie.Need-flow-requires
+flow-requires c κs = search needs
+
+put-times-requires : tie.Need-put-times-requires
+put-times-requires c κs = search needs
+
+put-loss-requires : tie.Need-put-loss-requires
+put-loss-requires c κs = search needs
+
+put-flow-requires : tie.Need-put-flow-requires
+put-flow-requires c κs = search needs
+
+same-length : tie.Need-same-length
+same-length c = search needs
+
+returns : tie.Need-returns
+returns c =
+    let z = c .before .before in
+    let y = z .before .before .before .before in
+    let x = y .before .before .before .before in
+    let f = x .before .before in
+    let l = f .before .before in
+    let t = l .before .before in
+    let a = t .before .before .before .args in
+    settle-is (whole (a .words .now)) (whole (x .put-times .last .0)) (whole (y .put-loss .last .0)) (whole (z .put-flow .last .0)) (a .w)
+    (t .times .result) (l .loss .result) (f .flow .result) (t .times .ensures) (l .loss .ensures) (f .flow .ensures)
+    (x .put-times .ensures) (y .put-loss .ensures) (z .put-flow .ensures)
+
+pub settle-spec : {M : Type 1} → statement M
+settle-spec =
+    tie.close
+    (tie.spec
+    times-requires
+    loss-requires
+    flow-requires
+    put-times-requires
+    put-loss-requires
+    put-flow-requires
+    same-length
+    returns)

@@ -1,1 +1,0 @@
-// How much is in transit: theorems alone.
