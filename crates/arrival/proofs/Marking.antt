@@ -11,10 +11,6 @@ use Rattle.record.specs.Lists.{incoming, inItems}
 use Rattle.record.specs.Damage.{held, usedIn}
 use Rattle.record.specs.declared.groups.Channel.{Channel}
 use Rattle.record.specs.declared.groups.Lists.{Lists}
-use Rattle.pool.proofs.Rows.{rows-length}
-use Rattle.lists.specs.Rows.{section}
-use Rattle.places.specs.Whole.{whole, channelFrom, channelWidth}
-use Rattle.places.proofs.ChannelLaws.{channels-is}
 
 pub marks-turn : (m after : List ℕ) (cs : List Channel) (n k : ℕ) (d : Channel) → k < n → k < length cs → after ≡ markedAll m (inItems (getD cs k d .held))
     → markedAll m (held (drop k (take n cs))) ≡ markedAll after (held (drop (k + 1) (take n cs)))
@@ -42,7 +38,3 @@ pub marks-of-all : (l : Lists) (cs : List Channel) (first all : List ℕ) → fi
     → firstFrom (isMarked all) incoming 0 ≡ lowest incoming (usedIn l cs)
 marks-of-all l cs first all e f =
     rw (marks-joined first all l cs [] e (sym f ∙ sym (marks-end all [] refl)) refl) (marked-lowest incoming (usedIn l cs))
-
--- the channels of the lent record
-pub eight-channels : (ws : List ℕ) → length (whole ws .channels) ≡ 8
-eight-channels ws = rw (channels-is ws) (rows-length channelFrom channelWidth 8 (section 194 136 ws))

@@ -16,15 +16,14 @@ use Rattle.record.specs.declared.groups.Lists.{Lists}
 use Rattle.record.specs.declared.groups.Channel.{Channel}
 use Rattle.record.specs.Fresh.{noChannel}
 use Rattle.record.specs.Updates.{withSentList, withReliableList, withOutgoingList, withDispatched, withNumbers, withLast, withHeld}
-use Rattle.pool.proofs.Rows.{rows-length}
 use Rattle.peer.specs.Updates.{withLists, withChannels}
 use Rattle.peer.specs.declared.Peer.{Peer}
 use Rattle.places.specs.Updates.{channelAt, numbersOf}
 use Rattle.places.specs.declared.channels.Numbers.{Numbers}
-use Rattle.places.specs.Whole.{outListFrom, inListFrom, channelFrom, sizes, numbers, parts, made, whole}
+use Rattle.places.specs.Whole.{outListFrom, inListFrom, sizes, numbers, parts, made, whole}
 use Rattle.places.proofs.Sections.{part-back}
 use Rattle.places.proofs.Written.{place, row-put}
-use Rattle.places.proofs.ChannelLaws.{channels-is, held-is}
+use Rattle.places.proofs.ChannelLaws.{held-is}
 use Rattle.copies.proofs.Filling.{take-turn}
 
 -- ---- cells, read
@@ -141,9 +140,6 @@ pub channel-made : (ws : List ℕ) (i : ℕ) (n : Numbers) (d : InList) → i < 
     → _≡_ {A = Channel} (record { «outgoing_reliable» = n .«outgoing_reliable»; «outgoing_unreliable» = n .«outgoing_unreliable»; «incoming_reliable» = n .«incoming_reliable»; «incoming_unreliable» = n .«incoming_unreliable»; held = d })
     (channelAt (whole ws) i)
 channel-made ws i n d h l en ed = rw (en, ed ∙ sym (held-is ws i h l))
-
-pub channels-length : (ws : List ℕ) → length (whole ws .channels) ≡ 8
-channels-length ws = ap length (channels-is ws) ∙ rows-length channelFrom 17 8 (section 194 136 ws)
 
 channel-step : (p q r : Peer) (i : ℕ) (c : Channel) (f : Channel → Channel) → i < length (p .channels) → q ≡ withChannels p (set (p .channels) i c)
     → r ≡ withChannels q (set (q .channels) i (f (channelAt q i))) → r ≡ withChannels p (set (p .channels) i (f c))

@@ -10,10 +10,9 @@ use Rattle.record.specs.declared.groups.Lists.{Lists}
 use Rattle.record.specs.declared.groups.Incoming.{Incoming}
 use Rattle.pool.specs.Rows.{rowAt as row}
 use Rattle.pool.specs.Slots.{inSlotFrom}
-use Rattle.pool.proofs.Rows.{rows-length, rows-at, row-at}
-use Rattle.places.specs.Whole.{made, parts, numbers, sizes, whole, outListFrom, inListFrom, channelFrom}
+use Rattle.pool.proofs.Rows.{rows-at, row-at}
+use Rattle.places.specs.Whole.{made, parts, numbers, sizes, whole, outListFrom, inListFrom}
 use Rattle.places.proofs.Sections.{section-number}
-use Rattle.places.proofs.ChannelLaws.{channels-is}
 use Rattle.places.proofs.PoolLaws.{in-pool-is}
 
 module _ (ws : List ℕ) where
@@ -36,9 +35,6 @@ module _ (ws : List ℕ) where
   pub total-is : whole ws .waiting .total ≡ getD ws 192 0
   unfolding made parts numbers sizes
   total-is = refl
-
-  pub channels-length : length (whole ws .channels) ≡ 8
-  channels-length = ap length (channels-is ws) ∙ rows-length channelFrom 17 8 (section 194 136 ws)
 
   -- incoming slot s, and its number j
   module _ (s : ℕ) (h : s < 12) where

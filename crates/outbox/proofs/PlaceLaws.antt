@@ -18,12 +18,9 @@ use Rattle.record.specs.declared.groups.Flow.{Flow}
 use Rattle.record.specs.declared.groups.Totals.{Totals}
 use Rattle.record.specs.declared.groups.Waiting.{Waiting}
 use Rattle.record.specs.declared.groups.Outgoing.{Outgoing}
-use Rattle.pool.specs.Slots.{slotFrom, inSlotFrom}
-use Rattle.pool.proofs.Rows.{rows-length}
 use Rattle.peer.specs.Sounds.{Whole}
 use Rattle.peer.specs.Updates.{withTotals, withWaiting, withFlow, withLists, withGroups, withChannels, withOutgoing}
 use Rattle.peer.specs.declared.Peer.{Peer}
-use Rattle.places.specs.Whole.{sizes, numbers, parts, made, whole, channelFrom}
 use Rattle.outbox.specs.Counting.{channelAt, numbered, stamped}
 use Rattle.outbox.specs.Pieces.{slotOf, listsWith}
 use Rattle.outbox.specs.CodeOutboxes.{queueingIn, queueing}
@@ -33,16 +30,6 @@ use Rattle.outbox.specs.declared.counting.Stamped.{Stamped}
 use Rattle.outbox.specs.declared.pieces.Piece.{Piece}
 use Rattle.outbox.specs.CodeOutboxes.{Queued}
 use Rattle.outbox.specs.declared.Outbox as lent
-
--- the record of any numbers has as many channels and slots as there are
-pub sized : (ws : List ℕ) → Whole (whole ws)
-unfolding made parts numbers sizes
-sized ws =
-    record {
-      channels = rows-length channelFrom 17 8 _;
-      outgoing = rows-length slotFrom 26 32 _;
-      incoming = rows-length inSlotFrom 6 12 _;
-    }
 
 -- ---- the counters, off the record and back
 module _ (p : Peer) (w : Whole p) (channel : ℕ) (past : channels ≤ channel) where

@@ -4,3 +4,4 @@ pub mod GroupLaws
 pub mod ChannelLaws
 pub mod PoolLaws
 pub mod WindowLaws
+pub mod Sized

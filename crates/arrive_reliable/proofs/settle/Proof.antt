@@ -2,7 +2,7 @@
 use native.Mathlib.Omega.{arith}
 use borrow.Author.Needs.{needs}
 use Rattle.places.specs.Whole.{whole}
-use Rattle.gate.proofs.Groups.{channels-length}
+use Rattle.places.proofs.Sized.{sized}
 use Rattle.arrive_reliable.proofs.Placed.{settled}
 use Rattle.arrive_reliable.proofs.settle.Statement.{statement}
 use Rattle.arrive_reliable.proofs.settle.Tie as tie
@@ -32,7 +32,7 @@ returns c =
     let a = b .args in
     let ws = a .words .now in
     settled (whole ws) (whole (h .last .0)) (whole (i .last .0)) (whole (w .last .0)) (whole (d .last .0)) (a .i) (a .number .0) (a .s) (a .slot) (a .waiting)
-    (omega (arith, channels-length ws, b .pre .1)) (h .ensures) (i .ensures) (w .ensures) (d .ensures)
+    (omega (arith, sized ws .channels, b .pre .1)) (h .ensures) (i .ensures) (w .ensures) (d .ensures)
 
 pub settle-spec : {M : Type 1} → statement M
 settle-spec =

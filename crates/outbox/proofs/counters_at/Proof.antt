@@ -2,7 +2,8 @@
 use borrow.Author.Needs.{needs}
 use Rattle.record.specs.Fresh.{noChannel}
 use Rattle.places.specs.Whole.{whole}
-use Rattle.outbox.proofs.PlaceLaws.{sized, none-there}
+use Rattle.places.proofs.Sized.{sized}
+use Rattle.outbox.proofs.PlaceLaws.{none-there}
 use Rattle.outbox.proofs.counters_at.Statement.{statement}
 use Rattle.outbox.proofs.counters_at.Tie as tie
 

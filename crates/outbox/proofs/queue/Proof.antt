@@ -1,7 +1,8 @@
 -- `queue` asks the marks for the lowest free slot: with none, nothing changes; else the piece's list and its slot do, and the outbox.
 use Rattle.places.specs.Whole.{whole}
 use borrow.Author.Needs.{needs}
-use Rattle.outbox.proofs.PlaceLaws.{sized, sets-none, sets-one}
+use Rattle.places.proofs.Sized.{sized}
+use Rattle.outbox.proofs.PlaceLaws.{sets-none, sets-one}
 use Rattle.outbox.proofs.queue.Statement.{statement}
 use Rattle.outbox.proofs.queue.Tie as tie
 

@@ -1,7 +1,8 @@
 -- `recount` writes the own number and the group; past the channels there is no place for the other two.
 use Rattle.places.specs.Whole.{whole}
 use borrow.Author.Needs.{needs}
-use Rattle.outbox.proofs.PlaceLaws.{sized, recounted-past, recounted-here}
+use Rattle.places.proofs.Sized.{sized}
+use Rattle.outbox.proofs.PlaceLaws.{recounted-past, recounted-here}
 use Rattle.outbox.proofs.recount.Statement.{statement}
 use Rattle.outbox.proofs.recount.Tie as tie
 

@@ -9,7 +9,7 @@ use Rattle.peer.specs.declared.gate.Lent.the-variants.{Nothing}
 use Rattle.peer.proofs.Ranges.{mtu-high}
 use Rattle.peer.proofs.Gates.{AtGate, came-shut, open-sound}
 use Rattle.places.specs.Whole.{whole}
-use Rattle.outbox.proofs.PlaceLaws.{sized}
+use Rattle.places.proofs.Sized.{sized}
 use Rattle.send.specs.Calls.{sendsSound}
 use Rattle.send.proofs.Placed.{Goes, goes-start, goes-turn, lent-shut, lent-left}
 use Rattle.send.proofs.send.Statement.{statement}

@@ -10,7 +10,8 @@ use Rattle.cells.proofs.Views.{part-end, part-out}
 use Rattle.record.specs.Damage.{held}
 use Rattle.record.specs.Fresh.{noChannel}
 use Rattle.places.specs.Whole.{whole}
-use Rattle.arrival.proofs.Marking.{marks-turn, marks-end, eight-channels}
+use Rattle.arrival.proofs.Marking.{marks-turn, marks-end}
+use Rattle.places.proofs.Sized.{sized}
 use Rattle.arrival.proofs.storing.mark_held.Statement.{statement}
 use Rattle.arrival.proofs.storing.mark_held.Tie as tie
 
@@ -40,7 +41,7 @@ loop-again c =
     let k = c .before .before .mark in
     let cs = whole (a .words .now) .channels in
     let h : m .loop .k < a .count = ltb-true (m .loop .k) (a .count) (c .before .before .before .before .if1 .taken) in
-    let low : m .loop .k < length cs = rw (eight-channels (a .words .now)) (search needs) in (
+    let low : m .loop .k < length cs = rw (sized (a .words .now) .channels) (search needs) in (
       search needs,
       search needs,
       m .loop .inv .2 ∙ marks-turn (m .loop .marks) (k .last .1 .1 .0) cs (a .count) (m .loop .k) noChannel h low (k .ensures),
@@ -65,7 +66,7 @@ returns-2 c =
     let m = c .before in
     let a = m .before .before .before .args in
     let cs = take (a .count) (whole (a .words .now) .channels) in
-    let e : length (whole (a .words .now) .channels) ≡ 8 = eight-channels (a .words .now) in
+    let e : length (whole (a .words .now) .channels) ≡ 8 = sized (a .words .now) .channels in
     let end = part-out (whole (a .words .now) .channels) (m .loop .k) (a .count) (omega (arith, e)) in
     sym (m .loop .inv .2 ∙ marks-end (m .loop .marks) (drop (m .loop .k) cs) end)
 

@@ -6,7 +6,7 @@ use lib.ListN.{length, take, length-set}
 use Rattle.record.specs.Fresh.{noChannel}
 use Rattle.places.specs.Whole.{whole}
 use Rattle.copies.proofs.Filling.{take-turn, take-end}
-use Rattle.copies.proofs.ListLaws.{channels-length}
+use Rattle.places.proofs.Sized.{sized}
 use borrow.Author.Needs.{needs}
 use Rattle.copies.proofs.reading.all_channels.Statement.{statement}
 use Rattle.copies.proofs.reading.all_channels.Tie as tie
@@ -42,7 +42,7 @@ loop-again : tie.Need-loop-again Inv-loop μ-loop
 loop-again c =
     let l = c .before .before .loop in
     let ws = c .before .before .before .before .before .args .words .now in
-    let m : length (whole ws .channels) ≡ 8 = channels-length ws in (
+    let m : length (whole ws .channels) ≡ 8 = sized ws .channels in (
       omega arith,
       rw length-set (l .inv .1),
       take-turn (l .all) (whole ws .channels) (l .i) noChannel (c .channel2 .result) (omega (arith, l .inv .1)) (omega (arith, m)) (l .inv .2) (c .channel2 .ensures),
@@ -52,7 +52,7 @@ returns : tie.Need-returns Inv-loop μ-loop
 returns c =
     let l = c .before .loop in
     let ws = c .before .before .before .before .args .words .now in
-    take-end (l .all) (whole ws .channels) 8 (l .i) (l .inv .1) (channels-length ws) (omega arith) (l .inv .2)
+    take-end (l .all) (whole ws .channels) 8 (l .i) (l .inv .1) (sized ws .channels) (omega arith) (l .inv .2)
 
 pub all-channels-spec : {M : Type 1} → statement M
 all-channels-spec =

@@ -9,7 +9,8 @@ use Rattle.peer.specs.Updates.{withChannels}
 use Rattle.places.specs.Updates.{channelAt}
 use Rattle.places.specs.Whole.{inListFrom, whole}
 use Rattle.places.proofs.ChannelLaws.{put-held}
-use Rattle.copies.proofs.ListLaws.{list-in, channels-length, channel-put}
+use Rattle.copies.proofs.ListLaws.{list-in, channel-put}
+use Rattle.places.proofs.Sized.{sized}
 use borrow.Author.Needs.{needs}
 use Rattle.copies.proofs.writing.put_channel.Statement.{statement}
 use Rattle.copies.proofs.writing.put_channel.Tie as tie
@@ -51,7 +52,7 @@ returns c =
     let e : whole (d .put-in .last .0) ≡ withChannels (whole w) (set (whole w .channels) i (withHeld (channelAt (whole w) i) (x .held))) =
     list-in InList inListFrom (λ (y : InList). withChannels (whole w) (set (whole w .channels) i (withHeld (channelAt (whole w) i) y))) w (d .put-in .last .0) (194 + i * 17 + 4) 12
     (λ (r : List ℕ) (h : length r ≡ 13). put-held w i r (b .pre .1) h lw) (x .held) (x .held .len) (x .held .slots) (d .put-in .ensures .1 .0) (d .put-in .ensures .0) (d .put-in .ensures .1 .1) in
-    channel-put (whole ws) (whole v) (whole w) (whole (d .put-in .last .0)) i x (b .pre .1) (channels-length ws) (o .put-outgoing .ensures) (n .put-incoming .ensures) e
+    channel-put (whole ws) (whole v) (whole w) (whole (d .put-in .last .0)) i x (b .pre .1) (sized ws .channels) (o .put-outgoing .ensures) (n .put-incoming .ensures) e
 
 pub put-channel-spec : {M : Type 1} → statement M
 put-channel-spec =

@@ -10,7 +10,7 @@ use Rattle.peer.specs.declared.Peer.{Peer}
 use Rattle.peer.specs.Updates.{withChannels}
 use Rattle.places.specs.Whole.{whole}
 use Rattle.copies.proofs.Filling.{put-turn, put-end}
-use Rattle.copies.proofs.ListLaws.{channels-length}
+use Rattle.places.proofs.Sized.{sized}
 use borrow.Author.Needs.{needs}
 use Rattle.copies.proofs.writing.put_channels.Statement.{statement}
 use Rattle.copies.proofs.writing.put_channels.Tie as tie
@@ -61,7 +61,7 @@ loop-again c =
       omega arith,
       search needs,
       put-turn (λ (p : Peer). p .channels) withChannels (λ (p : Peer) (x y : List Channel). refl) (λ (p : Peer) (x : List Channel). refl)
-          (whole (a .words .now)) (whole (l .words)) (whole (r .put-channel .last .0)) (a .t2) 8 (l .i) zeros (getD (a .t2) (l .i) zeros) (channels-length (a .words .now)) m (omega arith) (l .inv .2) (r .put-channel .ensures) refl,
+          (whole (a .words .now)) (whole (l .words)) (whole (r .put-channel .last .0)) (a .t2) 8 (l .i) zeros (getD (a .t2) (l .i) zeros) (sized (a .words .now) .channels) m (omega arith) (l .inv .2) (r .put-channel .ensures) refl,
     )
 
 same-length : tie.Need-same-length Inv-loop μ-loop
@@ -73,7 +73,7 @@ returns c =
     let a = c .before .before .before .args in
     let m : length (a .t2) ≡ 8 = search needs in
     put-end (λ (p : Peer). p .channels) withChannels (λ (p : Peer) (x y : List Channel). refl) (λ (p : Peer) (x : List Channel). refl)
-    (whole (a .words .now)) (whole (l .words)) (a .t2) 8 (l .i) (channels-length (a .words .now)) m (omega arith) (l .inv .2)
+    (whole (a .words .now)) (whole (l .words)) (a .t2) 8 (l .i) (sized (a .words .now) .channels) m (omega arith) (l .inv .2)
 
 pub put-channels-spec : {M : Type 1} → statement M
 put-channels-spec =

@@ -11,7 +11,8 @@ use Rattle.damage.proofs.HeldLaws.{held-sum-end}
 use Rattle.places.specs.Whole.{whole}
 use Rattle.places.proofs.ChannelLaws.{held-is}
 use Rattle.gate.specs.CodeHalves.{heldSound}
-use Rattle.gate.proofs.Groups.{total-is, channels-length}
+use Rattle.gate.proofs.Groups.{total-is}
+use Rattle.places.proofs.Sized.{sized}
 use Rattle.gate.proofs.Held.{held-stop, held-turn, held-sums, held-end}
 use Rattle.gate.proofs.incoming.held_sound.Statement.{statement}
 use Rattle.gate.proofs.incoming.held_sound.Tie as tie
@@ -56,7 +57,7 @@ returns c =
     let cs = whole ws .channels in
     let m = c .before .before .before .before .before .before .before .loop in
     let w = c .before .before .before .before .list-sound in
-    let long : a .count ≤ length cs = omega (arith, channels-length ws, b .pre .1 .0) in
+    let long : a .count ≤ length cs = omega (arith, sized ws .channels, b .pre .1 .0) in
     let row = rowAt (194 + m .k * 17 + 4) 12 ws in
     let is = held-is ws (m .k) (omega (arith, b .pre .1 .0)) (b .pre .0) in
     rw (m .inv .2, held-stop slots (a .count) cs (a .count) (m .k) long (omega arith) row (m .marks) is (w .result .ok) (w .last .1 .1 .1 .1 .1 .0) (w .ensures .0) (not-true (w .result .ok) (c .if1 .taken)))
@@ -76,7 +77,7 @@ loop-again c =
     let cs = whole ws .channels in
     let m = c .before .before .before .before .before .before .before .loop in
     let w = c .before .before .before .before .list-sound in
-    let long : a .count ≤ length cs = omega (arith, channels-length ws, b .pre .1 .0) in
+    let long : a .count ≤ length cs = omega (arith, sized ws .channels, b .pre .1 .0) in
     let row = rowAt (194 + m .k * 17 + 4) 12 ws in
     let is = held-is ws (m .k) (omega (arith, b .pre .1 .0)) (b .pre .0) in
     let ok = not-false (w .result .ok) (c .if1 .left) in (
