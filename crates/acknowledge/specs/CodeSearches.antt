@@ -1,4 +1,4 @@
--- For functions inside the house alone: what both searches make of every slot, as one number each, so that no search takes the pool. Nothing here need be believed: proofs/Laws gives the rule back.
+-- For functions inside the house alone: what both searches make of every slot, as one number each, so that no search takes the pool. Nothing here need be believed: proofs/RemovalLaws gives the rule back.
 use Prim.Native.Nat.{ℕ}
 use mathlib.Core.Bool.{Bool, true, false}
 use mathlib.Core.List.{List, map}

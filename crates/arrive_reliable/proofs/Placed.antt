@@ -1,5 +1,5 @@
 -- The reliable arrival on the lent record comes out as the rule says. The argument: what the code reads of the record is the record's, so the laws of
--- the arrival by value hold of it; the changes one after the other are the rule's record, the channel altered twice being altered once.
+-- Calling hold of it; the changes one after the other are the rule's record, the channel altered twice being altered once.
 use Prim.Native.Nat.{ℕ, _<_}
 use mathlib.Core.Path.{_≡_, refl, ap, sym, subst, _∙_}
 use mathlib.Core.Bool.{Bool}

@@ -1,5 +1,5 @@
 -- The unsequenced arrival on the lent record: what judges it and what stores it, each one change after the other, and the call made of both.
--- The argument: each record on the way is given by its equation; the outcomes are those of the call by value, on the record that the numbers are.
+-- The argument: each record on the way is given by its equation; the outcomes are those of Calling, on the record that the numbers are.
 use Prim.Native.Nat.{ℕ}
 use mathlib.Core.Path.{_≡_, refl, ap, sym, subst, _∙_}
 use mathlib.Core.List.{List}

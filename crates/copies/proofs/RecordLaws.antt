@@ -32,7 +32,7 @@ use Rattle.places.specs.Whole.{sizes, numbers, parts, made, whole}
 use Rattle.places.proofs.Written.{place, numbers-put}
 use Rattle.places.proofs.GroupLaws.{low}
 use Rattle.places.proofs.PoolLaws.{pool-is, in-pool-is}
-use Rattle.copies.specs.Updates.{withFixed}
+use Rattle.places.specs.Updates.{withFixed}
 
 -- ---- lengths
 pub outgoing-length : (ws : List ℕ) → length (whole ws .outgoing) ≡ 32

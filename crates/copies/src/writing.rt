@@ -9,7 +9,7 @@ ghost use Rattle.record.specs.Sizes.{channels};
 ghost use Rattle.peer.specs.Updates.{rebuilt, withLists, withChannels, withOutgoing};
 ghost use Rattle.places.specs.Updates.{withIncoming};
 ghost use Rattle.places.specs.Whole.{whole, recordLength, outListFrom, inListFrom};
-ghost use Rattle.copies.specs.Updates.{withFixed};
+ghost use Rattle.places.specs.Updates.{withFixed};
 use peer::Peer;
 use places::channels;
 use places::groups;

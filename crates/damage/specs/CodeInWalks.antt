@@ -1,5 +1,5 @@
--- For private functions of the damage test alone: what each walk over a list answers, that every slot exists, has no mark yet and passes
--- a test, and is marked then. Nothing here need be believed: the contracts of `lists_fit` and `in_sound` are the rule's own.
+-- For functions inside the house alone: what each walk over a list answers, that every slot exists, has no mark yet and passes
+-- a test, and is marked then. Nothing here need be believed: `in-is` in proofs/InLaws gives the rule back.
 use Prim.Native.Nat.{ℕ, _+_, _≤_}
 use mathlib.Core.Path.{_≡_}
 use mathlib.Core.Bool.{Bool, true, not}

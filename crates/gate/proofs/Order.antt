@@ -1,5 +1,5 @@
 -- The test in the order in which the code asks is the rule's: the ranges, the outgoing half, the incoming half.
--- The argument: by what the slots are worth (`grade-sound`), then the rule's tests regrouped.
+-- The argument: by the slots' grades (`grade-sound`), then the rule's tests regrouped.
 use Prim.Native.Nat.{ℕ, _≤_}
 use mathlib.Core.Path.{_≡_, ap, sym, _∙_}
 use mathlib.Core.Bool.{Bool, true}

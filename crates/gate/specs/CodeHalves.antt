@@ -1,5 +1,5 @@
 -- For functions inside the house alone: the damage test in the order in which the code asks, a list at a time, the outgoing half, then the incoming one.
--- Nothing here need be believed: the contract of `is_sound` is the rule's own.
+-- Nothing here need be believed: the contract of `sound` is the rule's own.
 use Prim.Native.Nat.{ℕ, _+_, _≤_}
 use mathlib.Core.Path.{_≡_}
 use mathlib.Core.Bool.{Bool, true}

@@ -1,5 +1,5 @@
 -- The lent walk on the run of a sound record's sent commands is the timeout check on the record: the same answer, numbers and moves.
--- The argument: with flags as 1 or 0 the lent walk is the step's own (lent Flags); then by induction on the slots: a slot stands once in the list, so
+-- The argument: with flags as 1 or 0 the lent walk is the step's own (timeouts_lent Flags); then by induction on the slots: a slot stands once in the list, so
 -- storing one's timeout leaves what later ones are read from.
 use Prim.Native.Nat.{ℕ}
 use mathlib.Core.Path.{_≡_, refl, ap, sym, _∙_}

@@ -1,4 +1,4 @@
--- Setting up on the lent record: what the code changes in its places is what the outbox by value has, and the record's other groups stay.
+-- Setting up on the lent record: what the code changes in its places is what the outbox with its lists has, and the record's other groups stay.
 -- The argument: each record on the way is a variable with an equation; the definitions compute.
 use Prim.Native.Nat.{ℕ, _≤_}
 use mathlib.Core.Path.{_≡_, refl, ap, sym, subst, _∙_}
@@ -64,7 +64,7 @@ closed-is p v w x channel o t h te ve he we xe =
     ∙ ap (λ (h : Waiting). withWaiting v (withQueued h (o .queued))) he
     ∙ ap (λ (y : Peer). withWaiting y (withQueued (y .waiting) (o .queued))) (ve ∙ ap (λ (t : Totals). withTotals p (withOutgoingTotal t (o .total))) te))
 
--- ---- a piece set up: o, p become r, y as the rule by value has it
+-- ---- a piece set up: o, p become r, y as the outbox with its lists has it
 abbrev pub Sets : Peer → lent.Outbox → Piece → lent.Outbox → Peer → Type 0
 Sets p o x r y =
     (inLists r (queueing (inLists o (p .lists)) x .outbox .lists) ≡ queueing (inLists o (p .lists)) x .outbox)

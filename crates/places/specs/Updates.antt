@@ -9,6 +9,9 @@ use Rattle.record.specs.declared.groups.Incoming.{Incoming}
 use Rattle.peer.specs.Updates.{withHeard, withArrival}
 use Rattle.peer.specs.declared.Peer.{Peer}
 use Rattle.places.specs.declared.channels.Numbers.{Numbers}
+use Rattle.record.specs.declared.groups.Ids.{Ids}
+use Rattle.record.specs.declared.groups.Bandwidth.{Bandwidth}
+use Rattle.record.specs.declared.groups.Limits.{Limits}
 
 abbrev pub withTrips : Peer → Trips → Peer
 withTrips p x = withHeard p (p .times) (p .throttling) x (p .flow) (p .lists)
@@ -27,4 +30,26 @@ numbersOf c =
       «outgoing_unreliable» = c .«outgoing_unreliable»;
       «incoming_reliable» = c .«incoming_reliable»;
       «incoming_unreliable» = c .«incoming_unreliable»;
+    }
+
+-- the groups that no call but reset changes
+abbrev pub withFixed : Peer → Ids → Bandwidth → Limits → Peer
+withFixed p ids bandwidth limits =
+    record {
+      ids = ids;
+      standing = p .standing;
+      bandwidth = bandwidth;
+      totals = p .totals;
+      times = p .times;
+      loss = p .loss;
+      throttling = p .throttling;
+      limits = limits;
+      trips = p .trips;
+      flow = p .flow;
+      lists = p .lists;
+      groups = p .groups;
+      waiting = p .waiting;
+      channels = p .channels;
+      outgoing = p .outgoing;
+      incoming = p .incoming;
     }

@@ -1,5 +1,5 @@
 -- Of two records that are the same, every call gives the same answer and leaves the same store, and records that are the same again.
--- The argument: taken apart (same Laws), two such records differ only in what no call reads; each call of AlikeOut, AlikeSent and AlikeIn leaves parts that
+-- The argument: taken apart (laws SameLaws), two such records differ only in what no call reads; each call of AlikeOut, AlikeSent and AlikeIn leaves parts that
 -- are alike, and put together they are the same. A call of the sending side leaves the incoming slots and what names them (Quiet).
 use Prim.Native.Nat.{ℕ, _<_}
 use mathlib.Core.Path.{_≡_, refl, ap, sym, subst, _∙_}

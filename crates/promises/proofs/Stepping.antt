@@ -1,5 +1,5 @@
 -- Every call is a step of one of four kinds, so what holds of window and log goes on holding along a run. A new call adds one line to `call-does`.
--- The argument: `steady` says that all others leave base and words.
+-- The argument: laws Steady says that all others leave base and words.
 use Prim.Native.Nat.{ℕ, _<_}
 use mathlib.Core.Path.{_≡_, refl, ap₂}
 use mathlib.Core.Bool.{Bool, true, false}

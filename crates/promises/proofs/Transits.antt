@@ -1,5 +1,5 @@
 -- What is in transit is what the packets in sent carry, along every run from a reset (`in-transit`).
--- The argument: transit Carrying has it for reset, begin, set state and the sending side's calls; both arrivals, dispatch and receive leave the number,
+-- The argument: laws Carrying has it for reset, begin, set state and the sending side's calls; both arrivals, dispatch and receive leave the number,
 -- the sent list and the outgoing slots.
 use Prim.Native.Nat.{ℕ, _%_, _^_}
 use mathlib.Core.Path.{_≡_, refl, ap, sym, _∙_}

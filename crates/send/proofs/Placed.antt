@@ -1,4 +1,4 @@
--- A send on the lent record: its loop keeps what the loop by value keeps, of the record as it then is and its outbox, the lists put to it.
+-- A send on the lent record: its loop keeps what the loop of Going keeps, of the record as it then is and its outbox, the lists put to it.
 -- The argument: what is stored puts the outbox's lists over the record's, so lists that change in their places make no difference; all else is Going's.
 use Prim.Native.Nat.{ℕ, _+_, _≤_, _<_}
 use mathlib.Core.Path.{_≡_, refl, sym, subst}

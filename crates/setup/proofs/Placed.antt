@@ -1,4 +1,4 @@
--- A setup or a ping on the lent record comes out as its rule says: what it leaves there is what the call by value makes.
+-- A setup or a ping on the lent record comes out as its rule says: what it leaves there is what the outbox with its lists makes.
 -- The argument: the outbox and the record that the code answered, the lists put to it, are those of Setups; each is given by its equation.
 use Prim.Native.Nat.{ℕ, _≤_}
 use mathlib.Core.Path.{_≡_, refl, ap, sym, subst, _∙_}

@@ -1,4 +1,4 @@
--- `judge_window` asks the window: a group that it takes is what `take` answers, and any other is passed over.
+-- `judge_window` asks the window: a group that it takes is what `taken_at` answers, and any other is passed over.
 use borrow.Author.Needs.{needs}
 use Rattle.arrival.proofs.Laws.{judged-taken, judged-passed}
 use Rattle.arrival.proofs.judge_window.Statement.{statement}

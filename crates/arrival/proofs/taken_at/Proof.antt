@@ -1,4 +1,4 @@
--- `taken_at` meets its contract: each arm by its variant, and the groups are what `mark`, `shift` and `flag` answer.
+-- `taken_at` meets its contract: each arm by its variant, and the groups are what `marking`, `shift` and `flagged` answer.
 use borrow.Author.Needs.{needs}
 use Rattle.arrival.proofs.taken_at.Statement.{statement}
 use Rattle.arrival.proofs.taken_at.Tie as tie

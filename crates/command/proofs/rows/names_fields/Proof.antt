@@ -1,4 +1,4 @@
--- The test is the definition's own, with what `kind` ensures.
+-- The test is the definition's own, with what `kind_of` ensures.
 use borrow.Author.Needs.{needs}
 use Rattle.command.proofs.rows.names_fields.Statement.{statement}
 use Rattle.command.proofs.rows.names_fields.Tie as tie

@@ -1,4 +1,4 @@
--- `groups`: each number is what `short` made of it, the words what `worded` did.
+-- `groups`: each number is what `short` made of it, the words what `words_at` did.
 use borrow.Author.Needs.{needs}
 use Rattle.script_set.proofs.values.groups.Statement.{statement}
 use Rattle.script_set.proofs.values.groups.Tie as tie
