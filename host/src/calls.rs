@@ -57,6 +57,17 @@ extern "C" {
         a: u32,
         b: u32,
     ) -> u32;
+    fn measure_value(
+        words: *mut u32,
+        store: *mut u8,
+        room: usize,
+        datagram: *const u8,
+        end: usize,
+        kind: u32,
+        a: u32,
+        b: u32,
+    ) -> u32;
+    fn measure_copies(words: *mut u32);
 }
 
 pub const MTU: u32 = 1_392;
@@ -152,6 +163,18 @@ pub enum Kind {
 pub fn link(words: &mut Record, kind: Kind, a: u32, b: u32) -> u32 {
     let (words, bytes, end) = (words.as_mut_ptr(), DATAGRAM.as_ptr(), DATAGRAM.len());
     unsafe { measure_link(words, store(), ROOM, bytes, end, kind as u32, a, b) }
+}
+
+/// The same on a record by value: read from its numbers, and written back.
+pub fn value(words: &mut Record, kind: Kind, a: u32, b: u32) -> u32 {
+    let (words, bytes, end) = (words.as_mut_ptr(), DATAGRAM.as_ptr(), DATAGRAM.len());
+    unsafe { measure_value(words, store(), ROOM, bytes, end, kind as u32, a, b) }
+}
+
+/// That reading and writing alone.
+pub fn copies(words: &mut Record) -> u32 {
+    unsafe { measure_copies(words.as_mut_ptr()) };
+    0
 }
 
 /// The send of a packet that goes out whole, as data that the compiler knows.

@@ -139,6 +139,29 @@ impl Table {
     }
 }
 
+impl Table {
+    /// The same call on the lent record and by value, which must leave the same; what reads and writes the record for it is taken off its time.
+    fn valued(
+        &mut self,
+        name: &str,
+        start: &Record,
+        calls: [fn(&mut Record) -> u32; 2],
+        answer: u32,
+    ) {
+        let copies = self.weigh(start, calls::copies, 0);
+        let [mut lent, valued] = calls.map(|call| self.weigh(start, call, answer));
+        // numbers that mean nothing, as a kind's unused ones, come back as 0
+        calls::copies(&mut lent.2);
+        self.wrong += u32::from(lent.2 != valued.2);
+        println!(
+            "by value, {name}: {:.0} ns, {:+.0} ns beside the lent record; to read and to write a record: {:.0} ns",
+            valued.0 - copies.0,
+            valued.0 - copies.0 - lent.0,
+            copies.0
+        );
+    }
+}
+
 #[no_mangle]
 pub extern "C" fn main(_count: i32, _words: *const *const std::ffi::c_char) -> i32 {
     println!("record: {} bytes", size_of::<Record>());
@@ -179,7 +202,7 @@ fn send(table: &mut Table) {
     table.row("throttle", &connected, |words| calls::throttle(words, SAMPLE), 1);
 }
 
-/// Calls alone, and as data: what the link adds. It is measured with the send's kind known to the compiler too.
+/// Calls alone, as data and by value: what the link adds. It is measured with the send's kind known to the compiler too.
 fn link(table: &mut Table) {
     let (connected, sent, delivered) = (connected(), having_sent(2), delivered());
     let whole = |words: &mut Record| calls::send(words, calls::MTU, WHOLE);
@@ -191,6 +214,12 @@ fn link(table: &mut Table) {
     table.linked("timeouts, 2 wait, kind unknown", &sent, [check, linked], 1);
     let taken = |words: &mut Record| calls::link(words, Kind::Receive, 0, 0);
     table.linked("receive, kind unknown", &delivered, [calls::receive, taken], 1);
+    let value = |words: &mut Record| calls::value(words, Kind::Send, WHOLE, calls::RELIABLE);
+    table.valued("send", &connected, [whole, value], 0);
+    let value = |words: &mut Record| calls::value(words, Kind::Check, EARLY, 0);
+    table.valued("timeouts, 2 wait", &sent, [check, value], 1);
+    let value = |words: &mut Record| calls::value(words, Kind::Receive, 0, 0);
+    table.valued("receive", &delivered, [calls::receive, value], 1);
 }
 
 fn receive(table: &mut Table) {

@@ -65,7 +65,7 @@ use Rattle.link.specs.declared.calls.Call.the-variants as call
 use Rattle.promises.specs.Held.{NoneReady, Numbered, AllNumbered, NothingStuck}
 use Rattle.promises.proofs.Picks.{picked}
 use Rattle.promises.proofs.Sounding.{fresh-whole, call-sounds}
-use Rattle.promises.proofs.Reporting.{Plain, fresh-plain, plain-set, lastOn, ready-last, now-last, Still, state-still, outward-still, receive-still}
+use Rattle.promises.proofs.Reporting.{Plain, fresh-plain, plain-set, lastOn, ready-last, now-last, Unreported, state-unreported, outward-unreported, receive-unreported}
 use Rattle.promises.proofs.HeldLaws.{Stands, climbs-rising, next-free, stands-from, left-stands, written-climbs, placed-climbs}
 
 -- ---- an arrival that is stored was not passed over: it is not the last number, nor held
@@ -109,8 +109,8 @@ module _ (channel : ℕ) where
       (subst (λ (r : Reliable). Stands (p .incoming) (r .0) k (inItems (on q .held))) (sym e)
       (subst (λ (l : InList). Stands (p .incoming) (lastOn channel p) k (inItems l)) (sym h) c))
 
-  still-orderly : (p q : Peer) → Still channel p q → Orderly p → Orderly q
-  still-orderly p q s k =
+  unreported-orderly : (p q : Peer) → Unreported channel p q → Orderly p → Orderly q
+  unreported-orderly p q s k =
       record {
         plain = subst Plain (sym (s .slots)) (k .plain);
         stands = λ h. stands-same p q 1 (s .slots) (s .last) (s .held) (k .stands (subst (λ (n : ℕ). channel < n) (s .count) h));
@@ -314,14 +314,14 @@ module _ (channel : ℕ) where
   call-orderly call.Reset s datagram x m w k = reset-orderly s (x .peer) k
   call-orderly (call.Begin mtu count) s datagram x m w k = begin-orderly s mtu count (x .peer) k
   call-orderly (call.SetState state) s datagram x m w k =
-      still-orderly channel (x .peer) (setsState s state (x .peer) .after) (state-still channel s state (x .peer)) k
+      unreported-orderly channel (x .peer) (setsState s state (x .peer) .after) (state-unreported channel s state (x .peer)) k
   call-orderly (call.Outward a) s datagram x m w k =
-      still-orderly channel (x .peer) (callsOut s a (x .peer) .after) (outward-still channel s a (x .peer)) k
+      unreported-orderly channel (x .peer) (callsOut s a (x .peer) .after) (outward-unreported channel s a (x .peer)) k
   call-orderly (call.Inward (inw.UnsequencedArrival a group)) s datagram x m w k = unsequenced-orderly channel s a group datagram x w k
   call-orderly (call.Inward (inw.ReliableArrival a)) s datagram x m w k = reliable-orderly s a datagram x m w k
   call-orderly (call.Inward (inw.Dispatch i)) s datagram x m w k = dispatch-orderly channel s i (x .peer) w k
   call-orderly (call.Inward inw.Receive) s datagram x m w k =
-      still-orderly channel (x .peer) (receives s (x .peer) .after) (receive-still channel s (x .peer)) k
+      unreported-orderly channel (x .peer) (receives s (x .peer) .after) (receive-unreported channel s (x .peer)) k
 
   pub run-orderly : (calls : List Asked) (x : State) → AllNumbered calls → Whole (x .peer) → Orderly channel (x .peer)
       → Orderly channel (run calls x .end .peer)

@@ -182,15 +182,15 @@ module _ (channel : ℕ) where
     pub plain : Plain (p .incoming)
 
   -- what a call leaves as it was, if it reports nothing on the channel
-  pub record Still (p q : Peer) : Type 0 where
+  pub record Unreported (p q : Peer) : Type 0 where
     pub last : numberOn (getD (q .channels) channel noChannel) ≡ numberOn (getD (p .channels) channel noChannel)
     pub held : getD (q .channels) channel noChannel .held ≡ getD (p .channels) channel noChannel .held
     pub count : q .standing .channels ≡ p .standing .channels
     pub slots : q .incoming ≡ p .incoming
 
   -- all the channels and the slots as they were
-  left-still : (p q : Peer) → q .channels ≡ p .channels → q .standing .channels ≡ p .standing .channels → q .incoming ≡ p .incoming → Still p q
-  left-still p q e n i =
+  left-unreported : (p q : Peer) → q .channels ≡ p .channels → q .standing .channels ≡ p .standing .channels → q .incoming ≡ p .incoming → Unreported p q
+  left-unreported p q e n i =
       record {
         last = ap (λ (cs : List Channel). numberOn (getD cs channel noChannel)) e;
         held = ap (λ (cs : List Channel). getD cs channel noChannel .held) e;
@@ -198,8 +198,8 @@ module _ (channel : ℕ) where
         slots = i;
       }
 
-  still : (p : Peer) → Still p p
-  still p = left-still p p refl refl refl
+  unreported : (p : Peer) → Unreported p p
+  unreported p = left-unreported p p refl refl refl
 
   same-counted : (p q : Peer) (log : List ℕ) → numberOn (getD (q .channels) channel noChannel) ≡ numberOn (getD (p .channels) channel noChannel)
       → q .incoming ≡ p .incoming → Counted p log → Counted q log
@@ -210,8 +210,8 @@ module _ (channel : ℕ) where
         plain = λ k. ap (λ (slots : List Incoming). getD slots k noIncoming .fragments) i ∙ c .plain k;
       }
 
-  still-counted : (p q : Peer) (log : List ℕ) → Still p q → Counted p log → Counted q log
-  still-counted p q log s c = same-counted p q log (s .last) (s .slots) c
+  unreported-counted : (p q : Peer) (log : List ℕ) → Unreported p q → Counted p log → Counted q log
+  unreported-counted p q log s c = same-counted p q log (s .last) (s .slots) c
 
   -- the numbers that joined
   abbrev pub joined : Peer → Peer → List ℕ
@@ -335,22 +335,22 @@ module _ (channel : ℕ) where
         (λ n good long may e. held n good may (held-free s a datagram x n e))
 
   -- ---- calls that report nothing and leave the channel's last number and the slots
-  behind-still : (p : Peer) (g : Gate) (rest : Outcome Peer) → Still p (rest .after) → Still p (behind g p rest .after)
-  behind-still p g rest s = behind-has g p rest (λ (o : Outcome Peer). Still p (o .after)) (λ why. still p) (λ e. s)
+  behind-unreported : (p : Peer) (g : Gate) (rest : Outcome Peer) → Unreported p (rest .after) → Unreported p (behind g p rest .after)
+  behind-unreported p g rest s = behind-has g p rest (λ (o : Outcome Peer). Unreported p (o .after)) (λ why. unreported p) (λ e. s)
 
-  pub state-still : (s : Settings) (state : ℕ) (p : Peer) → Still p (setsState s state p .after)
-  state-still s state p = behind-still p (gate s p) (setsStateSound state p) (go (leb state lastState))
+  pub state-unreported : (s : Settings) (state : ℕ) (p : Peer) → Unreported p (setsState s state p .after)
+  state-unreported s state p = behind-unreported p (gate s p) (setsStateSound state p) (go (leb state lastState))
     where
-      go : (b : Bool) → Still p (pick b (finished (stated state p)) (unchanged OutOfRange p) .after)
-      go true = left-still p (stated state p) refl refl refl
-      go false = still p
+      go : (b : Bool) → Unreported p (pick b (finished (stated state p)) (unchanged OutOfRange p) .after)
+      go true = left-unreported p (stated state p) refl refl refl
+      go false = unreported p
 
   -- setting up counts a channel's outgoing numbers alone
-  queued-still : (x : Piece) (p : Peer) → Still p (queued x p)
+  queued-unreported : (x : Piece) (p : Peer) → Unreported p (queued x p)
   unfolding queued queuedAt
-  queued-still x p = go (lowest outgoing (usedOut (p .lists)))
+  queued-unreported x p = go (lowest outgoing (usedOut (p .lists)))
     where
-      go : (f : Free) → Still p (queuedIn f x p)
+      go : (f : Free) → Unreported p (queuedIn f x p)
       go (Lowest n) =
           record {
             last = part-set numberOn (p .channels) (x .command .channel) _ noChannel channel refl;
@@ -358,71 +358,71 @@ module _ (channel : ℕ) where
             count = refl;
             slots = refl;
           }
-      go Full = still p
+      go Full = unreported p
 
-  all-still : (xs : List Piece) (p : Peer) → Still p (queuedAll xs p)
+  all-unreported : (xs : List Piece) (p : Peer) → Unreported p (queuedAll xs p)
   unfolding queuedAll
-  all-still [] p = still p
-  all-still (x ∷ xs) p =
-      let s = queued-still x p in
-      let t = all-still xs (queued x p) in
+  all-unreported [] p = unreported p
+  all-unreported (x ∷ xs) p =
+      let s = queued-unreported x p in
+      let t = all-unreported xs (queued x p) in
       record { last = t .last ∙ s .last; held = t .held ∙ s .held; count = t .count ∙ s .count; slots = t .slots ∙ s .slots }
 
-  setup-still : (s : Settings) (x : Piece) (p : Peer) → Still p (setsUp s x p .after)
-  setup-still s x p =
-      behind-still p (gate s p) (setsUpSound x p)
-      (behind-still p (setupGate x (p .standing .channels) (room p)) (finished (queued x p)) (queued-still x p))
+  setup-unreported : (s : Settings) (x : Piece) (p : Peer) → Unreported p (setsUp s x p .after)
+  setup-unreported s x p =
+      behind-unreported p (gate s p) (setsUpSound x p)
+      (behind-unreported p (setupGate x (p .standing .channels) (room p)) (finished (queued x p)) (queued-unreported x p))
 
-  send-still : (s : Settings) (on long flags : ℕ) (p : Peer) → Still p (sends s on long flags p .after)
-  send-still s on long flags p =
+  send-unreported : (s : Settings) (on long flags : ℕ) (p : Peer) → Unreported p (sends s on long flags p .after)
+  send-unreported s on long flags p =
       let xs = commands (fragment s p) on long flags p in
-      behind-still p (gate s p) (sendsSound s on long flags p)
-      (behind-still p (sendGate s on long (p .standing)) (queuesAll xs p)
-      (behind-still p (queueGate (length xs) (room p)) (finished (queuedAll xs p)) (all-still xs p)))
+      behind-unreported p (gate s p) (sendsSound s on long flags p)
+      (behind-unreported p (sendGate s on long (p .standing)) (queuesAll xs p)
+      (behind-unreported p (queueGate (length xs) (room p)) (finished (queuedAll xs p)) (all-unreported xs p)))
 
-  ping-still : (s : Settings) (p : Peer) → Still p (pings s p .after)
-  ping-still s p =
-      behind-still p (gate s p) (pingsSound p)
-      (behind-still p (pingGate (p .standing) (room p)) (finished (queued pingPiece p)) (queued-still pingPiece p))
+  ping-unreported : (s : Settings) (p : Peer) → Unreported p (pings s p .after)
+  ping-unreported s p =
+      behind-unreported p (gate s p) (pingsSound p)
+      (behind-unreported p (pingGate (p .standing) (room p)) (finished (queued pingPiece p)) (queued-unreported pingPiece p))
 
-  step-still : (s : Settings) (q : Queue) (time : ℕ) (p : Peer) → Still p (steps s q time p .after)
+  step-unreported : (s : Settings) (q : Queue) (time : ℕ) (p : Peer) → Unreported p (steps s q time p .after)
   unfolding sentAs
-  step-still s q time p = behind-still p (gate s p) (stepsSound q time p) (go (first (outItems (listOf q (p .lists)))))
+  step-unreported s q time p = behind-unreported p (gate s p) (stepsSound q time p) (go (first (outItems (listOf q (p .lists)))))
     where
-      go : (f : First) → Still p (stepsFrom f q time p .after)
-      go Empty = still p
-      go (Slot n) = left-still p (stepsFrom (Slot n) q time p .after) refl refl refl
+      go : (f : First) → Unreported p (stepsFrom f q time p .after)
+      go Empty = unreported p
+      go (Slot n) = left-unreported p (stepsFrom (Slot n) q time p .after) refl refl refl
 
-  by-still : (t : Trip) (on number clock : ℕ) (p : Peer) → Still p (acknowledgesBy t on number clock p .after)
-  by-still PassedOver on number clock p = still p
-  by-still (Taken sample) on number clock p = left-still p (acknowledgesBy (Taken sample) on number clock p .after) refl refl refl
+  by-unreported : (t : Trip) (on number clock : ℕ) (p : Peer) → Unreported p (acknowledgesBy t on number clock p .after)
+  by-unreported PassedOver on number clock p = unreported p
+  by-unreported (Taken sample) on number clock p = left-unreported p (acknowledgesBy (Taken sample) on number clock p .after) refl refl refl
 
-  acknowledge-still : (s : Settings) (on number sent clock : ℕ) (p : Peer) → Still p (acknowledges s on number sent clock p .after)
-  acknowledge-still s on number sent clock p =
-      behind-still p (gate s p) (acknowledgesSound on number sent clock p) (by-still (heardIn (p .standing .state) clock sent) on number clock p)
+  acknowledge-unreported : (s : Settings) (on number sent clock : ℕ) (p : Peer) → Unreported p (acknowledges s on number sent clock p .after)
+  acknowledge-unreported s on number sent clock p =
+      behind-unreported p (gate s p) (acknowledgesSound on number sent clock p) (by-unreported (heardIn (p .standing .state) clock sent) on number clock p)
 
-  check-still : (s : Settings) (clock : ℕ) (p : Peer) → Still p (checks s clock p .after)
-  check-still s clock p = behind-still p (gate s p) (checksSound clock p) (left-still p (checksSound clock p .after) refl refl refl)
+  check-unreported : (s : Settings) (clock : ℕ) (p : Peer) → Unreported p (checks s clock p .after)
+  check-unreported s clock p = behind-unreported p (gate s p) (checksSound clock p) (left-unreported p (checksSound clock p .after) refl refl refl)
 
-  throttle-still : (s : Settings) (sample : ℕ) (p : Peer) → Still p (throttles s sample p .after)
-  throttle-still s sample p =
-      behind-still p (gate s p) (throttlesSound sample p) (left-still p (throttlesSound sample p .after) refl refl refl)
+  throttle-unreported : (s : Settings) (sample : ℕ) (p : Peer) → Unreported p (throttles s sample p .after)
+  throttle-unreported s sample p =
+      behind-unreported p (gate s p) (throttlesSound sample p) (left-unreported p (throttlesSound sample p .after) refl refl refl)
 
-  pub receive-still : (s : Settings) (p : Peer) → Still p (receives s p .after)
-  receive-still s p = behind-still p (gate s p) (receivesSound p) (go (first (inItems (p .lists .dispatched))))
+  pub receive-unreported : (s : Settings) (p : Peer) → Unreported p (receives s p .after)
+  receive-unreported s p = behind-unreported p (gate s p) (receivesSound p) (go (first (inItems (p .lists .dispatched))))
     where
-      go : (f : First) → Still p (receivesFrom f p .after)
-      go Empty = still p
-      go (Slot n) = left-still p (taken n p) refl refl refl
+      go : (f : First) → Unreported p (receivesFrom f p .after)
+      go Empty = unreported p
+      go (Slot n) = left-unreported p (taken n p) refl refl refl
 
-  pub outward-still : (s : Settings) (a : Outward) (p : Peer) → Still p (callsOut s a p .after)
-  outward-still s out.Ping p = ping-still s p
-  outward-still s (out.Send on long flags) p = send-still s on long flags p
-  outward-still s (out.Setup x) p = setup-still s x p
-  outward-still s (out.SendStep q time) p = step-still s q time p
-  outward-still s (out.Acknowledgement on number sent clock) p = acknowledge-still s on (number .0) sent clock p
-  outward-still s (out.TimeoutCheck clock) p = check-still s clock p
-  outward-still s (out.Throttle sample) p = throttle-still s sample p
+  pub outward-unreported : (s : Settings) (a : Outward) (p : Peer) → Unreported p (callsOut s a p .after)
+  outward-unreported s out.Ping p = ping-unreported s p
+  outward-unreported s (out.Send on long flags) p = send-unreported s on long flags p
+  outward-unreported s (out.Setup x) p = setup-unreported s x p
+  outward-unreported s (out.SendStep q time) p = step-unreported s q time p
+  outward-unreported s (out.Acknowledgement on number sent clock) p = acknowledge-unreported s on (number .0) sent clock p
+  outward-unreported s (out.TimeoutCheck clock) p = check-unreported s clock p
+  outward-unreported s (out.Throttle sample) p = throttle-unreported s sample p
 
   -- ---- reset and begin: done, both start anew; refused, nothing changes
   anew-last : numberOn (getD (replicate channels noChannel) channel noChannel) .0 ≡ 0
@@ -457,13 +457,13 @@ module _ (channel : ℕ) where
   call-counted call.Reset s datagram x log w c = reset-counted s (x .peer) log c
   call-counted (call.Begin mtu count) s datagram x log w c = begin-counted s mtu count (x .peer) log c
   call-counted (call.SetState state) s datagram x log w c =
-      still-counted (x .peer) (setsState s state (x .peer) .after) log (state-still s state (x .peer)) c
-  call-counted (call.Outward a) s datagram x log w c = still-counted (x .peer) (callsOut s a (x .peer) .after) log (outward-still s a (x .peer)) c
+      unreported-counted (x .peer) (setsState s state (x .peer) .after) log (state-unreported s state (x .peer)) c
+  call-counted (call.Outward a) s datagram x log w c = unreported-counted (x .peer) (callsOut s a (x .peer) .after) log (outward-unreported s a (x .peer)) c
   call-counted (call.Inward (inw.UnsequencedArrival a group)) s datagram x log w c = unsequenced-counted s a datagram x log w c group
   call-counted (call.Inward (inw.ReliableArrival a)) s datagram x log w c = reliable-counted s a datagram x log w c
   call-counted (call.Inward (inw.Dispatch on)) s datagram x log w c = dispatch-counted s on (x .peer) log w c
   call-counted (call.Inward inw.Receive) s datagram x log w c =
-      still-counted (x .peer) (receives s (x .peer) .after) log (receive-still s (x .peer)) c
+      unreported-counted (x .peer) (receives s (x .peer) .after) log (receive-unreported s (x .peer)) c
 
   run-rises : (calls : List Asked) (x : State) (log : List ℕ) → Whole (x .peer) → Counted (x .peer) log → Rises 0 (reports channel calls x log)
   unfolding reports
