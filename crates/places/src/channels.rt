@@ -9,10 +9,10 @@ ghost use Rattle.places.specs.Whole.{whole, recordLength};
 ghost use Rattle.places.specs.Updates.{channelAt, numbersOf};
 use crate::CHANNEL_WIDTH;
 use crate::CHANNELS;
-use crate::groups::low16;
-use crate::groups::wide16;
 use numbers::counters::Reliable;
 use numbers::counters::Unreliable;
+use numbers::widths::low16;
+use numbers::widths::wide16;
 
 // A channel without its list.
 pub struct Numbers {

@@ -1,7 +1,7 @@
 // The pools as numbers that the caller lends. An outgoing slot has 26: nine of its own, its command's row of 16, its fields' kind. An incoming slot has six.
 ghost use mathlib.Core.Path.{_≡_};
 ghost use mathlib.Core.List.{map};
-ghost use Prim.Native.Nat.{_+_, _*_, _%_, _≤_, _<_};
+ghost use Prim.Native.Nat.{_+_, _*_, _≤_, _<_};
 ghost use lib.ListN.{length, drop, getD, set};
 ghost use lib.Seq.{paste};
 ghost use Rattle.record.specs.Lists.{outgoing};
@@ -14,6 +14,8 @@ use command::fields::Fields;
 use command::rows;
 use numbers::counters::Reliable;
 use numbers::counters::Unreliable;
+use numbers::widths::low16;
+use numbers::widths::low8;
 use record::INCOMING;
 use record::OUTGOING;
 use record::groups::ITSELF;
@@ -41,18 +43,6 @@ pub fn copy(to: &mut [u32], at: usize, from: &[u32], place: usize, count: usize)
         to[at + i] = from[place + i];
         i = i + 1;
     }
-}
-
-fn low16(x: u32) -> u16
-    ensures { λ r. ⌜ r ≡ x % 65536 ⌝ }
-{
-    (x % 65536) as u16
-}
-
-fn low8(x: u32) -> u8
-    ensures { λ r. ⌜ r ≡ x % 256 ⌝ }
-{
-    (x % 256) as u8
 }
 
 fn flag_of(b: bool) -> u32
