@@ -9,7 +9,7 @@ ghost use Rattle.record.specs.Damage.{ranged};
 ghost use Rattle.peer.specs.Damage.{sound};
 ghost use Rattle.peer.specs.Gate.{fits, gateOf};
 ghost use Rattle.places.specs.Whole.{whole, recordLength};
-use numbers::consts;
+use numbers::limits;
 use numbers::refusals::Refusal;
 use peer::gate::Gate;
 use peer::gate::Lent;
@@ -61,10 +61,7 @@ pub fn ask(words: &[u32], settings: Settings, lent: Lent) -> Gate
 fn ranged(mtu: u32, count: u32) -> bool
     ensures { λ r. ⌜ r ≡ ranged mtu count ⌝ }
 {
-    if mtu < consts::PROTOCOL_MINIMUM_MTU {
-        return false;
-    }
-    if consts::PROTOCOL_MAXIMUM_MTU < mtu {
+    if !limits::mtu_fits(mtu) {
         return false;
     }
     count as usize <= CHANNELS

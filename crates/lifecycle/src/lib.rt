@@ -10,8 +10,8 @@ ghost use Rattle.peer.specs.Fresh.{freshIds, freshPeer};
 ghost use Rattle.peer.specs.Updates.{withGroups};
 ghost use Rattle.places.specs.Whole.{whole, recordLength};
 ghost use Rattle.lifecycle.specs.Updates.{withIds, withLimits, withReserved};
-use numbers::consts;
 use numbers::counters::Reliable;
+use numbers::limits;
 use numbers::refusals::Refusal;
 use numbers::widths::low16;
 use numbers::widths::low8;
@@ -33,10 +33,7 @@ use record::groups::Waiting;
 fn begin_fits(mtu: u32, count: u32, already: u32) -> bool
     ensures { λ r. ⌜ r ≡ beginFits mtu count already ⌝ }
 {
-    if mtu < consts::PROTOCOL_MINIMUM_MTU {
-        return false;
-    }
-    if consts::PROTOCOL_MAXIMUM_MTU < mtu {
+    if !limits::mtu_fits(mtu) {
         return false;
     }
     if count < 1 {

@@ -12,7 +12,7 @@ use lib.Seq.{getD-set-same, getD-set-other}
 use borrow.Author.Tests.{eqb-true, eqb-false, eq-eqb, ne-eqb, ltb-true}
 use Rattle.numbers.specs.Pick.{pick, both}
 use Rattle.numbers.specs.Modulo.{minus}
-use Rattle.numbers.specs.Limits.{leastMtu, mostMtu}
+use Rattle.numbers.specs.Limits.{mtuFits}
 use Rattle.numbers.specs.Counters.{step}
 use Rattle.numbers.specs.declared.counters.Reliable.{Reliable}
 use Rattle.numbers.specs.declared.clock.Trip.{Trip}
@@ -343,7 +343,7 @@ begin-counted s mtu count p c is k =
         → Counted c is (pick b (finished (begun mtu count p)) (unchanged OutOfRange p) .after)
     go true e =
         let zero-now = both-right (leb count channels) _
-        (both-right (leb 1 count) _ (both-right (leb mtu mostMtu) _ (both-right (leb leastMtu mtu) _ e))) in
+        (both-right (leb 1 count) _ (both-right (mtuFits mtu) _ e)) in
         begun-counted c is mtu count p (eqb-true (p .standing .channels) 0 zero-now) k
     go false e = k
 

@@ -12,7 +12,7 @@ use Rattle.record.specs.declared.groups.Lists.{Lists}
 use Rattle.record.specs.declared.groups.Channel.{Channel}
 use Rattle.record.specs.declared.groups.Outgoing.{Outgoing}
 use Rattle.record.specs.declared.groups.Incoming.{Incoming}
-use Rattle.numbers.specs.Limits.{leastMtu, mostMtu}
+use Rattle.numbers.specs.Limits.{mtuFits}
 use Rattle.record.specs.Sizes.{channels, itself, cell}
 use Rattle.record.specs.Fresh.{noOutgoing, noIncoming}
 
@@ -39,7 +39,7 @@ usedIn l cs = inItems (l .dispatched) ++ held cs
 
 -- "MTU or channel count (0 to 8) out of range"
 abbrev pub ranged : ℕ → ℕ → Bool
-ranged mtu count = both (leb leastMtu mtu) (both (leb mtu mostMtu) (leb count channels))
+ranged mtu count = both (mtuFits mtu) (leb count channels)
 
 -- "a list is longer than its pool"
 unfoldable pub heldFit : List Channel → Bool
