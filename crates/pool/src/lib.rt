@@ -9,8 +9,6 @@ ghost use Rattle.record.specs.Fresh.{noOutgoing, noIncoming};
 ghost use Rattle.record.specs.Updates.{withAttempt};
 ghost use Rattle.damage.specs.CodeOutWalks.{slotGrade};
 ghost use Rattle.pool.specs.Slots.{width, poolLength, inPoolLength, flag, slotFrom, slotsOf, briefOf, inWidth, inSlotFrom, inSlotsOf, wordsOf, kindFrom, fitOf, gradeOf};
-use command::fields::Command;
-use command::fields::Fields;
 use command::rows;
 use numbers::counters::Reliable;
 use numbers::counters::Unreliable;
@@ -18,6 +16,8 @@ use numbers::widths::low16;
 use numbers::widths::low8;
 use record::INCOMING;
 use record::OUTGOING;
+use record::fresh::NO_INCOMING;
+use record::fresh::NO_OUTGOING;
 use record::groups::ITSELF;
 use record::groups::Incoming;
 use record::groups::Outgoing;
@@ -127,35 +127,6 @@ fn words(slot: Outgoing) -> [u32; WIDTH]
     part
 }
 
-fn no_outgoing() -> Outgoing
-    ensures { λ r. ⌜ r ≡ noOutgoing ⌝ }
-{
-    let zero = Reliable(0);
-    let fields = Fields::Acknowledge {
-        number: zero,
-        time: 0,
-    };
-    let command = Command {
-        byte: 0,
-        channel: 0,
-        number: zero,
-        fields,
-    };
-    let unreliable = Unreliable(0);
-    Outgoing {
-        reliable: zero,
-        unreliable,
-        sent: 0,
-        timeout: 0,
-        queued: 0,
-        offset: 0,
-        length: 0,
-        attempts: 0,
-        packet: false,
-        command,
-    }
-}
-
 fn no_brief() -> Brief
     ensures { λ r. ⌜ r ≡ briefOf noOutgoing ⌝ }
 {
@@ -172,27 +143,13 @@ fn no_brief() -> Brief
     }
 }
 
-fn no_incoming() -> Incoming
-    ensures { λ r. ⌜ r ≡ noIncoming ⌝ }
-{
-    let number = Reliable(0);
-    Incoming {
-        byte: 0,
-        channel: 0,
-        number,
-        fragments: 0,
-        remaining: 0,
-        length: 0,
-    }
-}
-
 // Slot i; past the pool's end an empty one.
 pub fn slot_at(pool: &[u32], i: usize) -> Outgoing
     requires { ⌜ length (now pool) ≡ poolLength ⌝ }
     ensures { λ r. ⌜ r ≡ getD (slotsOf (now (pool .entry))) i noOutgoing ⌝ }
 {
     if OUTGOING <= i {
-        return no_outgoing();
+        return NO_OUTGOING;
     }
     let mut part = [0u32; WIDTH];
     copy(&mut part, 0, pool, i * WIDTH, WIDTH);
@@ -290,7 +247,7 @@ pub fn in_slot_at(pool: &[u32], i: usize) -> Incoming
     ensures { λ r. ⌜ r ≡ getD (inSlotsOf (now (pool .entry))) i noIncoming ⌝ }
 {
     if INCOMING <= i {
-        return no_incoming();
+        return NO_INCOMING;
     }
     let at = i * IN_WIDTH;
     let end = at + IN_WIDTH;
