@@ -19,7 +19,8 @@ use Rattle.peer.specs.States.{lastState}
 use Rattle.peer.specs.Settings.{fitSettings}
 use Rattle.numbers.specs.Limits.{mtuFits}
 use Rattle.numbers.specs.declared.refusals.Refusal.the-variants.{OutOfRange}
-use Rattle.record.specs.Sizes.{channels, itself, cell}
+use Rattle.record.specs.Sizes.{channels, cell}
+use Rattle.record.specs.Channels.{isItself, onChannel}
 use Rattle.record.specs.Fresh.{noLists, noChannel, noOutgoing, noIncoming}
 use Rattle.peer.specs.Fresh.{freshPeer}
 use Rattle.record.specs.Damage.{ranged, listsFit, heldFit, held, below, all, own, lengths, outFit, inFit, tried, outSound, inSound, usedOut}
@@ -113,10 +114,10 @@ out-more slots count s e = both-true (namesFields c) _ (both-left (namesFields c
     c : Command
     c = getD slots s noOutgoing .command
 
-    own-channel : eqb (c .channel) itself ≡ true
-    own-channel = simp (none-below (c .channel)) at (both-right (namesFields c) (pick (ltb (c .channel) 0) true (eqb (c .channel) itself)) e)
+    own-channel : isItself (c .channel) ≡ true
+    own-channel = simp (none-below (c .channel)) at (both-right (namesFields c) (onChannel (c .channel) 0) e)
 
-    go : (b : Bool) → pick b true (eqb (c .channel) itself) ≡ true
+    go : (b : Bool) → pick b true (isItself (c .channel)) ≡ true
     go true = refl
     go false = own-channel
 

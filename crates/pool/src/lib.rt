@@ -16,9 +16,9 @@ use numbers::widths::low16;
 use numbers::widths::low8;
 use record::INCOMING;
 use record::OUTGOING;
+use record::channels::on_channel;
 use record::fresh::NO_INCOMING;
 use record::fresh::NO_OUTGOING;
-use record::groups::ITSELF;
 use record::groups::Incoming;
 use record::groups::Outgoing;
 
@@ -297,11 +297,7 @@ fn fit_of(byte: u32, channel: u32, kind: u32, count: u32) -> bool
     if byte % 256 % 16 != kind_from(kind) {
         return false;
     }
-    let c = channel % 256;
-    if c < count {
-        return true;
-    }
-    c == ITSELF as u32
+    on_channel(low8(channel), count)
 }
 
 // What a slot with these numbers is good for: 0 nothing, 1 a list, 2 the sent list too.

@@ -19,6 +19,7 @@ use Rattle.numbers.specs.declared.clock.Trip.{Trip}
 use Rattle.numbers.specs.declared.clock.Trip.the-variants.{PassedOver, Taken}
 use Rattle.numbers.specs.declared.refusals.Refusal.the-variants.{OutOfRange}
 use Rattle.numbers.proofs.BoolLaws.{both-right}
+use Rattle.record.specs.Channels.{isItself, onChannel}
 use Rattle.record.specs.Lists.{outItems}
 use Rattle.cells.specs.Runs.{first}
 use Rattle.cells.specs.declared.First.{First}
@@ -43,11 +44,10 @@ use Rattle.peer.proofs.Gates.{behind-has}
 use Rattle.peer.proofs.Ranges.{count-high}
 use Rattle.lifecycle.specs.Calls.{beginFits, begun, beginsSound, begins}
 use Rattle.command.specs.Flags.{acknowledged, unsequenced}
-use Rattle.outbox.specs.Counting.{isItself, groupStep, unreliableStep, countersAfter, reliableOf, channelAt, countersAt, numbered}
+use Rattle.outbox.specs.Counting.{groupStep, unreliableStep, countersAfter, reliableOf, channelAt, countersAt, numbered}
 use Rattle.outbox.specs.declared.counting.Counters.{Counters}
 use Rattle.outbox.specs.declared.pieces.Piece.{Piece}
 use Rattle.setup.specs.Queueing.{stampOf, made, queuedAt, queued, queuedAll}
-use Rattle.setup.specs.Calls.{onChannel}
 use Rattle.setup.specs.Taking.{Ready, filled}
 use Rattle.setup.proofs.Sound.{fit-on, queued-standing}
 use Rattle.setup.proofs.Taking.{queued-at}

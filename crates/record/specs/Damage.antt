@@ -4,7 +4,7 @@ use mathlib.Core.Bool.{Bool, true}
 use mathlib.Core.List.{List, [], _∷_, _++_}
 use lib.Dec.{leb, ltb, eqb}
 use lib.ListN.{getD, take}
-use Rattle.numbers.specs.Pick.{pick, both}
+use Rattle.numbers.specs.Pick.{both}
 use Rattle.command.specs.Rows.{namesFields}
 use Rattle.record.specs.Lists.{outgoing, incoming, outItems, inItems}
 use Rattle.cells.specs.Free.{exist, once}
@@ -13,7 +13,8 @@ use Rattle.record.specs.declared.groups.Channel.{Channel}
 use Rattle.record.specs.declared.groups.Outgoing.{Outgoing}
 use Rattle.record.specs.declared.groups.Incoming.{Incoming}
 use Rattle.numbers.specs.Limits.{mtuFits}
-use Rattle.record.specs.Sizes.{channels, itself, cell}
+use Rattle.record.specs.Sizes.{channels, cell}
+use Rattle.record.specs.Channels.{onChannel}
 use Rattle.record.specs.Fresh.{noOutgoing, noIncoming}
 
 -- every slot of a list passes a test
@@ -56,7 +57,7 @@ listsFit l =
 abbrev pub outFit : List Outgoing → ℕ → ℕ → Bool
 outFit slots count s =
     let c = getD slots s noOutgoing .command in
-    both (namesFields c) (pick (ltb (c .channel) count) true (eqb (c .channel) itself))
+    both (namesFields c) (onChannel (c .channel) count)
 
 -- "a sent command with 0 attempts"
 abbrev pub tried : List Outgoing → ℕ → Bool

@@ -1,4 +1,5 @@
 // The parts of a peer's record: its groups, and the lists of slot numbers, one type for each pool (the linked lists of the source).
+pub mod channels;
 pub mod flags;
 pub mod fresh;
 pub mod groups;
