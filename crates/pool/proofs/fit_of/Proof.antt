@@ -17,7 +17,9 @@ on-channel-requires : tie.Need-on-channel-requires
 on-channel-requires c κs = search needs
 
 returns-2 : tie.Need-returns-2
-returns-2 c = ?
+returns-2 c =
+    let low = c .before in
+    rw (c .on-channel .ensures, low .low8 .ensures, ← low .before .before .kind-from .ensures, eq-eqb _ _ (low .before .if1 .left))
 
 pub fit-of-spec : {M : Type 1} → statement M
 fit-of-spec = tie.close (tie.spec kind-from-requires returns low8-requires on-channel-requires returns-2)
