@@ -11,6 +11,7 @@ ghost use Rattle.peer.specs.Gate.{fits, gateOf};
 ghost use Rattle.places.specs.Whole.{whole, recordLength};
 use numbers::limits;
 use numbers::refusals::Refusal;
+use numbers::widths::low16;
 use peer::gate::Gate;
 use peer::gate::Lent;
 use peer::settings::Settings;
@@ -26,7 +27,7 @@ const MTU: usize = 39;
 fn narrow(x: u32) -> usize
     ensures { λ r. ⌜ r ≡ low x ⌝ }
 {
-    (x % 65536) as usize
+    low16(x) as usize
 }
 
 fn is_fit(settings: Settings, lent: Lent) -> bool
