@@ -18,7 +18,12 @@ same-length : tie.Need-same-length
 same-length c = search needs
 
 returns : tie.Need-returns
-returns c = ?
+returns c =
+    let put = c .before .before in
+    let set = put .before in
+    let read = set .before .before in
+    let a = read .before .before .before .args in
+    flag-put (whole (a .words .now)) (whole (put .put-flags .last .0)) (read .flags .result) (set .flag-set .result) (read .flags .ensures) (set .flag-set .ensures) (put .put-flags .ensures)
 
 pub flag-spec : {M : Type 1} → statement M
 flag-spec = tie.close (tie.spec flags-requires flag-set-requires put-flags-requires same-length returns)
