@@ -7,8 +7,8 @@ use crate::fields::Command;
 use crate::fields::Connect;
 use crate::fields::Fields;
 use crate::fields::Fragment;
-use numbers::widths::wide16;
 use numbers::widths::wide8;
+use numbers::widths::wide16;
 
 // The number that the fields' variant has in public ENet.
 pub fn kind_of(f: Fields) -> u8

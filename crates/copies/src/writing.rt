@@ -10,8 +10,8 @@ ghost use Rattle.peer.specs.Updates.{rebuilt, withLists, withChannels, withOutg
 ghost use Rattle.places.specs.Updates.{withIncoming};
 ghost use Rattle.places.specs.Whole.{whole, recordLength, outListFrom, inListFrom};
 ghost use Rattle.places.specs.Updates.{withFixed};
-use numbers::widths::wide16;
 use numbers::widths::wide8;
+use numbers::widths::wide16;
 use peer::Peer;
 use places::channels;
 use places::groups;

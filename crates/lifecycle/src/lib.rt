@@ -13,10 +13,10 @@ ghost use Rattle.lifecycle.specs.Updates.{withIds, withLimits, withReser
 use numbers::counters::Reliable;
 use numbers::limits;
 use numbers::refusals::Refusal;
-use numbers::widths::low16;
 use numbers::widths::low8;
-use numbers::widths::wide16;
+use numbers::widths::low16;
 use numbers::widths::wide8;
+use numbers::widths::wide16;
 use peer::Peer;
 use peer::calls::Reply;
 use peer::defaults::Kept;

@@ -1,7 +1,7 @@
 // The pools as numbers that the caller lends. An outgoing slot has 26: nine of its own, its command's row of 16, its fields' kind. An incoming slot has six.
 ghost use mathlib.Core.Path.{_≡_};
 ghost use mathlib.Core.List.{map};
-ghost use Prim.Native.Nat.{_+_, _*_, _≤_, _<_};
+ghost use Prim.Native.Nat.{_+_, _≤_, _<_};
 ghost use lib.ListN.{length, drop, getD, set};
 ghost use lib.Seq.{paste};
 ghost use Rattle.record.specs.Lists.{outgoing};
@@ -12,8 +12,8 @@ ghost use Rattle.pool.specs.Slots.{width, poolLength, inPoolLength, flag
 use command::rows;
 use numbers::counters::Reliable;
 use numbers::counters::Unreliable;
-use numbers::widths::low16;
 use numbers::widths::low8;
+use numbers::widths::low16;
 use record::INCOMING;
 use record::OUTGOING;
 use record::channels::on_channel;

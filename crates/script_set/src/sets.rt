@@ -6,8 +6,8 @@ ghost use Rattle.script_set.specs.Sets.{numberFits, cellFits, channelFit
 use command::fields::Command;
 use numbers::counters::Reliable;
 use numbers::counters::Unreliable;
-use numbers::widths::low16;
 use numbers::widths::low8;
+use numbers::widths::low16;
 use record::INCOMING;
 use record::OUTGOING;
 use record::groups::CHANNELS;

@@ -14,8 +14,8 @@ use command::layout;
 use numbers::counters::Group;
 use numbers::counters::Reliable;
 use numbers::counters::Unreliable;
-use numbers::widths::low16;
 use numbers::widths::low8;
+use numbers::widths::low16;
 
 pub enum Built {
     Done(Command),
