@@ -7,6 +7,8 @@ use crate::fields::Command;
 use crate::fields::Connect;
 use crate::fields::Fields;
 use crate::fields::Fragment;
+use numbers::widths::wide8;
+use numbers::widths::wide16;
 
 // The number that the fields' variant has in public ENet.
 pub fn kind_of(f: Fields) -> u8
@@ -158,16 +160,4 @@ fn fragment_row(start: u16, g: Fragment) -> [u32; 16]
         0,
         0,
     ]
-}
-
-fn wide8(x: u8) -> u32
-    ensures { λ r. ⌜ r ≡ x ⌝ }
-{
-    x as u32
-}
-
-fn wide16(x: u16) -> u32
-    ensures { λ r. ⌜ r ≡ x ⌝ }
-{
-    x as u32
 }

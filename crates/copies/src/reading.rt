@@ -1,12 +1,14 @@
 // The record that the numbers mean, by value.
 ghost use mathlib.Core.Path.{_≡_};
 ghost use mathlib.Core.List.{map};
-ghost use Prim.Native.Nat.{_+_, _≤_, _<_, _%_};
+ghost use Prim.Native.Nat.{_+_, _≤_, _<_};
 ghost use lib.ListN.{length};
 ghost use Rattle.lists.specs.Rows.{low, section, rowAt};
 ghost use Rattle.record.specs.Sizes.{channels};
 ghost use Rattle.places.specs.Updates.{channelAt};
 ghost use Rattle.places.specs.Whole.{whole, recordLength, outListFrom, inListFrom};
+use numbers::widths::low8;
+use numbers::widths::low16;
 use peer::Peer;
 use places::channels;
 use places::groups;
@@ -23,18 +25,6 @@ use record::groups::Lists;
 use record::groups::Outgoing;
 use record::incoming::InList;
 use record::outgoing::OutList;
-
-fn low16(x: u32) -> u16
-    ensures { λ r. ⌜ r ≡ x % 65536 ⌝ }
-{
-    (x % 65536) as u16
-}
-
-fn low8(x: u32) -> u8
-    ensures { λ r. ⌜ r ≡ x % 256 ⌝ }
-{
-    (x % 256) as u8
-}
 
 fn ids(words: &[u32]) -> Ids
     requires { ⌜ length (now words) ≡ recordLength ⌝ }

@@ -10,6 +10,8 @@ ghost use Rattle.peer.specs.Updates.{rebuilt, withLists, withChannels, withOutg
 ghost use Rattle.places.specs.Updates.{withIncoming};
 ghost use Rattle.places.specs.Whole.{whole, recordLength, outListFrom, inListFrom};
 ghost use Rattle.places.specs.Updates.{withFixed};
+use numbers::widths::wide8;
+use numbers::widths::wide16;
 use peer::Peer;
 use places::channels;
 use places::groups;
@@ -34,20 +36,6 @@ use record::groups::Totals;
 use record::groups::Trips;
 use record::incoming::InList;
 use record::outgoing::OutList;
-
-fn wide16(x: u16) -> u32
-    ensures is { λ r. ⌜ r ≡ x ⌝ }
-    ensures low { λ r. ⌜ x < 65536 ⌝ }
-{
-    x as u32
-}
-
-fn wide8(x: u8) -> u32
-    ensures is { λ r. ⌜ r ≡ x ⌝ }
-    ensures low { λ r. ⌜ x < 256 ⌝ }
-{
-    x as u32
-}
 
 fn put_ids(words: &mut [u32], x: Ids)
     requires { ⌜ length (now words) ≡ recordLength ⌝ }

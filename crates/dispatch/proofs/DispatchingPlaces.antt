@@ -1,7 +1,7 @@
 -- The changes of a dispatch on the lent record, one after the other, are the rule's record.
 -- The argument: each record on the way is a variable with its equation; what leaves the channel's list is what dispatched grew by; a channel that is
 -- altered twice is altered once.
-use Prim.Native.Nat.{ℕ, zero, suc, _+_, _-_, _%_, _≤_, _<_}
+use Prim.Native.Nat.{ℕ, zero, suc, _+_, _-_, _≤_}
 use mathlib.Core.Path.{_≡_, refl, ap, sym, _∙_}
 use mathlib.Core.Bool.{Bool, true, false}
 use mathlib.Core.List.{List, [], _∷_, _++_, map}
@@ -11,7 +11,6 @@ use lib.ListN.{length, getD, set, take, drop, length-take}
 use lib.Seq.{set-getD, take-take}
 use borrow.Author.Tests.{eq-eqb, ne-eqb}
 use Rattle.numbers.specs.Pick.{pick}
-use Rattle.numbers.specs.Bits.{withBit}
 use Rattle.numbers.specs.declared.counters.Reliable.{Reliable}
 use Rattle.cells.specs.Runs.{movedFrom, movedTo}
 use Rattle.cells.proofs.ListLaws.{moved-cut, moved-bounds}
@@ -28,11 +27,10 @@ use Rattle.peer.specs.declared.Peer.{Peer}
 use Rattle.places.specs.Updates.{channelAt}
 use Rattle.queues.specs.Queues.{heldOf, putHeld, putDispatched}
 use Rattle.dispatch.specs.Dispatching.{follows, numberAfter, readyCount, readyLast, movedOn}
-use Rattle.record.specs.Flags.{flagged}
+use Rattle.record.specs.Flags.{flagSet, flagged}
 use Rattle.dispatch.specs.Calls.{withDispatch, dispatchedOn}
 use Rattle.dispatch.specs.CodeDispatching.{shiftedOn}
 use Rattle.dispatch.specs.Dispatching.{Dispatched}
-use Rattle.record.proofs.FlagLaws.{bit-stays}
 
 -- no more are ready than the list names
 pub ready-low : (slots : List Incoming) (xs : List ℕ) (n : ℕ) → readyCount slots xs n ≤ length xs
@@ -56,9 +54,8 @@ set-again (x ∷ xs) zero a d f = refl
 set-again {A} (x ∷ xs) (suc i) a d f = ap (λ (ys : List A). x ∷ ys) (set-again xs i a d f)
 
 -- the flag
-pub flag-put : (p q : Peer) (f s : ℕ) → f < 65536 → f ≡ p .groups .flags → s ≡ withBit f 0 → q ≡ withGroups p (withFlags (p .groups) (s % 65536)) → q ≡ withGroups p (flagged (p .groups))
-flag-put p q f s h e is z =
-    z ∙ ap (λ (x : ℕ). withGroups p (withFlags (p .groups) x)) (ap (λ (x : ℕ). x % 65536) is ∙ bit-stays f h ∙ ap (λ (x : ℕ). withBit x 0) e)
+pub flag-put : (p q : Peer) (f s : ℕ) → f ≡ p .groups .flags → s ≡ flagSet f → q ≡ withGroups p (withFlags (p .groups) s) → q ≡ withGroups p (flagged (p .groups))
+flag-put p q f s e is z = z ∙ ap (λ (x : ℕ). withGroups p (withFlags (p .groups) x)) (is ∙ ap flagSet e)
 
 -- the first k of a list of cells are the first k that it names
 first-named : (l : InList) (k : ℕ) → k ≤ length (inItems l) → take k (l .slots) ≡ take k (inItems l)

@@ -11,7 +11,6 @@ ghost use Rattle.queues.specs.Queues.{heldOf};
 ghost use Rattle.record.specs.Flags.{flagged};
 ghost use Rattle.dispatch.specs.Calls.{dispatchedOn};
 ghost use Rattle.dispatch.specs.CodeDispatching.{shiftedOn};
-use numbers::bits;
 use numbers::counters::Reliable;
 use numbers::counters::Unreliable;
 use places::channels;
@@ -19,6 +18,7 @@ use places::groups;
 use places::pools;
 use queues::dispatched;
 use queues::held;
+use record::flags::flag_set;
 use record::groups::Incoming;
 
 // How many of a list may go, and the number that is then the last.
@@ -99,8 +99,7 @@ pub fn flag(words: &mut [u32])
     ensures { λ _. ⌜ whole (now (words .exit)) ≡ withGroups (whole (now (words .entry))) (flagged (whole (now (words .entry)) .groups)) ⌝ }
 {
     let flags = groups::flags(words);
-    let set = (bits::set(flags as u32, 0) % 65536) as u16;
-    groups::put_flags(words, set);
+    groups::put_flags(words, flag_set(flags));
 }
 
 // The records that are complete and follow one another go; nothing changes where there is none.

@@ -12,6 +12,7 @@ use command::fields::Command;
 use numbers::consts::UNSEQUENCED_WORDS;
 use numbers::counters::Group;
 use numbers::refusals::Refusal;
+use numbers::widths::wide8;
 use throttle::Throttle;
 use throttle::Turn;
 use window::Verdict;
@@ -170,8 +171,8 @@ fn word_at(s: &[u8], at: usize) -> u32
     requires { ⌜ at + 4 ≤ length (now s) ⌝ }
     ensures { λ r. ⌜ r ≡ numberAt (now (s .entry)) at 4 ⌝ }
 {
-    let high = wide(s[at]) * 256 + wide(s[at + 1]);
-    let low = wide(s[at + 2]) * 256 + wide(s[at + 3]);
+    let high = wide8(s[at]) * 256 + wide8(s[at + 1]);
+    let low = wide8(s[at + 2]) * 256 + wide8(s[at + 3]);
     high * 65536 + low
 }
 
@@ -184,10 +185,4 @@ fn put_word(out: &mut [u8], at: usize, x: u32)
     out[at + 1] = (x / 256 / 256 % 256) as u8;
     out[at + 2] = (x / 256 % 256) as u8;
     out[at + 3] = (x % 256) as u8;
-}
-
-fn wide(x: u8) -> u32
-    ensures { λ r. ⌜ (r ≡ x) × (r < 256) ⌝ }
-{
-    x as u32
 }

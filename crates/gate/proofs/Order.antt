@@ -8,7 +8,7 @@ use lib.Dec.{leb}
 use lib.ListN.{getD, replicate}
 use borrow.Author.Tests.{leb-true}
 use Rattle.numbers.specs.Pick.{both}
-use Rattle.numbers.specs.Limits.{leastMtu, mostMtu}
+use Rattle.numbers.specs.Limits.{mtuFits}
 use Rattle.numbers.proofs.BoolLaws.{both-right, both-assoc}
 use Rattle.record.specs.Lists.{outgoing, incoming}
 use Rattle.record.specs.Damage.{below, ranged, heldFit, inSound}
@@ -48,5 +48,4 @@ sound-at ws =
     ∙ ap (λ (n : ℕ). both (ranged (getD ws 39 0) n) (both (outSide n p) (inSide n p))) (count-is ws)
 
 pub count-low : (mtu count : ℕ) → ranged mtu count ≡ true → count ≤ 8
-count-low mtu count e =
-    leb-true count 8 (both-right (leb mtu mostMtu) (leb count 8) (both-right (leb leastMtu mtu) (both (leb mtu mostMtu) (leb count 8)) e))
+count-low mtu count e = leb-true count 8 (both-right (mtuFits mtu) (leb count 8) e)

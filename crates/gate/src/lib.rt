@@ -9,8 +9,9 @@ ghost use Rattle.record.specs.Damage.{ranged};
 ghost use Rattle.peer.specs.Damage.{sound};
 ghost use Rattle.peer.specs.Gate.{fits, gateOf};
 ghost use Rattle.places.specs.Whole.{whole, recordLength};
-use numbers::consts;
+use numbers::limits;
 use numbers::refusals::Refusal;
+use numbers::widths::low16;
 use peer::gate::Gate;
 use peer::gate::Lent;
 use peer::settings::Settings;
@@ -26,7 +27,7 @@ const MTU: usize = 39;
 fn narrow(x: u32) -> usize
     ensures { λ r. ⌜ r ≡ low x ⌝ }
 {
-    (x % 65536) as usize
+    low16(x) as usize
 }
 
 fn is_fit(settings: Settings, lent: Lent) -> bool
@@ -61,10 +62,7 @@ pub fn ask(words: &[u32], settings: Settings, lent: Lent) -> Gate
 fn ranged(mtu: u32, count: u32) -> bool
     ensures { λ r. ⌜ r ≡ ranged mtu count ⌝ }
 {
-    if mtu < consts::PROTOCOL_MINIMUM_MTU {
-        return false;
-    }
-    if consts::PROTOCOL_MAXIMUM_MTU < mtu {
+    if !limits::mtu_fits(mtu) {
         return false;
     }
     count as usize <= CHANNELS

@@ -13,6 +13,7 @@ use Rattle.numbers.specs.Modulo.{sum}
 use Rattle.numbers.specs.Counters.{step}
 use Rattle.numbers.specs.declared.counters.Reliable.{Reliable}
 use Rattle.numbers.specs.declared.counters.Unreliable.{Unreliable}
+use Rattle.record.specs.Channels.{isItself}
 use Rattle.record.specs.Lists.{outgoing}
 use Rattle.cells.specs.Free.{lowest}
 use Rattle.cells.specs.declared.Free.the-variants.{Lowest}
@@ -21,7 +22,7 @@ use Rattle.record.specs.Sizes.{channels, itself}
 use Rattle.record.specs.Damage.{usedOut}
 use Rattle.peer.specs.declared.Peer.{Peer}
 use Rattle.record.specs.declared.groups.Channel.{Channel}
-use Rattle.outbox.specs.Counting.{isItself, channelAt}
+use Rattle.outbox.specs.Counting.{channelAt}
 use Rattle.setup.specs.Queueing.{stampOf, queuedAt, queued}
 use Rattle.setup.specs.Taking.{filled, Ready}
 use Rattle.outbox.specs.declared.pieces.Piece.{Piece}

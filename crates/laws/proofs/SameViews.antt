@@ -6,11 +6,12 @@ use mathlib.Core.List.{List, [], _∷_, _++_, map, map-append}
 use Prim.Native.Nat.{ℕ, _+_}
 use lib.Dec.{leb, ltb, eqb}
 use lib.ListN.{getD}
-use Rattle.numbers.specs.Pick.{pick, both}
+use Rattle.numbers.specs.Pick.{both}
 use Rattle.command.specs.Rows.{namesFields}
 use Rattle.record.specs.Lists.{outgoing, incoming, outItems, inItems}
 use Rattle.cells.specs.Free.{exist, once}
-use Rattle.record.specs.Sizes.{itself, cell}
+use Rattle.record.specs.Sizes.{cell}
+use Rattle.record.specs.Channels.{onChannel}
 use Rattle.record.specs.Fresh.{noOutgoing, noIncoming}
 use Rattle.record.specs.Damage.{ranged, heldFit, held, below, all, own, lengths, outFit, inFit}
 use Rattle.peer.specs.Damage.{sound}
@@ -41,8 +42,7 @@ all-map t h (x ∷ xs) = rw (all-map t h xs)
 
 -- the clauses, on what is held
 abbrev commandFit : ℕ → Outgoing → Bool
-commandFit count o =
-    both (namesFields (o .command)) (pick (ltb (o .command .channel) count) true (eqb (o .command .channel) itself))
+commandFit count o = both (namesFields (o .command)) (onChannel (o .command .channel) count)
 
 abbrev triedOnce : Outgoing → Bool
 triedOnce o = leb 1 (o .attempts)
@@ -50,8 +50,8 @@ triedOnce o = leb 1 (o .attempts)
 abbrev arrivalFit : ℕ → Incoming → Bool
 arrivalFit count i = both (leb (i .length) cell) (ltb (i .channel) count)
 
-abbrev onChannel : ℕ → Incoming → Bool
-onChannel k i = eqb (i .channel) k
+abbrev ofChannel : ℕ → Incoming → Bool
+ofChannel k i = eqb (i .channel) k
 
 sumLengths : List Incoming → ℕ
 sumLengths [] = 0
@@ -76,7 +76,7 @@ heldShort (c ∷ cs) = both (leb (c .held .len) incoming) (heldShort cs)
 
 ownHeld : ℕ → List ChannelView → Bool
 ownHeld k [] = true
-ownHeld k (c ∷ cs) = both (alls (onChannel k) (c .held .slots)) (ownHeld (k + 1) cs)
+ownHeld k (c ∷ cs) = both (alls (ofChannel k) (c .held .slots)) (ownHeld (k + 1) cs)
 
 module _ (slots : List Incoming) where
   abbrev pub at : ℕ → Incoming
@@ -100,7 +100,7 @@ module _ (slots : List Incoming) where
   own-held : (k : ℕ) (cs : List Channel) → own slots k cs ≡ ownHeld k (map (channelView slots) cs)
   unfolding own ownHeld
   own-held k [] = refl
-  own-held k (c ∷ cs) = rw (own-held (k + 1) cs, all-map (onChannel k) at (inItems (c .held)))
+  own-held k (c ∷ cs) = rw (own-held (k + 1) cs, all-map (ofChannel k) at (inItems (c .held)))
 
 -- soundness by the view
 viewSound : View → Bool

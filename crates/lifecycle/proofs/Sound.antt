@@ -17,9 +17,10 @@ use Rattle.record.specs.Lists.{outgoing, incoming, outItems, inItems}
 use Rattle.cells.specs.Free.{exist, once}
 use Rattle.peer.specs.States.{lastState}
 use Rattle.peer.specs.Settings.{fitSettings}
-use Rattle.numbers.specs.Limits.{leastMtu, mostMtu}
+use Rattle.numbers.specs.Limits.{mtuFits}
 use Rattle.numbers.specs.declared.refusals.Refusal.the-variants.{OutOfRange}
-use Rattle.record.specs.Sizes.{channels, itself, cell}
+use Rattle.record.specs.Sizes.{channels, cell}
+use Rattle.record.specs.Channels.{isItself, onChannel}
 use Rattle.record.specs.Fresh.{noLists, noChannel, noOutgoing, noIncoming}
 use Rattle.peer.specs.Fresh.{freshPeer}
 use Rattle.record.specs.Damage.{ranged, listsFit, heldFit, held, below, all, own, lengths, outFit, inFit, tried, outSound, inSound, usedOut}
@@ -58,9 +59,9 @@ pub state-sounds : (s : Settings) (state : ℕ) → Sounds (setsState s state)
 state-sounds s state = gated-sounds s (setsStateSound state) (state-keeps state) (state-whole state)
 
 -- reset: nothing is held
-fresh-sound : (mtu : ℕ) (k : Kept) → leb leastMtu mtu ≡ true → leb mtu mostMtu ≡ true → sound (freshPeer mtu k) ≡ true
+fresh-sound : (mtu : ℕ) (k : Kept) → mtuFits mtu ≡ true → sound (freshPeer mtu k) ≡ true
 unfolding sound freshPeer noLists heldFit held all own lengths exist once
-fresh-sound mtu k low high = rw (low, high)
+fresh-sound mtu k fit = rw fit
 
 fresh-whole : (mtu : ℕ) (k : Kept) → Whole (freshPeer mtu k)
 unfolding freshPeer
@@ -71,11 +72,8 @@ fresh-whole mtu k =
       incoming = length-replicate incoming noIncoming;
     }
 
-fit-low : (s : Settings) → fitSettings s ≡ true → leb leastMtu (s .mtu) ≡ true
-fit-low s e = both-left _ _ e
-
-fit-high : (s : Settings) → fitSettings s ≡ true → leb (s .mtu) mostMtu ≡ true
-fit-high s e = both-left _ _ (both-right (leb leastMtu (s .mtu)) _ e)
+mtu-fit : (s : Settings) → fitSettings s ≡ true → mtuFits (s .mtu) ≡ true
+mtu-fit s e = both-left (mtuFits (s .mtu)) _ e
 
 pub reset-sounds : (s : Settings) → Sounds (resets s)
 reset-sounds s =
@@ -88,12 +86,12 @@ reset-sounds s =
     after : (p : Peer) (f : Bool) → fitSettings s ≡ f
         → pick f (finished (freshPeer (s .mtu) (kept p))) (unchanged OutOfRange p) .answer .number ≡ 0
         → sound (pick f (finished (freshPeer (s .mtu) (kept p))) (unchanged OutOfRange p) .after) ≡ true
-    after p true e n = fresh-sound (s .mtu) (kept p) (fit-low s e) (fit-high s e)
+    after p true e n = fresh-sound (s .mtu) (kept p) (mtu-fit s e)
     after p false e n = absurd (omega arith)
 
     keeps : (p : Peer) (f : Bool) → fitSettings s ≡ f → sound p ≡ true
         → sound (pick f (finished (freshPeer (s .mtu) (kept p))) (unchanged OutOfRange p) .after) ≡ true
-    keeps p true e h = fresh-sound (s .mtu) (kept p) (fit-low s e) (fit-high s e)
+    keeps p true e h = fresh-sound (s .mtu) (kept p) (mtu-fit s e)
     keeps p false e h = h
 
     whole : (p : Peer) → Whole p → (f : Bool) → Whole (pick f (finished (freshPeer (s .mtu) (kept p))) (unchanged OutOfRange p) .after)
@@ -116,10 +114,10 @@ out-more slots count s e = both-true (namesFields c) _ (both-left (namesFields c
     c : Command
     c = getD slots s noOutgoing .command
 
-    own-channel : eqb (c .channel) itself ≡ true
-    own-channel = simp (none-below (c .channel)) at (both-right (namesFields c) (pick (ltb (c .channel) 0) true (eqb (c .channel) itself)) e)
+    own-channel : isItself (c .channel) ≡ true
+    own-channel = simp (none-below (c .channel)) at (both-right (namesFields c) (onChannel (c .channel) 0) e)
 
-    go : (b : Bool) → pick b true (eqb (c .channel) itself) ≡ true
+    go : (b : Bool) → pick b true (isItself (c .channel)) ≡ true
     go true = refl
     go false = own-channel
 
@@ -150,7 +148,7 @@ module _ (slots : List Incoming) where
   own-none (suc n) (suc k) j = own-none n k (j + 1)
 
 module _ (mtu count : ℕ) (p : Peer) (h : sound p ≡ true) (none : p .standing .channels ≡ 0)
-    (low : leb leastMtu mtu ≡ true) (high : leb mtu mostMtu ≡ true) (few : leb count channels ≡ true) where
+    (fit : mtuFits mtu ≡ true) (few : leb count channels ≡ true) where
   -- what the record's soundness says, with no channel
   was : both (ranged (p .flow .mtu) 0)
       (both (both (listsFit (p .lists)) true)
@@ -199,7 +197,7 @@ module _ (mtu count : ℕ) (p : Peer) (h : sound p ≡ true) (none : p .standing
   begun-sound : sound (begun mtu count p) ≡ true
   unfolding sound now-held
   begun-sound =
-      both-true (ranged mtu count) _ (both-true (leb leastMtu mtu) _ low (both-true (leb mtu mostMtu) _ high few))
+      both-true (ranged mtu count) _ (both-true (mtuFits mtu) _ fit few)
       (both-true (both (listsFit (p .lists)) (heldFit now-held)) _ (both-true (listsFit (p .lists)) (heldFit now-held) lists (fit-none (p .incoming) channels count))
       (both-true (outSound (p .outgoing) (p .lists) count) (inSound (p .incoming) (p .lists) now-held count (p .waiting .total)) out inn))
 
@@ -208,11 +206,9 @@ begin-keeps mtu count p l h = go (beginFits mtu count (p .standing .channels)) r
   where
     go : (b : Bool) → beginFits mtu count (p .standing .channels) ≡ b → sound (pick b (finished (begun mtu count p)) (unchanged OutOfRange p) .after) ≡ true
     go true e =
-        let e₁ = both-right (leb leastMtu mtu) _ e in
-        let e₂ = both-right (leb mtu mostMtu) _ e₁ in
-        let e₃ = both-right (leb 1 count) _ e₂ in
-        begun-sound mtu count p h (eqb-true (p .standing .channels) 0 (both-right (leb count channels) _ e₃)) (both-left (leb leastMtu mtu) _ e)
-        (both-left (leb mtu mostMtu) _ e₁) (both-left (leb count channels) _ e₃)
+        let rest = both-right (leb 1 count) _ (both-right (mtuFits mtu) _ e) in
+        begun-sound mtu count p h (eqb-true (p .standing .channels) 0 (both-right (leb count channels) _ rest)) (both-left (mtuFits mtu) _ e)
+        (both-left (leb count channels) _ rest)
     go false e = h
 
 begin-whole : (mtu count : ℕ) (p : Peer) → Whole p → Whole (beginsSound mtu count p .after)

@@ -4,7 +4,7 @@ use mathlib.Core.Bool.{Bool}
 use lib.Dec.{leb, eqb}
 use lib.ListN.{replicate}
 use Rattle.numbers.specs.Pick.{pick, both}
-use Rattle.numbers.specs.Limits.{leastMtu, mostMtu}
+use Rattle.numbers.specs.Limits.{mtuFits}
 use Rattle.numbers.specs.declared.refusals.Refusal.the-variants.{OutOfRange}
 use Rattle.record.specs.Sizes.{channels}
 use Rattle.record.specs.Fresh.{noChannel}
@@ -35,8 +35,7 @@ resets s p = pick (fitSettings s) (finished (freshPeer (s .mtu) (kept p))) (unch
 
 -- "begin: bad MTU or channel count, or count not 0 already"
 abbrev pub beginFits : ℕ → ℕ → ℕ → Bool
-beginFits mtu count already =
-    both (leb leastMtu mtu) (both (leb mtu mostMtu) (both (leb 1 count) (both (leb count channels) (eqb already 0))))
+beginFits mtu count already = both (mtuFits mtu) (both (leb 1 count) (both (leb count channels) (eqb already 0)))
 
 -- "Begin sets MTU and channels of all 0 and touches neither base nor window."
 abbrev pub begun : ℕ → ℕ → Peer → Peer

@@ -1,7 +1,7 @@
 // Reset, begin, set state.
 ghost use mathlib.Core.Path.{_≡_};
 ghost use Rattle.lifecycle.specs.Calls.{beginFits, resets, begins, setsState, kept};
-ghost use Prim.Native.Nat.{_+_, _%_, _≤_, _<_};
+ghost use Prim.Native.Nat.{_+_, _≤_};
 ghost use lib.ListN.{length, replicate};
 ghost use lib.Seq.{paste};
 ghost use Rattle.peer.specs.Outcome.{Came};
@@ -10,9 +10,13 @@ ghost use Rattle.peer.specs.Fresh.{freshIds, freshPeer};
 ghost use Rattle.peer.specs.Updates.{withGroups};
 ghost use Rattle.places.specs.Whole.{whole, recordLength};
 ghost use Rattle.lifecycle.specs.Updates.{withIds, withLimits, withReserved};
-use numbers::consts;
 use numbers::counters::Reliable;
+use numbers::limits;
 use numbers::refusals::Refusal;
+use numbers::widths::low8;
+use numbers::widths::low16;
+use numbers::widths::wide8;
+use numbers::widths::wide16;
 use peer::Peer;
 use peer::calls::Reply;
 use peer::defaults::Kept;
@@ -29,10 +33,7 @@ use record::groups::Waiting;
 fn begin_fits(mtu: u32, count: u32, already: u32) -> bool
     ensures { λ r. ⌜ r ≡ beginFits mtu count already ⌝ }
 {
-    if mtu < consts::PROTOCOL_MINIMUM_MTU {
-        return false;
-    }
-    if consts::PROTOCOL_MAXIMUM_MTU < mtu {
+    if !limits::mtu_fits(mtu) {
         return false;
     }
     if count < 1 {
@@ -181,30 +182,4 @@ fn put_reserved(words: &mut [u32], x: u16)
     ensures { λ _. ⌜ whole (now (words .exit)) ≡ withGroups (whole (now (words .entry))) (withReserved (whole (now (words .entry)) .groups) x) ⌝ }
 {
     words[156] = wide16(x);
-}
-
-fn low8(x: u32) -> u8
-    ensures { λ r. ⌜ r ≡ x % 256 ⌝ }
-{
-    (x % 256) as u8
-}
-
-fn low16(x: u32) -> u16
-    ensures { λ r. ⌜ r ≡ x % 65536 ⌝ }
-{
-    (x % 65536) as u16
-}
-
-fn wide8(x: u8) -> u32
-    ensures is { λ r. ⌜ r ≡ x ⌝ }
-    ensures low { λ _. ⌜ x < 256 ⌝ }
-{
-    x as u32
-}
-
-fn wide16(x: u16) -> u32
-    ensures is { λ r. ⌜ r ≡ x ⌝ }
-    ensures low { λ _. ⌜ x < 65536 ⌝ }
-{
-    x as u32
 }

@@ -8,16 +8,7 @@ ghost use Rattle.cells.specs.Free.{markedAll};
 ghost use Rattle.lists.specs.Rows.{low, rowAt, itemsOf, Keeps};
 use cells::First;
 use cells::least;
-
-// How many numbers 16 bits have.
-const NUMBERS: u32 = 65536;
-
-// A length or a cell as it is read.
-fn low16(x: u32) -> u16
-    ensures { λ r. ⌜ r ≡ low x ⌝ }
-{
-    (x % NUMBERS) as u16
-}
+use numbers::widths::low16;
 
 // How many slots the list names: never more than its cells.
 pub fn count(words: &[u32], at: usize, size: usize) -> usize

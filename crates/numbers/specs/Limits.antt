@@ -1,11 +1,18 @@
 -- "Numbers that bound it", and the numbers of public ENet that the rules name.
 use Prim.Native.Nat.{ℕ}
+use mathlib.Core.Bool.{Bool}
+use lib.Dec.{leb}
+use Rattle.numbers.specs.Pick.{both}
 
 abbrev pub leastMtu : ℕ
 leastMtu = 576
 
 abbrev pub mostMtu : ℕ
 mostMtu = 4096
+
+-- "MTU | 576 to 4,096"
+abbrev pub mtuFits : ℕ → Bool
+mtuFits mtu = both (leb leastMtu mtu) (leb mtu mostMtu)
 
 abbrev pub mostFragments : ℕ
 mostFragments = 1048576

@@ -1,6 +1,5 @@
 -- Which counters a command steps, and which numbers it gets: the source's tests in the source's order.
 use Prim.Native.Nat.{ℕ}
-use mathlib.Core.Bool.{Bool}
 use mathlib.Core.List.{List}
 use lib.Dec.{eqb}
 use lib.ListN.{getD, set}
@@ -10,16 +9,12 @@ use Rattle.numbers.specs.declared.counters.Reliable.{Reliable}
 use Rattle.numbers.specs.declared.counters.Unreliable.{Unreliable}
 use Rattle.numbers.specs.declared.counters.Group.{Group}
 use Rattle.command.specs.Flags.{acknowledged, unsequenced}
-use Rattle.record.specs.Sizes.{itself}
+use Rattle.record.specs.Channels.{isItself}
 use Rattle.record.specs.Fresh.{noChannel}
 use Rattle.record.specs.Updates.{withNumbers}
 use Rattle.record.specs.declared.groups.Channel.{Channel}
 use Rattle.outbox.specs.declared.counting.Counters.{Counters}
 use Rattle.outbox.specs.declared.counting.Stamped.{Stamped}
-
--- "channel 255 is the peer itself"
-abbrev pub isItself : ℕ → Bool
-isItself channel = eqb channel itself
 
 -- the counters, one of them a step on
 abbrev pub ownStep : Counters → Counters

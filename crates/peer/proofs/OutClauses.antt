@@ -4,16 +4,16 @@ use Prim.Native.Nat.{ℕ, _≤_, _<_}
 use mathlib.Core.Path.{_≡_, ap, _∙_}
 use mathlib.Core.Bool.{Bool, true}
 use native.Mathlib.Omega.{arith}
-use lib.Dec.{leb, ltb, eqb}
+use lib.Dec.{leb}
 use lib.ListN.{getD}
-use Rattle.numbers.specs.Pick.{pick, both}
+use Rattle.numbers.specs.Pick.{both}
 use Rattle.numbers.proofs.BoolLaws.{both-left, both-right, both-true}
 use Rattle.command.specs.Rows.{namesFields}
 use Rattle.command.specs.declared.fields.Command.{Command}
 use Rattle.record.specs.Lists.{outgoing, incoming, outItems}
 use Rattle.record.specs.declared.outgoing.OutList.{OutList}
 use Rattle.record.proofs.Keeps.{times, once-less, exist-less}
-use Rattle.record.specs.Sizes.{itself}
+use Rattle.record.specs.Channels.{onChannel}
 use Rattle.record.specs.Fresh.{noOutgoing}
 use Rattle.record.specs.Damage.{listsFit, outFit, tried, usedOut}
 use Rattle.record.specs.declared.groups.Lists.{Lists}
@@ -53,8 +53,7 @@ module _ (p q : Peer) where
       (same : (k : ℕ) → getD (q .outgoing) k noOutgoing .command ≡ getD (p .outgoing) k noOutgoing .command)
       (tries : (k : ℕ) → 0 < times (outItems (q .lists .sent)) k → tried (q .outgoing) k ≡ true) where
     same-fit : (count k : ℕ) → outFit (q .outgoing) count k ≡ outFit (p .outgoing) count k
-    same-fit count k =
-        ap (λ (c : Command). both (namesFields c) (pick (ltb (c .channel) count) true (eqb (c .channel) itself))) (same k)
+    same-fit count k = ap (λ (c : Command). both (namesFields c) (onChannel (c .channel) count)) (same k)
 
     pub out-sound : sound q ≡ true
     out-sound =

@@ -3,24 +3,19 @@ ghost use mathlib.Core.Path.{_≡_};
 ghost use mathlib.Core.List.{[], _∷_};
 ghost use Rattle.peer.specs.Fresh.{freshPeer};
 use crate::Peer;
-use command::fields::Command;
-use command::fields::Fields;
 use numbers::consts;
 use numbers::counters::Group;
 use numbers::counters::Reliable;
-use numbers::counters::Unreliable;
 use record::INCOMING;
 use record::OUTGOING;
+use record::fresh;
 use record::groups::Bandwidth;
 use record::groups::CHANNELS;
-use record::groups::Channel;
 use record::groups::Flow;
 use record::groups::Ids;
-use record::groups::Incoming;
 use record::groups::Limits;
 use record::groups::Lists;
 use record::groups::Loss;
-use record::groups::Outgoing;
 use record::groups::Standing;
 use record::groups::Throttling;
 use record::groups::Times;
@@ -28,8 +23,6 @@ use record::groups::Totals;
 use record::groups::Trips;
 use record::groups::Unsequenced;
 use record::groups::Waiting;
-use record::incoming::InList;
-use record::outgoing::OutList;
 
 // What a reset keeps of the record.
 pub struct Kept {
@@ -166,10 +159,10 @@ impl Peer {
             own_number: Reliable(0),
         },
         lists: Lists {
-            sent: NO_OUT,
-            send_reliable: NO_OUT,
-            outgoing: NO_OUT,
-            dispatched: NO_IN,
+            sent: fresh::NO_OUT,
+            send_reliable: fresh::NO_OUT,
+            outgoing: fresh::NO_OUT,
+            dispatched: fresh::NO_IN,
         },
         groups: Unsequenced {
             flags: 0,
@@ -183,9 +176,9 @@ impl Peer {
             total: 0,
             queued: 0,
         },
-        channels: [NO_CHANNEL; CHANNELS],
-        outgoing: [NO_OUTGOING; OUTGOING],
-        incoming: [NO_INCOMING; INCOMING],
+        channels: [fresh::NO_CHANNEL; CHANNELS],
+        outgoing: [fresh::NO_OUTGOING; OUTGOING],
+        incoming: [fresh::NO_INCOMING; INCOMING],
     };
 
     // The reset record.
@@ -202,52 +195,3 @@ impl Peer {
         p
     }
 }
-
-const NO_OUT: OutList = OutList {
-    len: 0,
-    slots: [0; OUTGOING],
-};
-
-const NO_IN: InList = InList {
-    len: 0,
-    slots: [0; INCOMING],
-};
-
-// A channel of all 0.
-pub const NO_CHANNEL: Channel = Channel {
-    outgoing_reliable: Reliable(0),
-    outgoing_unreliable: Unreliable(0),
-    incoming_reliable: Reliable(0),
-    incoming_unreliable: Unreliable(0),
-    held: NO_IN,
-};
-
-const NO_OUTGOING: Outgoing = Outgoing {
-    reliable: Reliable(0),
-    unreliable: Unreliable(0),
-    sent: 0,
-    timeout: 0,
-    queued: 0,
-    offset: 0,
-    length: 0,
-    attempts: 0,
-    packet: false,
-    command: Command {
-        byte: 0,
-        channel: 0,
-        number: Reliable(0),
-        fields: Fields::Acknowledge {
-            number: Reliable(0),
-            time: 0,
-        },
-    },
-};
-
-const NO_INCOMING: Incoming = Incoming {
-    byte: 0,
-    channel: 0,
-    number: Reliable(0),
-    fragments: 0,
-    remaining: 0,
-    length: 0,
-};

@@ -37,14 +37,17 @@ row-held r row l m =
     ap (λ (s : List ℕ). channelFrom (paste s 4 row 13)) (four r (omega arith))
     ∙ ap (λ (s : List ℕ). withHeld (channelFrom r) (inListFrom s)) (paste-over (drop 4 r) row 13 rest ∙ take-all 13 row (omega arith))
 
-module _ (s : List ℕ) (x y : ℕ) (r : Reliable) (u : Unreliable) (m : length s ≡ 17) (ex : x ≡ r .0) (hx : r .0 < 65536) (ey : y ≡ u .0) (hy : u .0 < 65536) where
-  row-outgoing : channelFrom (paste s 0 (x ∷ y ∷ []) 2) ≡ withNumbers (channelFrom s) r u
-  unfolding channelFrom
-  row-outgoing = ap (λ (t : List ℕ). channelFrom (paste t 0 (x ∷ y ∷ []) 2)) (four s (omega arith)) ∙ rw (low x (r .0) ex hx, low y (u .0) ey hy)
+module _ (s : List ℕ) (r : Reliable) (u : Unreliable) (m : length s ≡ 17) (hr : r .0 < 65536) (hu : u .0 < 65536) where
+  abbrev two : List ℕ
+  two = r .0 ∷ u .0 ∷ []
 
-  row-incoming : channelFrom (paste s 2 (x ∷ y ∷ []) 2) ≡ withLast (channelFrom s) r u
+  row-outgoing : channelFrom (paste s 0 two 2) ≡ withNumbers (channelFrom s) r u
   unfolding channelFrom
-  row-incoming = ap (λ (t : List ℕ). channelFrom (paste t 2 (x ∷ y ∷ []) 2)) (four s (omega arith)) ∙ rw (low x (r .0) ex hx, low y (u .0) ey hy)
+  row-outgoing = ap (λ (t : List ℕ). channelFrom (paste t 0 two 2)) (four s (omega arith)) ∙ rw (low (r .0) (r .0) refl hr, low (u .0) (u .0) refl hu)
+
+  row-incoming : channelFrom (paste s 2 two 2) ≡ withLast (channelFrom s) r u
+  unfolding channelFrom
+  row-incoming = ap (λ (t : List ℕ). channelFrom (paste t 2 two 2)) (four s (omega arith)) ∙ rw (low (r .0) (r .0) refl hr, low (u .0) (u .0) refl hu)
 
 -- ---- the channels' part
 pub channels-is : (ws : List ℕ) → whole ws .channels ≡ channelsFrom (section 194 136 ws)
@@ -116,20 +119,20 @@ numbers-is ws i a b c d h l ea eb ec ed =
     ap numbersOf (channel-is ws l i h)
     ∙ rw (ea, eb, ec, ed, n0, channel-number ws l i h 1 (omega arith), channel-number ws l i h 2 (omega arith), channel-number ws l i h 3 (omega arith))
 
-module _ (ws : List ℕ) (i x y : ℕ) (r : Reliable) (u : Unreliable) (h : i < 8) (l : length ws ≡ 1234) (ex : x ≡ r .0) (hx : r .0 < 65536) (ey : y ≡ u .0) (hy : u .0 < 65536) where
+module _ (ws : List ℕ) (i : ℕ) (r : Reliable) (u : Unreliable) (h : i < 8) (l : length ws ≡ 1234) (hr : r .0 < 65536) (hu : u .0 < 65536) where
   -- two numbers, one by one: the channel that comes of it is `to` of what it was
-  pair : (to : Channel → Channel) (at k : ℕ) → at ≡ 194 + i * 17 + k → k + 2 ≤ 17 → channelFrom (paste (own ws l i h) k (x ∷ y ∷ []) 2) ≡ to (channelFrom (own ws l i h))
-      → whole (set (set ws at x) (at + 1) y) ≡ withChannels (whole ws) (set (whole ws .channels) i (to (channelAt (whole ws) i)))
+  pair : (to : Channel → Channel) (at k : ℕ) → at ≡ 194 + i * 17 + k → k + 2 ≤ 17 → channelFrom (paste (own ws l i h) k (r .0 ∷ u .0 ∷ []) 2) ≡ to (channelFrom (own ws l i h))
+      → whole (set (set ws at (r .0)) (at + 1) (u .0)) ≡ withChannels (whole ws) (set (whole ws .channels) i (to (channelAt (whole ws) i)))
   pair to at k e b is =
       let s : at + 1 ≡ suc at = omega arith in
-      ap (λ (n : ℕ). whole (set (set ws at x) n y)) s
-      ∙ ap whole (sets-eq (x ∷ y ∷ []) ws at (omega arith))
-      ∙ ap (λ (n : ℕ). whole (paste ws n (x ∷ y ∷ []) 2)) e
-      ∙ put-channel-part ws l i h k 2 (x ∷ y ∷ []) b refl
+      ap (λ (n : ℕ). whole (set (set ws at (r .0)) n (u .0))) s
+      ∙ ap whole (sets-eq (r .0 ∷ u .0 ∷ []) ws at (omega arith))
+      ∙ ap (λ (n : ℕ). whole (paste ws n (r .0 ∷ u .0 ∷ []) 2)) e
+      ∙ put-channel-part ws l i h k 2 (r .0 ∷ u .0 ∷ []) b refl
       ∙ ap (λ (c : Channel). withChannels (whole ws) (set (whole ws .channels) i c)) (is ∙ ap to (sym (channel-is ws l i h)))
 
-  pub put-outgoing-numbers : whole (set (set ws (194 + i * 17) x) (194 + i * 17 + 1) y) ≡ withChannels (whole ws) (set (whole ws .channels) i (withNumbers (channelAt (whole ws) i) r u))
-  put-outgoing-numbers = pair (λ (c : Channel). withNumbers c r u) (194 + i * 17) 0 (omega arith) (omega arith) (row-outgoing (own ws l i h) x y r u (own-length ws l i h) ex hx ey hy)
+  pub put-outgoing-numbers : whole (set (set ws (194 + i * 17) (r .0)) (194 + i * 17 + 1) (u .0)) ≡ withChannels (whole ws) (set (whole ws .channels) i (withNumbers (channelAt (whole ws) i) r u))
+  put-outgoing-numbers = pair (λ (c : Channel). withNumbers c r u) (194 + i * 17) 0 (omega arith) (omega arith) (row-outgoing (own ws l i h) r u (own-length ws l i h) hr hu)
 
-  pub put-incoming-numbers : whole (set (set ws (194 + i * 17 + 2) x) (194 + i * 17 + 2 + 1) y) ≡ withChannels (whole ws) (set (whole ws .channels) i (withLast (channelAt (whole ws) i) r u))
-  put-incoming-numbers = pair (λ (c : Channel). withLast c r u) (194 + i * 17 + 2) 2 refl (omega arith) (row-incoming (own ws l i h) x y r u (own-length ws l i h) ex hx ey hy)
+  pub put-incoming-numbers : whole (set (set ws (194 + i * 17 + 2) (r .0)) (194 + i * 17 + 2 + 1) (u .0)) ≡ withChannels (whole ws) (set (whole ws .channels) i (withLast (channelAt (whole ws) i) r u))
+  put-incoming-numbers = pair (λ (c : Channel). withLast c r u) (194 + i * 17 + 2) 2 refl (omega arith) (row-incoming (own ws l i h) r u (own-length ws l i h) hr hu)

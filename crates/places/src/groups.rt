@@ -1,6 +1,5 @@
 // The groups of the record, read from their places and written there: small structs by value.
 ghost use mathlib.Core.Path.{_≡_};
-ghost use Prim.Native.Nat.{_<_, _%_};
 ghost use lib.ListN.{length};
 ghost use Rattle.record.specs.Updates.{withFlags, withOutgoingGroup};
 ghost use Rattle.peer.specs.Updates.{withStanding, withTotals, withTimes, withLoss, withThrottling, withFlow, withGroups, withWaiting};
@@ -8,6 +7,8 @@ ghost use Rattle.places.specs.Whole.{whole, recordLength};
 ghost use Rattle.places.specs.Updates.{withTrips};
 use numbers::counters::Group;
 use numbers::counters::Reliable;
+use numbers::widths::low16;
+use numbers::widths::wide16;
 use record::groups::Flow;
 use record::groups::Limits;
 use record::groups::Loss;
@@ -17,19 +18,6 @@ use record::groups::Times;
 use record::groups::Totals;
 use record::groups::Trips;
 use record::groups::Waiting;
-
-pub(crate) fn low16(x: u32) -> u16
-    ensures { λ r. ⌜ r ≡ x % 65536 ⌝ }
-{
-    (x % 65536) as u16
-}
-
-pub(crate) fn wide16(x: u16) -> u32
-    ensures is { λ r. ⌜ r ≡ x ⌝ }
-    ensures low { λ r. ⌜ x < 65536 ⌝ }
-{
-    x as u32
-}
 
 pub fn standing(words: &[u32]) -> Standing
     requires { ⌜ length (now words) ≡ recordLength ⌝ }

@@ -5,10 +5,10 @@ ghost use Rattle.record.specs.Updates.{withWindow};
 ghost use Rattle.peer.specs.Updates.{withGroups};
 ghost use Rattle.places.specs.Whole.{whole, recordLength};
 use crate::WORDS;
-use crate::groups::low16;
-use crate::groups::wide16;
 use numbers::consts::UNSEQUENCED_WORDS;
 use numbers::counters::Group;
+use numbers::widths::low16;
+use numbers::widths::wide16;
 use record::groups::Unsequenced;
 
 // "The 32 words go in and come back as one array": the window's words with the flags and groups beside them.

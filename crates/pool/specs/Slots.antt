@@ -1,9 +1,9 @@
 -- The pools in the numbers that the caller lends. An outgoing slot has 26: nine of its own, its command's row of 16, its fields' kind.
 -- Any numbers are a pool: each is read modulo its width, and a kind that is none has the fields of an empty slot.
 use Prim.Native.Nat.{ℕ, _*_, _%_}
-use mathlib.Core.Bool.{Bool, true}
+use mathlib.Core.Bool.{Bool}
 use mathlib.Core.List.{List, [], _∷_, _++_}
-use lib.Dec.{leb, ltb, eqb}
+use lib.Dec.{leb, eqb}
 use lib.ListN.{getD, take, drop}
 use Rattle.numbers.specs.Pick.{pick, both}
 use Rattle.command.specs.Layout.{known}
@@ -11,7 +11,7 @@ use Rattle.command.specs.Bytes.{pad}
 use Rattle.command.specs.Rows.{kindOf, rowOf}
 use Rattle.wire.specs.Decoded.{decoded}
 use Rattle.record.specs.Lists.{outgoing, incoming}
-use Rattle.record.specs.Sizes.{itself}
+use Rattle.record.specs.Channels.{onChannel}
 use Rattle.record.specs.declared.groups.Outgoing.{Outgoing}
 use Rattle.record.specs.declared.groups.Incoming.{Incoming}
 use Rattle.pool.specs.declared.Brief.{Brief}
@@ -91,7 +91,7 @@ abbrev pub kindFrom : ℕ → ℕ
 kindFrom k = pick (known k) k 1
 
 abbrev pub fitOf : ℕ → ℕ → ℕ → ℕ → Bool
-fitOf byte channel kind count = both (eqb (byte % 256 % 16) (kindFrom kind)) (pick (ltb (channel % 256) count) true (eqb (channel % 256) itself))
+fitOf byte channel kind count = both (eqb (byte % 256 % 16) (kindFrom kind)) (onChannel (channel % 256) count)
 
 abbrev pub gradeOf : ℕ → ℕ → ℕ → ℕ → ℕ → ℕ
 gradeOf byte channel kind attempts count = pick (fitOf byte channel kind count) (pick (leb 1 (attempts % 65536)) 2 1) 0

@@ -1,7 +1,7 @@
 // The pools as numbers that the caller lends. An outgoing slot has 26: nine of its own, its command's row of 16, its fields' kind. An incoming slot has six.
 ghost use mathlib.Core.Path.{_≡_};
 ghost use mathlib.Core.List.{map};
-ghost use Prim.Native.Nat.{_+_, _*_, _%_, _≤_, _<_};
+ghost use Prim.Native.Nat.{_+_, _≤_, _<_};
 ghost use lib.ListN.{length, drop, getD, set};
 ghost use lib.Seq.{paste};
 ghost use Rattle.record.specs.Lists.{outgoing};
@@ -9,14 +9,16 @@ ghost use Rattle.record.specs.Fresh.{noOutgoing, noIncoming};
 ghost use Rattle.record.specs.Updates.{withAttempt};
 ghost use Rattle.damage.specs.CodeOutWalks.{slotGrade};
 ghost use Rattle.pool.specs.Slots.{width, poolLength, inPoolLength, flag, slotFrom, slotsOf, briefOf, inWidth, inSlotFrom, inSlotsOf, wordsOf, kindFrom, fitOf, gradeOf};
-use command::fields::Command;
-use command::fields::Fields;
 use command::rows;
 use numbers::counters::Reliable;
 use numbers::counters::Unreliable;
+use numbers::widths::low8;
+use numbers::widths::low16;
 use record::INCOMING;
 use record::OUTGOING;
-use record::groups::ITSELF;
+use record::channels::on_channel;
+use record::fresh::NO_INCOMING;
+use record::fresh::NO_OUTGOING;
 use record::groups::Incoming;
 use record::groups::Outgoing;
 
@@ -41,18 +43,6 @@ pub fn copy(to: &mut [u32], at: usize, from: &[u32], place: usize, count: usize)
         to[at + i] = from[place + i];
         i = i + 1;
     }
-}
-
-fn low16(x: u32) -> u16
-    ensures { λ r. ⌜ r ≡ x % 65536 ⌝ }
-{
-    (x % 65536) as u16
-}
-
-fn low8(x: u32) -> u8
-    ensures { λ r. ⌜ r ≡ x % 256 ⌝ }
-{
-    (x % 256) as u8
 }
 
 fn flag_of(b: bool) -> u32
@@ -137,35 +127,6 @@ fn words(slot: Outgoing) -> [u32; WIDTH]
     part
 }
 
-fn no_outgoing() -> Outgoing
-    ensures { λ r. ⌜ r ≡ noOutgoing ⌝ }
-{
-    let zero = Reliable(0);
-    let fields = Fields::Acknowledge {
-        number: zero,
-        time: 0,
-    };
-    let command = Command {
-        byte: 0,
-        channel: 0,
-        number: zero,
-        fields,
-    };
-    let unreliable = Unreliable(0);
-    Outgoing {
-        reliable: zero,
-        unreliable,
-        sent: 0,
-        timeout: 0,
-        queued: 0,
-        offset: 0,
-        length: 0,
-        attempts: 0,
-        packet: false,
-        command,
-    }
-}
-
 fn no_brief() -> Brief
     ensures { λ r. ⌜ r ≡ briefOf noOutgoing ⌝ }
 {
@@ -182,27 +143,13 @@ fn no_brief() -> Brief
     }
 }
 
-fn no_incoming() -> Incoming
-    ensures { λ r. ⌜ r ≡ noIncoming ⌝ }
-{
-    let number = Reliable(0);
-    Incoming {
-        byte: 0,
-        channel: 0,
-        number,
-        fragments: 0,
-        remaining: 0,
-        length: 0,
-    }
-}
-
 // Slot i; past the pool's end an empty one.
 pub fn slot_at(pool: &[u32], i: usize) -> Outgoing
     requires { ⌜ length (now pool) ≡ poolLength ⌝ }
     ensures { λ r. ⌜ r ≡ getD (slotsOf (now (pool .entry))) i noOutgoing ⌝ }
 {
     if OUTGOING <= i {
-        return no_outgoing();
+        return NO_OUTGOING;
     }
     let mut part = [0u32; WIDTH];
     copy(&mut part, 0, pool, i * WIDTH, WIDTH);
@@ -300,7 +247,7 @@ pub fn in_slot_at(pool: &[u32], i: usize) -> Incoming
     ensures { λ r. ⌜ r ≡ getD (inSlotsOf (now (pool .entry))) i noIncoming ⌝ }
 {
     if INCOMING <= i {
-        return no_incoming();
+        return NO_INCOMING;
     }
     let at = i * IN_WIDTH;
     let end = at + IN_WIDTH;
@@ -350,11 +297,7 @@ fn fit_of(byte: u32, channel: u32, kind: u32, count: u32) -> bool
     if byte % 256 % 16 != kind_from(kind) {
         return false;
     }
-    let c = channel % 256;
-    if c < count {
-        return true;
-    }
-    c == ITSELF as u32
+    on_channel(low8(channel), count)
 }
 
 // What a slot with these numbers is good for: 0 nothing, 1 a list, 2 the sent list too.

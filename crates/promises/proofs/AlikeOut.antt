@@ -13,6 +13,8 @@ use Rattle.numbers.specs.Pick.{pick}
 use Rattle.numbers.specs.declared.refusals.Refusal.the-variants.{OutOfRange}
 use Rattle.numbers.specs.Modulo.{sum}
 use Rattle.throttle.specs.Throttling.{byTests}
+use Rattle.record.specs.Channels.{isItself, onChannel}
+use Rattle.record.proofs.ChannelLaws.{itself-on}
 use Rattle.record.specs.Lists.{outgoing, outItems}
 use Rattle.record.specs.declared.outgoing.OutList.{OutList}
 use Rattle.record.proofs.Views.{out-items-keep}
@@ -56,14 +58,14 @@ use Rattle.lifecycle.specs.Calls.{beginFits, begun, beginsSound, begins, stated
 use Rattle.round_trip.specs.Interval.{throttleOf, throttled}
 use Rattle.round_trip.specs.Calls as throttling
 use Rattle.round_trip.specs.declared.Reply.the-variants as vr
-use Rattle.outbox.specs.Counting.{isItself, channelAt, stamped}
+use Rattle.outbox.specs.Counting.{channelAt, stamped}
 use Rattle.outbox.specs.Pieces.{slotOf, grown, toReliable, listsWith}
 use Rattle.outbox.specs.declared.counting.Counters.{Counters}
 use Rattle.outbox.specs.declared.counting.Stamped.{Stamped}
 use Rattle.outbox.specs.declared.pieces.Piece.{Piece}
 use Rattle.setup.specs.Queueing.{room, stampOf, made, queuedAt, queuedIn, queued, queuedAll}
 use Rattle.setup.specs.Taking.{allFit}
-use Rattle.setup.specs.Calls.{onChannel, setupGate, setsUpSound, setsUp}
+use Rattle.setup.specs.Calls.{setupGate, setsUpSound, setsUp}
 use Rattle.setup.proofs.Sound.{queued-whole, fit-on, fit-rest, setup-open}
 use Rattle.packets.specs.Packets.{fragmentLength, whole, cutBy, startOf, pieces}
 use Rattle.packets.specs.Refusals.{sendGate, queueGate}
@@ -273,14 +275,6 @@ abbrev commandsBy : ℕ → ℕ → ℕ → ℕ → ChannelView → List Piece
 commandsBy size channel long flags v =
     pick (leb long size) (whole flags (v .outgoingUnreliable) channel long ∷ [])
     (pieces (cutBy (startOf flags (v .outgoingReliable) (v .outgoingUnreliable)) channel long size))
-
--- 255 is always one
-itself-on : (count : ℕ) → onChannel itself count ≡ true
-itself-on count = go (ltb itself count)
-  where
-    go : (b : Bool) → pick b true (isItself itself) ≡ true
-    go true = refl
-    go false = refl
 
 module _ (p q : Peer) (k : Like p q) where
   -- behind any gate that is the same on both

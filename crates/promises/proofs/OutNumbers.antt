@@ -12,13 +12,14 @@ use lib.Seq.{getD-set-same, getD-set-other}
 use borrow.Author.Tests.{eqb-true, eqb-false, eq-eqb, ne-eqb, ltb-true}
 use Rattle.numbers.specs.Pick.{pick, both}
 use Rattle.numbers.specs.Modulo.{minus}
-use Rattle.numbers.specs.Limits.{leastMtu, mostMtu}
+use Rattle.numbers.specs.Limits.{mtuFits}
 use Rattle.numbers.specs.Counters.{step}
 use Rattle.numbers.specs.declared.counters.Reliable.{Reliable}
 use Rattle.numbers.specs.declared.clock.Trip.{Trip}
 use Rattle.numbers.specs.declared.clock.Trip.the-variants.{PassedOver, Taken}
 use Rattle.numbers.specs.declared.refusals.Refusal.the-variants.{OutOfRange}
 use Rattle.numbers.proofs.BoolLaws.{both-right}
+use Rattle.record.specs.Channels.{isItself, onChannel}
 use Rattle.record.specs.Lists.{outItems}
 use Rattle.cells.specs.Runs.{first}
 use Rattle.cells.specs.declared.First.{First}
@@ -43,11 +44,10 @@ use Rattle.peer.proofs.Gates.{behind-has}
 use Rattle.peer.proofs.Ranges.{count-high}
 use Rattle.lifecycle.specs.Calls.{beginFits, begun, beginsSound, begins}
 use Rattle.command.specs.Flags.{acknowledged, unsequenced}
-use Rattle.outbox.specs.Counting.{isItself, groupStep, unreliableStep, countersAfter, reliableOf, channelAt, countersAt, numbered}
+use Rattle.outbox.specs.Counting.{groupStep, unreliableStep, countersAfter, reliableOf, channelAt, countersAt, numbered}
 use Rattle.outbox.specs.declared.counting.Counters.{Counters}
 use Rattle.outbox.specs.declared.pieces.Piece.{Piece}
 use Rattle.setup.specs.Queueing.{stampOf, made, queuedAt, queued, queuedAll}
-use Rattle.setup.specs.Calls.{onChannel}
 use Rattle.setup.specs.Taking.{Ready, filled}
 use Rattle.setup.proofs.Sound.{fit-on, queued-standing}
 use Rattle.setup.proofs.Taking.{queued-at}
@@ -343,7 +343,7 @@ begin-counted s mtu count p c is k =
         → Counted c is (pick b (finished (begun mtu count p)) (unchanged OutOfRange p) .after)
     go true e =
         let zero-now = both-right (leb count channels) _
-        (both-right (leb 1 count) _ (both-right (leb mtu mostMtu) _ (both-right (leb leastMtu mtu) _ e))) in
+        (both-right (leb 1 count) _ (both-right (mtuFits mtu) _ e)) in
         begun-counted c is mtu count p (eqb-true (p .standing .channels) 0 zero-now) k
     go false e = k
 

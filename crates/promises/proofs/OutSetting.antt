@@ -2,15 +2,14 @@
 -- The argument: what is behind their gates is fit to be set up, and there is room for it.
 use Prim.Native.Nat.{ℕ}
 use mathlib.Core.Path.{_≡_, refl, ap, subst, _∙_}
-use mathlib.Core.Bool.{Bool, true, false}
+use mathlib.Core.Bool.{Bool, true}
 use mathlib.Core.List.{List, [], _∷_}
-use lib.Dec.{ltb}
 use lib.ListN.{length}
 use borrow.Author.Tests.{leb-true}
-use Rattle.numbers.specs.Pick.{pick}
 use Rattle.numbers.proofs.BoolLaws.{both-true}
 use Rattle.command.specs.Rows.{namesFields}
-use Rattle.record.specs.Sizes.{itself}
+use Rattle.record.specs.Channels.{onChannel}
+use Rattle.record.proofs.ChannelLaws.{itself-on}
 use Rattle.peer.specs.Damage.{sound}
 use Rattle.peer.specs.Gate.{fits, gateOf}
 use Rattle.peer.specs.Outcome.{Outcome, finished}
@@ -20,11 +19,10 @@ use Rattle.peer.specs.declared.Peer.{Peer}
 use Rattle.peer.specs.declared.gate.Lent.the-variants as lent
 use Rattle.peer.specs.declared.gate.Gate.{Gate}
 use Rattle.peer.proofs.Gates.{sound-open, behind-has, behind-open}
-use Rattle.outbox.specs.Counting.{isItself}
 use Rattle.outbox.specs.Pieces.{toReliable}
 use Rattle.outbox.specs.declared.pieces.Piece.{Piece}
 use Rattle.setup.specs.Queueing.{room, queued, queuedAll}
-use Rattle.setup.specs.Calls.{onChannel, setupGate, setsUpSound, setsUp}
+use Rattle.setup.specs.Calls.{setupGate, setsUpSound, setsUp}
 use Rattle.setup.specs.Taking.{allFit, Ready, taken}
 use Rattle.setup.proofs.Sound.{setup-open}
 use Rattle.packets.specs.Refusals.{sendGate, queueGate}
@@ -77,13 +75,6 @@ setup-queues s x p whole =
       few = leb-true 1 (room p) (f .1);
     }))))
 
-ping-on : (count : ℕ) → onChannel itself count ≡ true
-ping-on count = go (ltb itself count)
-  where
-    go : (b : Bool) → pick b true (isItself itself) ≡ true
-    go true = refl
-    go false = refl
-
 pub ping-queues : (s : Settings) (p : Peer) → Whole p → Queues p (pings s p .after)
 ping-queues s p whole =
     behind-has (gate s p) p (pingsSound p) (After p) (λ why. none refl)
@@ -94,7 +85,7 @@ ping-queues s p whole =
     (record {
       whole = whole;
       good = sound-open (fits s lent.Nothing) (sound p) e;
-      fit = one-fit pingPiece (p .standing .channels) (ping-on (p .standing .channels)) refl;
+      fit = one-fit pingPiece (p .standing .channels) (itself-on (p .standing .channels)) refl;
       few = ping-some p own;
     }))))
 

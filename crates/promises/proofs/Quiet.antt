@@ -9,7 +9,7 @@ use lib.Dec.{leb}
 use lib.ListN.{length, take}
 use borrow.Author.Tests.{eqb-true}
 use Rattle.numbers.specs.Pick.{pick}
-use Rattle.numbers.specs.Limits.{leastMtu, mostMtu}
+use Rattle.numbers.specs.Limits.{mtuFits}
 use Rattle.numbers.specs.declared.clock.Trip.{Trip}
 use Rattle.numbers.specs.declared.clock.Trip.the-variants.{PassedOver, Taken}
 use Rattle.numbers.specs.declared.refusals.Refusal.the-variants.{OutOfRange}
@@ -86,7 +86,7 @@ begin-still s mtu count p = on-still s p (beginsSound mtu count p) (go (beginFit
     go : (b : Bool) → beginFits mtu count (p .standing .channels) ≡ b → Still p (pick b (finished (begun mtu count p)) (unchanged OutOfRange p) .after)
     go true e =
         let zero-now = both-right (leb count channels) _
-        (both-right (leb 1 count) _ (both-right (leb mtu mostMtu) _ (both-right (leb leastMtu mtu) _ e))) in
+        (both-right (leb 1 count) _ (both-right (mtuFits mtu) _ e)) in
         record {
           slots = refl;
           items = refl;

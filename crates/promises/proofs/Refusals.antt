@@ -24,6 +24,7 @@ use Rattle.numbers.specs.declared.refusals.Refusal.the-variants.{NotReceiving, 
 use Rattle.cells.specs.Runs.{first, isEmpty}
 use Rattle.cells.specs.declared.First.{First}
 use Rattle.cells.specs.declared.First.the-variants.{Slot, Empty}
+use Rattle.record.specs.Channels.{onChannel}
 use Rattle.record.specs.Lists.{outItems, inItems}
 use Rattle.record.specs.Damage.{usedOut}
 use Rattle.record.specs.declared.groups.Lists.{Lists}
@@ -41,7 +42,7 @@ use Rattle.peer.specs.declared.gate.Lent.the-variants.{Nothing, Store}
 use Rattle.peer.specs.declared.gate.Gate.{Gate}
 use Rattle.peer.specs.declared.gate.Gate.the-variants.{Open, Shut}
 use Rattle.lifecycle.specs.Calls.{resets, beginFits, begins, setsState}
-use Rattle.setup.specs.Calls.{onChannel, setupGate, setsUp}
+use Rattle.setup.specs.Calls.{setupGate, setsUp}
 use Rattle.setup.specs.Queueing.{room}
 use Rattle.packets.specs.Refusals.{sendGate, queueGate}
 use Rattle.send.specs.Calls.{fragment, commands, sends}

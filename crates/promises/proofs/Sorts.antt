@@ -13,7 +13,7 @@ use borrow.Author.Tests.{eqb-true, ne-eqb}
 use Rattle.numbers.specs.Pick.{pick, both}
 use Rattle.numbers.specs.Counters.{step}
 use Rattle.numbers.specs.declared.counters.Group.{Group}
-use Rattle.numbers.specs.Limits.{leastMtu, mostMtu}
+use Rattle.numbers.specs.Limits.{mtuFits}
 use Rattle.numbers.specs.declared.clock.Trip.{Trip}
 use Rattle.numbers.specs.declared.clock.Trip.the-variants.{PassedOver, Taken}
 use Rattle.numbers.specs.declared.refusals.Refusal.the-variants.{OutOfRange, NotReceiving, LengthTooLarge, BadCommand}
@@ -493,7 +493,7 @@ begin-at s mtu count p =
     go : (b : Bool) → beginFits mtu count (p .standing .channels) ≡ b → Begins p (pick b (finished (begun mtu count p)) (unchanged OutOfRange p))
     go true e =
         let none = eqb-true (p .standing .channels) 0
-        (both-right (leb count channels) _ (both-right (leb 1 count) _ (both-right (leb mtu mostMtu) _ (both-right (leb leastMtu mtu) _ e)))) in
+        (both-right (leb count channels) _ (both-right (leb 1 count) _ (both-right (mtuFits mtu) _ e))) in
         record { at = λ d. none; before = λ z. none }
     go false e = record { at = λ d. absurd (omega (arith, d)); before = λ z. z }
 

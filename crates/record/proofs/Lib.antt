@@ -1,3 +1,4 @@
+pub mod ChannelLaws
 pub mod FlagLaws
 pub mod Views
 pub mod Keeps

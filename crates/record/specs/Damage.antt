@@ -4,7 +4,7 @@ use mathlib.Core.Bool.{Bool, true}
 use mathlib.Core.List.{List, [], _∷_, _++_}
 use lib.Dec.{leb, ltb, eqb}
 use lib.ListN.{getD, take}
-use Rattle.numbers.specs.Pick.{pick, both}
+use Rattle.numbers.specs.Pick.{both}
 use Rattle.command.specs.Rows.{namesFields}
 use Rattle.record.specs.Lists.{outgoing, incoming, outItems, inItems}
 use Rattle.cells.specs.Free.{exist, once}
@@ -12,8 +12,9 @@ use Rattle.record.specs.declared.groups.Lists.{Lists}
 use Rattle.record.specs.declared.groups.Channel.{Channel}
 use Rattle.record.specs.declared.groups.Outgoing.{Outgoing}
 use Rattle.record.specs.declared.groups.Incoming.{Incoming}
-use Rattle.numbers.specs.Limits.{leastMtu, mostMtu}
-use Rattle.record.specs.Sizes.{channels, itself, cell}
+use Rattle.numbers.specs.Limits.{mtuFits}
+use Rattle.record.specs.Sizes.{channels, cell}
+use Rattle.record.specs.Channels.{onChannel}
 use Rattle.record.specs.Fresh.{noOutgoing, noIncoming}
 
 -- every slot of a list passes a test
@@ -39,7 +40,7 @@ usedIn l cs = inItems (l .dispatched) ++ held cs
 
 -- "MTU or channel count (0 to 8) out of range"
 abbrev pub ranged : ℕ → ℕ → Bool
-ranged mtu count = both (leb leastMtu mtu) (both (leb mtu mostMtu) (leb count channels))
+ranged mtu count = both (mtuFits mtu) (leb count channels)
 
 -- "a list is longer than its pool"
 unfoldable pub heldFit : List Channel → Bool
@@ -56,7 +57,7 @@ listsFit l =
 abbrev pub outFit : List Outgoing → ℕ → ℕ → Bool
 outFit slots count s =
     let c = getD slots s noOutgoing .command in
-    both (namesFields c) (pick (ltb (c .channel) count) true (eqb (c .channel) itself))
+    both (namesFields c) (onChannel (c .channel) count)
 
 -- "a sent command with 0 attempts"
 abbrev pub tried : List Outgoing → ℕ → Bool

@@ -1,4 +1,5 @@
 pub mod Sizes
+pub mod Channels
 pub mod Fresh
 pub mod Rows
 pub mod Updates

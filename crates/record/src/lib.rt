@@ -1,5 +1,7 @@
 // The parts of a peer's record: its groups, and the lists of slot numbers, one type for each pool (the linked lists of the source).
+pub mod channels;
 pub mod flags;
+pub mod fresh;
 pub mod groups;
 pub mod incoming;
 pub mod marks;

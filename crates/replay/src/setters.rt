@@ -1,9 +1,9 @@
 // Ops 20 to 24: the bench's own changes of the record, sound or not. The frame was seen to fit.
+use numbers::widths::low16;
 use peer::Peer;
 use record::groups::CHANNELS;
 use record::groups::Channel;
 use record::groups::Lists;
-use script::frames;
 use script::frames::Frame;
 use script_set::cells;
 use script_set::pools;
@@ -48,7 +48,7 @@ fn lists(f: Frame, l: Lists) -> Lists {
     if f.op != 21 {
         return l;
     }
-    cells::lists(f.n0, f.n1, frames::short(f.n2), l)
+    cells::lists(f.n0, f.n1, low16(f.n2), l)
 }
 
 // The channels' lists are 8 to 15.
@@ -57,7 +57,7 @@ fn channel(f: Frame, c: Channel) -> Channel {
         return values::channel(f.n1, f.n2, c);
     }
     if f.op == 21 && 8 <= f.n0 {
-        return cells::held(f.n1, frames::short(f.n2), c);
+        return cells::held(f.n1, low16(f.n2), c);
     }
     c
 }

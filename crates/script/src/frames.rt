@@ -1,6 +1,6 @@
 // Frames: op, count, numbers of 4 bytes, length in 2 bytes, bytes; all big-endian. The input buffer has one at its start.
 ghost use mathlib.Core.Path.{_≡_};
-ghost use Prim.Native.Nat.{_+_, _%_, _<_};
+ghost use Prim.Native.Nat.{_+_, _<_};
 ghost use Rattle.script.specs.Frames.{byteAt, pairAt, numberAt, lengthPlace, partOf, bytesOf};
 use libc::STDIN_FILENO;
 use libc::STDOUT_FILENO;
@@ -139,18 +139,4 @@ fn is_read(input: &mut [u8], from: u32, end: u32) -> bool {
         return io::read_full(STDIN_FILENO, &mut input[a..b]) == b - a;
     }
     false
-}
-
-// A number that was seen to fit a byte.
-pub fn byte(x: u32) -> u8
-    ensures { λ r. ⌜ r ≡ x % 256 ⌝ }
-{
-    (x % 256) as u8
-}
-
-// A number that was seen to fit 16 bits.
-pub fn short(x: u32) -> u16
-    ensures { λ r. ⌜ r ≡ x % 65536 ⌝ }
-{
-    (x % 65536) as u16
 }

@@ -6,18 +6,19 @@ use command::fields::Command;
 use link::calls::Call;
 use numbers::counters::Group;
 use numbers::counters::Reliable;
+use numbers::widths::low8;
+use numbers::widths::low16;
 use outbox::pieces::Piece;
-use script::frames;
 use script::frames::Frame;
 use send_step::heads::Queue;
 
 fn arrival_of(f: Frame, length: u32, place: u32) -> Arrival
     ensures { λ r. ⌜ r ≡ arrivalOf f length place ⌝ }
 {
-    let number = Reliable(frames::short(f.n2));
+    let number = Reliable(low16(f.n2));
     Arrival {
-        byte: frames::byte(f.n0),
-        channel: frames::byte(f.n1),
+        byte: low8(f.n0),
+        channel: low8(f.n1),
         number,
         length,
         place,
@@ -31,7 +32,7 @@ fn piece_of(f: Frame, command: Command) -> Piece
         command,
         packet: f.n4 == 1,
         offset: f.n5,
-        length: frames::short(f.n6),
+        length: low16(f.n6),
     }
 }
 
@@ -51,11 +52,11 @@ fn second(f: Frame) -> Call
     let op = f.op;
     match op {
         8 => {
-            let number = Reliable(frames::short(f.n1));
+            let number = Reliable(low16(f.n1));
             let call = link_out::calls::Call::Acknowledgement {
-                channel: frames::byte(f.n0),
+                channel: low8(f.n0),
                 number,
-                sent: frames::short(f.n2),
+                sent: low16(f.n2),
                 clock: f.n3,
             };
             Call::Outward(call)
@@ -65,7 +66,7 @@ fn second(f: Frame) -> Call
             Call::Outward(call)
         }
         10 => {
-            let group = Group(frames::short(f.n3));
+            let group = Group(low16(f.n3));
             let arrival = arrival_of(f, f.n4, f.n5);
             let call = link_in::calls::Call::UnsequencedArrival { arrival, group };
             Call::Inward(call)
@@ -77,7 +78,7 @@ fn second(f: Frame) -> Call
         }
         12 => {
             let call = link_in::calls::Call::Dispatch {
-                channel: frames::byte(f.n0),
+                channel: low8(f.n0),
             };
             Call::Inward(call)
         }
@@ -110,7 +111,7 @@ pub fn call_of(f: Frame, command: Command) -> Call
         }
         5 => {
             let call = link_out::calls::Call::Send {
-                channel: frames::byte(f.n0),
+                channel: low8(f.n0),
                 length: f.n1,
                 flags: f.n2,
             };

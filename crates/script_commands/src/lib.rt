@@ -10,6 +10,7 @@ ghost use Rattle.script_commands.specs.Commands.{rowAt, builtAt, isDone,
 use command::fields::Command;
 use command::fields::Fields;
 use numbers::counters::Reliable;
+use numbers::widths::wide8;
 use script::frames;
 use script::line;
 use script::row::Row;
@@ -116,11 +117,7 @@ fn listed(buffer: &[u8; 64], end: usize) {
     line::value(0);
     let mut i = 0;
     while i < 64 && i < end {
-        line::value(wide(buffer[i]));
+        line::value(wide8(buffer[i]));
         i += 1;
     }
-}
-
-fn wide(x: u8) -> u32 {
-    x as u32
 }

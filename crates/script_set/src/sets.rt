@@ -6,12 +6,13 @@ ghost use Rattle.script_set.specs.Sets.{numberFits, cellFits, channelFit
 use command::fields::Command;
 use numbers::counters::Reliable;
 use numbers::counters::Unreliable;
+use numbers::widths::low8;
+use numbers::widths::low16;
 use record::INCOMING;
 use record::OUTGOING;
 use record::groups::CHANNELS;
 use record::groups::Incoming;
 use record::groups::Outgoing;
-use script::frames;
 use script::frames::Frame;
 
 fn number_fits(which: u32, x: u32) -> bool
@@ -78,8 +79,8 @@ pub fn outgoing(f: Frame, command: Command) -> Outgoing
     ensures { λ r. ⌜ r .packet ≡ eqb (f .n9) 1 ⌝ }
     ensures { λ r. ⌜ r .command ≡ command ⌝ }
 {
-    let reliable = Reliable(frames::short(f.n1));
-    let unreliable = Unreliable(frames::short(f.n2));
+    let reliable = Reliable(low16(f.n1));
+    let unreliable = Unreliable(low16(f.n2));
     Outgoing {
         reliable,
         unreliable,
@@ -87,8 +88,8 @@ pub fn outgoing(f: Frame, command: Command) -> Outgoing
         timeout: f.n4,
         queued: f.n5,
         offset: f.n6,
-        length: frames::short(f.n7),
-        attempts: frames::short(f.n8),
+        length: low16(f.n7),
+        attempts: low16(f.n8),
         packet: f.n9 == 1,
         command,
     }
@@ -103,10 +104,10 @@ pub fn incoming(f: Frame) -> Incoming
     ensures { λ r. ⌜ r .remaining ≡ f .n5 ⌝ }
     ensures { λ r. ⌜ r .length ≡ f .n6 ⌝ }
 {
-    let number = Reliable(frames::short(f.n3));
+    let number = Reliable(low16(f.n3));
     Incoming {
-        byte: frames::byte(f.n1),
-        channel: frames::byte(f.n2),
+        byte: low8(f.n1),
+        channel: low8(f.n2),
         number,
         fragments: f.n4,
         remaining: f.n5,

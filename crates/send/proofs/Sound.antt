@@ -26,11 +26,11 @@ use Rattle.peer.proofs.Gates.{openness, behind-has}
 use Rattle.peer.specs.declared.settings.Settings.{Settings}
 use Rattle.peer.specs.declared.Peer.{Peer}
 use Rattle.numbers.specs.declared.refusals.Refusal.the-variants.{NotConnected, InvalidChannel, PacketTooLarge, FragmentsExceeded, FailedToQueue}
+use Rattle.record.specs.Channels.{onChannel}
 use Rattle.record.specs.declared.groups.Standing.{Standing}
 use Rattle.record.specs.declared.groups.Channel.{Channel}
 use Rattle.outbox.specs.Counting.{channelAt}
 use Rattle.setup.specs.Queueing.{room, queuedAll}
-use Rattle.setup.specs.Calls.{onChannel}
 use Rattle.setup.specs.Taking.{allFit, Ready}
 use Rattle.outbox.specs.declared.pieces.Piece.{Piece}
 use Rattle.peer.proofs.Sound.{gated-sounds}

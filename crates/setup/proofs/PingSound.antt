@@ -1,11 +1,8 @@
 -- Soundness through a ping: done, the record is sound, and a sound one stays so.
 -- The argument: a ping is the peer's own, and its byte names its fields, so that setup's laws keep soundness.
-use Prim.Native.Nat.{ℕ}
 use mathlib.Core.Path.{_≡_, refl}
-use mathlib.Core.Bool.{Bool, true, false}
-use lib.Dec.{ltb}
-use Rattle.numbers.specs.Pick.{pick}
-use Rattle.record.specs.Sizes.{itself}
+use mathlib.Core.Bool.{true}
+use Rattle.record.proofs.ChannelLaws.{itself-on}
 use Rattle.peer.specs.Damage.{sound}
 use Rattle.peer.specs.Outcome.{Outcome, finished}
 use Rattle.peer.specs.Sounds.{Whole, Sounds}
@@ -13,24 +10,15 @@ use Rattle.peer.specs.declared.settings.Settings.{Settings}
 use Rattle.peer.specs.declared.Peer.{Peer}
 use Rattle.peer.proofs.Gates.{behind-has}
 use Rattle.peer.proofs.Sound.{gated-sounds}
-use Rattle.outbox.specs.Counting.{isItself}
 use Rattle.setup.specs.Queueing.{room, queued}
-use Rattle.setup.specs.Calls.{onChannel}
 use Rattle.setup.proofs.Sound.{queued-sound, queued-whole}
 use Rattle.setup.specs.Pings.{pingPiece, pingGate, pingsSound, pings}
-
-ping-on : (count : ℕ) → onChannel itself count ≡ true
-ping-on count = go (ltb itself count)
-  where
-    go : (b : Bool) → pick b true (isItself itself) ≡ true
-    go true = refl
-    go false = refl
 
 module _ (p : Peer) (w : Whole p) where
   ping-keeps : sound p ≡ true → sound (pingsSound p .after) ≡ true
   ping-keeps h =
       behind-has (pingGate (p .standing) (room p)) p (finished (queued pingPiece p)) (λ (o : Outcome Peer). sound (o .after) ≡ true) (λ why. h)
-      (λ e. queued-sound pingPiece p w h (ping-on (p .standing .channels)) refl)
+      (λ e. queued-sound pingPiece p w h (itself-on (p .standing .channels)) refl)
 
   ping-whole : Whole (pingsSound p .after)
   ping-whole =

@@ -17,6 +17,7 @@ use Rattle.numbers.proofs.BoolLaws.{both-left, both-right, both-true}
 use Rattle.command.specs.Rows.{kindOf, namesFields}
 use Rattle.command.specs.declared.fields.Fields.{Fields}
 use Rattle.command.specs.declared.fields.Fields.the-variants as vr
+use Rattle.record.specs.Channels.{onChannel}
 use Rattle.record.specs.Lists.{outgoing, incoming, outItems, inItems}
 use Rattle.cells.specs.Free.{lowest, exist, once}
 use Rattle.cells.specs.declared.Free.{Free}
@@ -48,7 +49,7 @@ use Rattle.outbox.specs.Pieces.{fieldsNow, toReliable, listsWith}
 use Rattle.record.specs.Sizes.{itself}
 use Rattle.record.specs.Updates.{longer, withNumbers}
 use Rattle.setup.specs.Queueing.{room, stampOf, made, queuedAt, queuedIn, queued, queuedAll}
-use Rattle.setup.specs.Calls.{onChannel, setupGate, setsUp, setsUpSound}
+use Rattle.setup.specs.Calls.{setupGate, setsUp, setsUpSound}
 use Rattle.setup.specs.Taking.{allFit}
 use Rattle.outbox.specs.declared.counting.Counters.{Counters}
 use Rattle.outbox.specs.declared.pieces.Piece.{Piece}

@@ -12,6 +12,7 @@ use lib.Seq.{getD-set-same, getD-set-other, getD-take}
 use borrow.Author.Tests.{eqb-true, eqb-false, eq-eqb, ne-eqb, le-leb}
 use Rattle.numbers.specs.Pick.{pick}
 use Rattle.command.specs.Rows.{namesFields}
+use Rattle.record.specs.Channels.{onChannel}
 use Rattle.record.specs.Lists.{outgoing}
 use Rattle.cells.specs.Runs.{has}
 use Rattle.cells.specs.Free.{firstFrom, countFrom, lowest}
@@ -37,7 +38,7 @@ use Rattle.peer.proofs.Clauses.{sound-clauses}
 use Rattle.record.specs.Room.{roomIn}
 use Rattle.outbox.specs.Pieces.{listsWith}
 use Rattle.setup.specs.Queueing.{room, made, queuedAt, queuedIn, queued, queuedAll}
-use Rattle.setup.specs.Calls.{onChannel, setupGate, setsUp, setsUpSound}
+use Rattle.setup.specs.Calls.{setupGate, setsUp, setsUpSound}
 use Rattle.setup.specs.Taking.{freeFrom, frees, takenIn, taken, filled, runs, answers, Ready}
 use Rattle.outbox.specs.declared.pieces.Piece.{Piece}
 use Rattle.setup.proofs.Joining.{after-times, after-length, after-exist, after-once}

@@ -1,23 +1,19 @@
 -- Setup, and what it refuses: 2 "(but for 255), channel not below count", 5 "fewer free outgoing slots than commands needed", 9 "such a
 -- command, or one whose byte names another than its fields".
 use Prim.Native.Nat.{ℕ}
-use mathlib.Core.Bool.{Bool, true}
-use lib.Dec.{leb, ltb}
+use lib.Dec.{leb}
 use Rattle.numbers.specs.Pick.{pick}
 use Rattle.numbers.specs.declared.refusals.Refusal.the-variants.{InvalidChannel, FailedToQueue, BadCommand}
 use Rattle.command.specs.Rows.{namesFields}
+use Rattle.record.specs.Channels.{onChannel}
 use Rattle.peer.specs.Outcome.{Outcome, finished}
 use Rattle.peer.specs.Gate.{behind, onRecord}
 use Rattle.peer.specs.declared.settings.Settings.{Settings}
 use Rattle.peer.specs.declared.Peer.{Peer}
 use Rattle.peer.specs.declared.gate.Gate.{Gate}
 use Rattle.peer.specs.declared.gate.Gate.the-variants.{Open, Shut}
-use Rattle.outbox.specs.Counting.{isItself}
 use Rattle.setup.specs.Queueing.{room, queued}
 use Rattle.outbox.specs.declared.pieces.Piece.{Piece}
-
-abbrev pub onChannel : ℕ → ℕ → Bool
-onChannel channel count = pick (ltb channel count) true (isItself channel)
 
 -- the table's order downward: 2, 5, 9
 abbrev pub setupGate : Piece → ℕ → ℕ → Gate

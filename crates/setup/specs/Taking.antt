@@ -6,6 +6,7 @@ use mathlib.Core.List.{List, [], _∷_}
 use lib.ListN.{length}
 use Rattle.numbers.specs.Pick.{pick, both}
 use Rattle.command.specs.Rows.{namesFields}
+use Rattle.record.specs.Channels.{onChannel}
 use Rattle.record.specs.Lists.{outgoing}
 use Rattle.cells.specs.Runs.{has}
 use Rattle.cells.specs.Free.{lowest}
@@ -18,7 +19,7 @@ use Rattle.peer.specs.declared.settings.Settings.{Settings}
 use Rattle.peer.specs.declared.Peer.{Peer}
 use Rattle.record.specs.declared.groups.Outgoing.{Outgoing}
 use Rattle.setup.specs.Queueing.{room, made, queued}
-use Rattle.setup.specs.Calls.{onChannel, setsUp}
+use Rattle.setup.specs.Calls.{setsUp}
 use Rattle.outbox.specs.declared.pieces.Piece.{Piece}
 
 -- the numbers at which a test fails, of the `left` from k on

@@ -4,7 +4,7 @@ ghost use Rattle.setup.specs.Pings.{pingGate, pings};
 ghost use Rattle.peer.specs.Outcome.{Came};
 ghost use Rattle.peer.specs.Calls.{answerOf};
 ghost use Rattle.places.specs.Whole.{whole};
-ghost use Rattle.setup.specs.Calls.{onChannel, setupGate, setsUp};
+ghost use Rattle.setup.specs.Calls.{setupGate, setsUp};
 use command::bytes;
 use command::fields::Command;
 use command::fields::Fields;
@@ -19,18 +19,9 @@ use peer::gate::Lent;
 use peer::settings::Settings;
 use places::RECORD;
 use places::groups;
+use record::channels::on_channel;
 use record::groups::ITSELF;
 use record::groups::Standing;
-
-// A channel below the count, or the peer itself.
-fn on_channel(channel: u8, count: u32) -> bool
-    ensures { λ r. ⌜ r ≡ onChannel channel count ⌝ }
-{
-    if (channel as u32) < count {
-        return true;
-    }
-    channel == ITSELF
-}
 
 pub(crate) fn setup_gate(x: Piece, count: u32, free: usize) -> Gate
     ensures { λ r. ⌜ r ≡ setupGate x count free ⌝ }

@@ -1,7 +1,7 @@
 // A command from a row of numbers: the way back.
 ghost use mathlib.Core.Path.{_≡_};
 ghost use mathlib.Core.Bool.{true};
-ghost use Prim.Native.Nat.{_%_, _≤_, _<_};
+ghost use Prim.Native.Nat.{_≤_, _<_};
 ghost use Rattle.command.specs.Layout.{known};
 ghost use Rattle.wire.specs.Built.{answerOf, builtFrom};
 ghost use Rattle.wire.specs.Decoded.{decoded, unnamed};
@@ -14,6 +14,8 @@ use command::layout;
 use numbers::counters::Group;
 use numbers::counters::Reliable;
 use numbers::counters::Unreliable;
+use numbers::widths::low8;
+use numbers::widths::low16;
 
 pub enum Built {
     Done(Command),
@@ -207,16 +209,4 @@ fn fragment_from(row: [u32; 16]) -> Fragment
         total: row[7],
         offset: row[8],
     }
-}
-
-fn low8(x: u32) -> u8
-    ensures { λ r. ⌜ r ≡ x % 256 ⌝ }
-{
-    (x % 256) as u8
-}
-
-fn low16(x: u32) -> u16
-    ensures { λ r. ⌜ r ≡ x % 65536 ⌝ }
-{
-    (x % 65536) as u16
 }

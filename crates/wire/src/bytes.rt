@@ -5,12 +5,7 @@ ghost use lib.ListN.{length};
 ghost use Rattle.command.specs.Layout.{layout, sizeOf};
 ghost use Rattle.command.specs.Bytes.{numberAt, putNumber, rowAt, putRow, pad};
 use command::layout;
-
-fn wide(x: u8) -> u32
-    ensures { λ r. ⌜ (r ≡ x) × (r < 256) ⌝ }
-{
-    x as u32
-}
+use numbers::widths::wide8;
 
 // The number whose bytes start at `at`, the high byte first.
 fn number_at(s: &[u8], at: usize, width: usize) -> u32
@@ -20,7 +15,7 @@ fn number_at(s: &[u8], at: usize, width: usize) -> u32
     let mut n: u32 = 0;
     let mut j: usize = 0;
     while j < width {
-        n = n * 256 + wide(s[at + j]);
+        n = n * 256 + wide8(s[at + j]);
         j = j + 1;
     }
     n

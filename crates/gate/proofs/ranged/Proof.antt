@@ -1,16 +1,18 @@
--- `ranged` asks for each bound in turn: at each return the answers that led there pick the rule's case.
-use borrow.Author.Tests.{le-leb, lt-leb}
+-- `ranged` asks for each range in turn: at each return the answer that led there picks the rule's case.
+use mathlib.Core.Path.{sym, _∙_}
+use borrow.Author.Needs.{needs}
+use borrow.Author.Tests.{not-true, not-false}
 use Rattle.gate.proofs.ranged.Statement.{statement}
 use Rattle.gate.proofs.ranged.Tie as tie
 
+mtu-fits-requires : tie.Need-mtu-fits-requires
+mtu-fits-requires c κs = search needs
+
 returns : tie.Need-returns
-returns c = simp (lt-leb _ _ (c .if1 .taken))
+returns c = rw (sym (c .before .mtu-fits .ensures) ∙ not-true _ (c .if1 .taken))
 
 returns-2 : tie.Need-returns-2
-returns-2 c = simp (le-leb _ _ (c .before .if1 .left), lt-leb _ _ (c .if2 .taken))
-
-returns-3 : tie.Need-returns-3
-returns-3 c = rw (le-leb _ _ (c .before .if1 .left), le-leb _ _ (c .if2 .left))
+returns-2 c = rw (sym (c .before .mtu-fits .ensures) ∙ not-false _ (c .if1 .left))
 
 pub ranged-spec : {M : Type 1} → statement M
-ranged-spec = tie.close (tie.spec returns returns-2 returns-3)
+ranged-spec = tie.close (tie.spec mtu-fits-requires returns returns-2)

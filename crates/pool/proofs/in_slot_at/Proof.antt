@@ -7,13 +7,11 @@ use borrow.Author.Needs.{needs}
 use Rattle.pool.proofs.in_slot_at.Statement.{statement}
 use Rattle.pool.proofs.in_slot_at.Tie as tie
 
-no-incoming-requires : tie.Need-no-incoming-requires
-no-incoming-requires c κs = search needs
-
 returns : tie.Need-returns
+unfolding noIncoming
 returns c =
-    let a = c .before .before .before .args in
-    c .no-incoming .ensures ∙ sym (rows-past inSlotFrom 6 12 (a .pool .now) (a .i) noIncoming (c .before .if1 .taken))
+    let a = c .before .before .args in
+    sym (rows-past inSlotFrom 6 12 (a .pool .now) (a .i) noIncoming (c .if1 .taken))
 
 mul-at : tie.Need-mul-at
 mul-at c = search needs
@@ -46,7 +44,6 @@ pub in-slot-at-spec : {M : Type 1} → statement M
 in-slot-at-spec =
     tie.close
     (tie.spec
-    no-incoming-requires
     returns
     mul-at
     add-end

@@ -3,17 +3,17 @@ use borrow.Author.Needs.{needs}
 use Rattle.script_calls.proofs.arrival_of.Statement.{statement}
 use Rattle.script_calls.proofs.arrival_of.Tie as tie
 
-short-requires : tie.Need-short-requires
-short-requires c κs = search needs
+low16-requires : tie.Need-low16-requires
+low16-requires c κs = search needs
 
-byte-requires : tie.Need-byte-requires
-byte-requires c κs = search needs
+low8-requires : tie.Need-low8-requires
+low8-requires c κs = search needs
 
-byte-requires-2 : tie.Need-byte-requires-2
-byte-requires-2 c κs = search needs
+low8-requires-2 : tie.Need-low8-requires-2
+low8-requires-2 c κs = search needs
 
 returns : tie.Need-returns
-returns c = rw (c .before .byte .ensures, c .byte2 .ensures, c .before .before .short .ensures)
+returns c = rw (c .before .low8 .ensures, c .low82 .ensures, c .before .before .low16 .ensures)
 
 pub arrival-of-spec : {M : Type 1} → statement M
-arrival-of-spec = tie.close (tie.spec short-requires byte-requires byte-requires-2 returns)
+arrival-of-spec = tie.close (tie.spec low16-requires low8-requires low8-requires-2 returns)

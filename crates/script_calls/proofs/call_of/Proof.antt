@@ -5,8 +5,8 @@ use borrow.Author.Needs.{needs}
 use Rattle.script_calls.proofs.call_of.Statement.{statement}
 use Rattle.script_calls.proofs.call_of.Tie as tie
 
-byte-requires : tie.Need-byte-requires
-byte-requires c κs = search needs
+low8-requires : tie.Need-low8-requires
+low8-requires c κs = search needs
 
 piece-of-requires : tie.Need-piece-of-requires
 piece-of-requires c κs = search needs
@@ -40,7 +40,7 @@ returns-4 c =
 returns-5 : tie.Need-returns-5
 returns-5 c =
     let e : c .before .before .args .f .op ≡ 5 = c .before .match .keys5 in
-    rw (e, c .byte .ensures)
+    rw (e, c .low8 .ensures)
 
 returns-6 : tie.Need-returns-6
 returns-6 c =
@@ -62,7 +62,7 @@ pub call-of-spec : {M : Type 1} → statement M
 call-of-spec =
     tie.close
     (tie.spec
-    byte-requires
+    low8-requires
     piece-of-requires
     queue-of-requires
     second-requires

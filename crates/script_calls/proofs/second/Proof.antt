@@ -5,17 +5,17 @@ use borrow.Author.Needs.{needs}
 use Rattle.script_calls.proofs.second.Statement.{statement}
 use Rattle.script_calls.proofs.second.Tie as tie
 
-short-requires : tie.Need-short-requires
-short-requires c κs = search needs
+low16-requires : tie.Need-low16-requires
+low16-requires c κs = search needs
 
-byte-requires : tie.Need-byte-requires
-byte-requires c κs = search needs
+low8-requires : tie.Need-low8-requires
+low8-requires c κs = search needs
 
-short-requires-2 : tie.Need-short-requires-2
-short-requires-2 c κs = search needs
+low16-requires-2 : tie.Need-low16-requires-2
+low16-requires-2 c κs = search needs
 
-short-requires-3 : tie.Need-short-requires-3
-short-requires-3 c κs = search needs
+low16-requires-3 : tie.Need-low16-requires-3
+low16-requires-3 c κs = search needs
 
 arrival-of-requires : tie.Need-arrival-of-requires
 arrival-of-requires c κs = search needs
@@ -23,13 +23,13 @@ arrival-of-requires c κs = search needs
 arrival-of-requires-2 : tie.Need-arrival-of-requires-2
 arrival-of-requires-2 c κs = search needs
 
-byte-requires-2 : tie.Need-byte-requires-2
-byte-requires-2 c κs = search needs
+low8-requires-2 : tie.Need-low8-requires-2
+low8-requires-2 c κs = search needs
 
 returns : tie.Need-returns
 returns c =
     let e : c .before .before .before .before .args .f .op ≡ 8 = c .before .before .before .match .keys1 in
-    rw (e, c .short2 .ensures, c .before .byte .ensures, c .before .before .short .ensures)
+    rw (e, c .low162 .ensures, c .before .low8 .ensures, c .before .before .low16 .ensures)
 
 returns-2 : tie.Need-returns-2
 returns-2 c =
@@ -39,7 +39,7 @@ returns-2 c =
 returns-3 : tie.Need-returns-3
 returns-3 c =
     let e : c .before .before .before .args .f .op ≡ 10 = c .before .before .match .keys3 in
-    rw (e, c .arrival-of .ensures, c .before .short3 .ensures)
+    rw (e, c .arrival-of .ensures, c .before .low163 .ensures)
 
 returns-4 : tie.Need-returns-4
 returns-4 c =
@@ -49,7 +49,7 @@ returns-4 c =
 returns-5 : tie.Need-returns-5
 returns-5 c =
     let e : c .before .before .args .f .op ≡ 12 = c .before .match .keys5 in
-    rw (e, c .byte2 .ensures)
+    rw (e, c .low82 .ensures)
 
 returns-6 : tie.Need-returns-6
 returns-6 c =
@@ -66,13 +66,13 @@ pub second-spec : {M : Type 1} → statement M
 second-spec =
     tie.close
     (tie.spec
-    short-requires
-    byte-requires
-    short-requires-2
-    short-requires-3
+    low16-requires
+    low8-requires
+    low16-requires-2
+    low16-requires-3
     arrival-of-requires
     arrival-of-requires-2
-    byte-requires-2
+    low8-requires-2
     returns
     returns-2
     returns-3

@@ -23,14 +23,14 @@ loop-holds c = search needs
 mul-n : tie.Need-mul-n Inv-loop μ-loop
 mul-n c = let h : 256 ^ (c .before .loop .j) ≤ 16777216 = pow-3 (c .before .loop .j) (omega arith) in omega arith
 
-add-wide : tie.Need-add-wide Inv-loop μ-loop
-add-wide c = search needs
+add-wide8 : tie.Need-add-wide8 Inv-loop μ-loop
+add-wide8 c = search needs
 
-shared-slice-read-wide : tie.Need-shared-slice-read-wide Inv-loop μ-loop
-shared-slice-read-wide c = search needs
+shared-slice-read-wide8 : tie.Need-shared-slice-read-wide8 Inv-loop μ-loop
+shared-slice-read-wide8 c = search needs
 
-wide-requires : tie.Need-wide-requires Inv-loop μ-loop
-wide-requires c κs = search needs
+wide8-requires : tie.Need-wide8-requires Inv-loop μ-loop
+wide8-requires c κs = search needs
 
 add-n : tie.Need-add-n Inv-loop μ-loop
 add-n c = let h : 256 ^ (c .before .before .before .loop .j) ≤ 16777216 = pow-3 (c .before .before .before .loop .j) (omega arith) in omega arith
@@ -61,9 +61,9 @@ number-at-spec =
     μ-loop
     loop-holds
     mul-n
-    add-wide
-    shared-slice-read-wide
-    wide-requires
+    add-wide8
+    shared-slice-read-wide8
+    wide8-requires
     add-n
     add-j
     loop-less

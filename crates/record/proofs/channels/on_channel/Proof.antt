@@ -1,7 +1,7 @@
 -- `on_channel` meets its contract: the test on the count decides whether 255 is asked for.
 use borrow.Author.Tests.{lt-ltb, le-ltb}
-use Rattle.setup.proofs.on_channel.Statement.{statement}
-use Rattle.setup.proofs.on_channel.Tie as tie
+use Rattle.record.proofs.channels.on_channel.Statement.{statement}
+use Rattle.record.proofs.channels.on_channel.Tie as tie
 
 returns : tie.Need-returns
 returns c = rw (lt-ltb _ _ (c .if1 .taken))
