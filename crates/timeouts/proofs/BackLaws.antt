@@ -1,4 +1,4 @@
--- The lent record: a turn's numbers and slot are the rule's; the sent list fits its cells and is read as it is; the slots that bear a mark, gathered into a
+-- The lent record: a turn's numbers and slot are the rule's, and a timeout that a slot has need not be written; the sent list fits its cells and is read as it is; the slots that bear a mark, gathered into a
 -- run of their own; the three lists put one after the other are the rule's. The argument: each step's own equation, in the order of the steps.
 use Prim.Native.Nat.{ℕ, _≤_, _%_}
 use mathlib.Core.Path.{_≡_, refl, ap, sym, _∙_}
@@ -7,13 +7,14 @@ use mathlib.Core.List.{List, [], _∷_, map}
 use native.Mathlib.Omega.{arith}
 use lib.Dec.{eqb}
 use lib.ListN.{length, take, drop, getD, set, length-take, length-drop, length-map}
-use lib.Seq.{take-all}
+use lib.Seq.{take-all, set-getD}
 use Rattle.numbers.specs.Pick.{pick}
 use Rattle.cells.specs.Runs.{prepended, Makes}
 use Rattle.record.specs.Lists.{outgoing, outItems, outKeep}
 use Rattle.record.proofs.Views.{view-over}
 use Rattle.lists.specs.Rows.{low, section, lenOf, cellsOf}
 use Rattle.lists.proofs.Mapped.{map-take}
+use Rattle.record.specs.Fresh.{noOutgoing}
 use Rattle.record.specs.Updates.{withAttempt, withTimeout}
 use Rattle.record.specs.declared.groups.Limits.{Limits}
 use Rattle.record.specs.declared.groups.Outgoing.{Outgoing}
@@ -40,12 +41,23 @@ module _ (l : Limits) (clock : ℕ) (w : Walk) (o : Outgoing) (b : Brief) (r : A
   pub turn-is : r ≡ stepBy l clock w (sentOf o)
   turn-is = re ∙ ap (λ (x : Brief). stepBy l clock w (sentIn x)) be
 
-  pub turn-put : (p v : Peer) (s : ℕ) → v ≡ withOutgoing p (set (p .outgoing) s (withAttempt o (b .sent) (r .timeout) (b .attempts)))
+  pub turn-put : (p v : Peer) (s : ℕ) → v ≡ withOutgoing p (set (p .outgoing) s (withTimeout o (r .timeout)))
       → v ≡ withOutgoing p (set (p .outgoing) s (turnBy l clock w o .slot))
-  turn-put p v s e =
-      e
-      ∙ ap (λ (x : Brief). withOutgoing p (set (p .outgoing) s (withAttempt o (x .sent) (r .timeout) (x .attempts)))) be
-      ∙ ap (λ (x : After). withOutgoing p (set (p .outgoing) s (withTimeout o (x .timeout)))) turn-is
+  turn-put p v s e = e ∙ ap (λ (x : After). withOutgoing p (set (p .outgoing) s (withTimeout o (x .timeout)))) turn-is
+
+-- slot s of the record p gets a timeout: b is the slot in brief
+module _ (p : Peer) (s : ℕ) (b : Brief) (be : b ≡ briefOf (getD (p .outgoing) s noOutgoing)) (t : ℕ) where
+  abbrev slot : Outgoing
+  slot = getD (p .outgoing) s noOutgoing
+
+  pub retime-same : t ≡ b .timeout → p ≡ withOutgoing p (set (p .outgoing) s (withTimeout slot t))
+  retime-same e =
+      ap (withOutgoing p) (sym (set-getD (p .outgoing) s noOutgoing))
+      ∙ ap (λ (x : ℕ). withOutgoing p (set (p .outgoing) s (withTimeout slot x))) (sym (e ∙ ap (λ (x : Brief). x .timeout) be))
+
+  pub retime-put : (v : Peer) → v ≡ withOutgoing p (set (p .outgoing) s (withAttempt slot (b .sent) t (b .attempts)))
+      → v ≡ withOutgoing p (set (p .outgoing) s (withTimeout slot t))
+  retime-put v e = e ∙ ap (λ (x : Brief). withOutgoing p (set (p .outgoing) s (withAttempt slot (x .sent) t (x .attempts)))) be
 
 -- the sent list of any numbers
 module _ (ws : List ℕ) where

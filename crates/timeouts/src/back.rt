@@ -6,6 +6,8 @@ ghost use lib.ListN.{length, take, getD, set};
 ghost use Rattle.record.specs.Lists.{outgoing, outItems};
 ghost use Rattle.lists.specs.Rows.{low};
 ghost use Rattle.record.specs.Fresh.{noOutgoing};
+ghost use Rattle.record.specs.Updates.{withTimeout};
+ghost use Rattle.pool.specs.Slots.{briefOf};
 ghost use Rattle.peer.specs.Updates.{withLists, withOutgoing};
 ghost use Rattle.places.specs.Whole.{whole, recordLength};
 ghost use Rattle.overdue.specs.Walking.{turnBy, bearing, listsBy};
@@ -16,6 +18,7 @@ use overdue::step::STAYS;
 use overdue::step::Sent;
 use overdue::step::Walk;
 use places::pools;
+use pool::Brief;
 use queues::Out;
 use queues::outgoing;
 use record::OUTGOING;
@@ -26,7 +29,19 @@ pub struct Passed {
     pub mark: u8,
 }
 
-// The slot's timeout changes, and nothing else of it.
+// The slot gets this timeout, and nothing else of it changes; one that it has is not written again.
+fn retime(words: &mut [u32], s: usize, b: Brief, timeout: u32)
+    requires { ⌜ length (now words) ≡ recordLength ⌝ }
+    requires { ⌜ b ≡ briefOf (getD (whole (now words) .outgoing) s noOutgoing) ⌝ }
+    ensures { λ _. ⌜ whole (now (words .exit)) ≡ withOutgoing (whole (now (words .entry))) (set (whole (now (words .entry)) .outgoing) s (withTimeout (getD (whole (now (words .entry)) .outgoing) s noOutgoing) timeout)) ⌝ }
+{
+    if timeout == b.timeout {
+        return;
+    }
+    pools::put_attempt(words, s, b.sent, timeout, b.attempts);
+}
+
+// The step on a slot.
 pub fn turn(words: &mut [u32], limits: Limits, clock: u32, walk: Walk, s: usize) -> Passed
     requires { ⌜ length (now words) ≡ recordLength ⌝ }
     ensures walk { λ r. ⌜ r .walk ≡ turnBy limits clock walk (getD (whole (now (words .entry)) .outgoing) s noOutgoing) .walk ⌝ }
@@ -43,7 +58,7 @@ pub fn turn(words: &mut [u32], limits: Limits, clock: u32, walk: Walk, s: usize)
     };
     let r = step::step_by(limits, clock, walk, o);
     let w = r.walk;
-    pools::put_attempt(words, s, b.sent, r.timeout, b.attempts);
+    retime(words, s, b, r.timeout);
     Passed {
         walk: w,
         mark: r.mark,

@@ -15,8 +15,8 @@ brief-at-requires c κs = search needs
 step-by-requires : tie.Need-step-by-requires
 step-by-requires c κs = search needs
 
-put-attempt-requires : tie.Need-put-attempt-requires
-put-attempt-requires c κs = search needs
+retime-requires : tie.Need-retime-requires
+retime-requires c κs = search needs
 
 same-length : tie.Need-same-length
 same-length c = search needs
@@ -33,10 +33,10 @@ returns c =
       ap (λ (r : After). r .walk) is,
       (
         ap (λ (r : After). r .mark) is,
-        turn-put (a .limits) (a .clock) (a .walk) o (b .brief-at .result) (t .step-by .result) (b .brief-at .ensures) (t .step-by .ensures) p _ (a .s) (u .put-attempt .ensures),
+        turn-put (a .limits) (a .clock) (a .walk) o (b .brief-at .result) (t .step-by .result) (b .brief-at .ensures) (t .step-by .ensures) p _ (a .s) (u .retime .ensures),
       ),
     )
 
 pub turn-spec : {M : Type 1} → statement M
 turn-spec =
-    tie.close (tie.spec brief-at-requires step-by-requires put-attempt-requires same-length returns)
+    tie.close (tie.spec brief-at-requires step-by-requires retime-requires same-length returns)
