@@ -17,7 +17,7 @@ use Rattle.overdue.specs.declared.step.Walk.{Walk}
 use Rattle.overdue.specs.Walking.{Turned}
 
 -- what is left of a walk, with the marks so far before
-abbrev onward : List ℕ → Walked → Walked
+abbrev pub onward : List ℕ → Walked → Walked
 onward ms w = record { walk = w .walk; marks = ms ++ w .marks; slots = w .slots }
 
 onward-marked : (ms : List ℕ) (m : ℕ) (w : Walked) → onward ms (markedBy m w) ≡ onward (ms ++ (m ∷ [])) w

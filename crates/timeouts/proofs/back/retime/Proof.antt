@@ -9,7 +9,7 @@ returns : tie.Need-returns
 returns c =
     let f = c .before .before .before in
     let a = f .args in
-    retime-same (whole (a .words .now)) (a .s) (a .b) (f .pre .1) (a .timeout) (c .if1 .taken)
+    retime-same (whole (a .words .now)) (a .s) (a .o) (f .pre .1) (a .timeout) (c .if1 .taken)
 
 put-attempt-requires : tie.Need-put-attempt-requires
 put-attempt-requires c κs = search needs
@@ -22,7 +22,7 @@ returns-2 c =
     let u = c .before .before in
     let f = u .before .before .before .before .before in
     let a = f .args in
-    retime-put (whole (a .words .now)) (a .s) (a .b) (f .pre .1) (a .timeout) (whole (u .put-attempt .last .0)) (u .put-attempt .ensures)
+    retime-put (whole (a .words .now)) (a .s) (a .o) (f .pre .1) (a .timeout) (whole (u .put-attempt .last .0)) (u .put-attempt .ensures)
 
 pub retime-spec : {M : Type 1} → statement M
 retime-spec = tie.close (tie.spec returns put-attempt-requires same-length returns-2)
