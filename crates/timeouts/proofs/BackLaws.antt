@@ -1,4 +1,4 @@
--- The lent record: a timeout that a slot has need not be written; the sent list fits its cells and is read as it is; the slots that bear a mark, gathered into a
+-- The lent record: a timeout that a slot has need not be written; a turn's numbers and slot are the rule's; the sent list fits its cells and is read as it is; the slots that bear a mark, gathered into a
 -- run of their own; the three lists put one after the other are the rule's. The argument: each step's own equation, in the order of the steps.
 use Prim.Native.Nat.{ℕ, _≤_, _%_}
 use mathlib.Core.Path.{_≡_, refl, ap, sym, _∙_}
@@ -16,15 +16,18 @@ use Rattle.lists.specs.Rows.{low, section, lenOf, cellsOf}
 use Rattle.lists.proofs.Mapped.{map-take}
 use Rattle.record.specs.Fresh.{noOutgoing}
 use Rattle.record.specs.Updates.{withAttempt, withTimeout}
+use Rattle.record.specs.declared.groups.Limits.{Limits}
 use Rattle.record.specs.declared.groups.Outgoing.{Outgoing}
 use Rattle.peer.specs.Updates.{withLists, withOutgoing}
 use Rattle.peer.specs.declared.Peer.{Peer}
 use Rattle.places.specs.Whole.{whole, made, parts, sizes}
 use Rattle.queues.specs.Queues.{putOut}
 use Rattle.queues.specs.declared.Out.the-variants as out
-use Rattle.overdue.specs.Overdue.{stays, backOutgoing, backReliable}
-use Rattle.overdue.specs.Walking.{sentOf, bearing, ahead, listsBy}
+use Rattle.overdue.specs.Overdue.{stays, backOutgoing, backReliable, stepBy}
+use Rattle.overdue.specs.Walking.{sentOf, turnBy, bearing, ahead, listsBy}
 use Rattle.overdue.specs.declared.step.Sent.{Sent}
+use Rattle.overdue.specs.declared.step.Walk.{Walk}
+use Rattle.overdue.specs.declared.step.After.{After}
 use Rattle.overdue.proofs.Laws.{Borne, borne-made}
 
 -- slot s of the record p gets a timeout: o is what the step needs of it
@@ -40,6 +43,15 @@ module _ (p : Peer) (s : ℕ) (o : Sent) (oe : o ≡ sentOf (getD (p .outgoing) 
   pub retime-put : (v : Peer) → v ≡ withOutgoing p (set (p .outgoing) s (withAttempt slot (o .sent) t (o .attempts)))
       → v ≡ withOutgoing p (set (p .outgoing) s (withTimeout slot t))
   retime-put v e = e ∙ ap (λ (x : Sent). withOutgoing p (set (p .outgoing) s (withAttempt slot (x .sent) t (x .attempts)))) oe
+
+-- a turn: b is what the step needs of the slot o, r what the step made of it
+module _ (l : Limits) (clock : ℕ) (w : Walk) (o : Outgoing) (b : Sent) (r : After) (be : b ≡ sentOf o) (re : r ≡ stepBy l clock w b) where
+  pub turn-is : r ≡ stepBy l clock w (sentOf o)
+  turn-is = re ∙ ap (stepBy l clock w) be
+
+  pub turn-put : (p v : Peer) (s : ℕ) → v ≡ withOutgoing p (set (p .outgoing) s (withTimeout o (r .timeout)))
+      → v ≡ withOutgoing p (set (p .outgoing) s (turnBy l clock w o .slot))
+  turn-put p v s e = e ∙ ap (λ (x : After). withOutgoing p (set (p .outgoing) s (withTimeout o (x .timeout)))) turn-is
 
 -- the sent list of any numbers
 module _ (ws : List ℕ) where

@@ -3,7 +3,7 @@
 use Prim.Native.Nat.{ℕ, zero, suc, _+_, _≤_, _<_}
 use mathlib.Core.Path.{_≡_, refl, ap, sym, _∙_}
 use mathlib.Core.Bool.{Bool, true, false}
-use mathlib.Core.List.{List, [], _∷_, _++_}
+use mathlib.Core.List.{List, [], _∷_}
 use native.Mathlib.Numerals.{add-one}
 use native.Mathlib.Omega.{arith}
 use lib.Dec.{ltb}
@@ -18,7 +18,7 @@ use Rattle.record.specs.declared.groups.Limits.{Limits}
 use Rattle.record.specs.declared.groups.Outgoing.{Outgoing}
 use Rattle.peer.specs.declared.Peer.{Peer}
 use Rattle.overdue.specs.Overdue.{stays, isDue, dueBy, keptIn, staysIn}
-use Rattle.overdue.specs.Walking.{Walked, walked, markedBy, atEntry, sentOf}
+use Rattle.overdue.specs.Walking.{walked, markedBy, atEntry, sentOf}
 use Rattle.overdue.specs.declared.step.Walk.{Walk}
 use Rattle.timeouts.specs.CodeEarly.{early, begun}
 use Rattle.timeouts.proofs.Walking.{Going, onward}
@@ -66,8 +66,8 @@ module _ (clock : ℕ) (slots : List Outgoing) where
     past kept s ss e =
         let o = getD slots s noOutgoing in
         ap (λ (b : Bool).
-            let r = pick b (dueBy l clock (having kept) (sentOf o)) (staysIn (keptIn (having kept) next) (sentOf o)) in
-            markedBy (r .mark) (walked l clock ss (r .walk) (set slots s (withTimeout o (r .timeout))))) e
+        let r = pick b (dueBy l clock (having kept) (sentOf o)) (staysIn (keptIn (having kept) next) (sentOf o)) in
+        markedBy (r .mark) (walked l clock ss (r .walk) (set slots s (withTimeout o (r .timeout))))) e
         ∙ ap (λ (xs : List Outgoing). markedBy stays (walked l clock ss (having true) xs)) (set-getD slots s noOutgoing)
 
     either : (b : Bool) → pick b true true ≡ true

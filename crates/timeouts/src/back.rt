@@ -49,14 +49,14 @@ pub fn early(words: &[u32], clock: u32) -> usize
     ensures { λ r. ⌜ r ≡ early clock (whole (now (words .entry)) .outgoing) (outItems (whole (now (words .entry)) .lists .sent)) ⌝ }
 {
     let n = outgoing::count(words, Out::Sent);
-    let mut k: usize = 0;
-    while k < n {
-        let s = outgoing::slot_at(words, Out::Sent, k);
+    let mut j: usize = 0;
+    while j < n {
+        let s = outgoing::slot_at(words, Out::Sent, j);
         let o = sent_at(words, s as usize);
         if step::is_due(clock, o) {
-            return k;
+            return j;
         }
-        k = k + 1;
+        j = j + 1;
     }
     n
 }

@@ -1,8 +1,7 @@
--- `early` meets its contract. The loop's invariant: what the search from the head finds is k and what it finds from place k on. The measure is what is left
+-- `early` meets its contract. The loop's invariant: what the search from the head finds is j and what it finds from place j on. The measure is what is left
 -- of the list.
 use Prim.Native.Nat.{_+_, _-_, _≤_}
-use mathlib.Core.Path.{_≡_, refl, ap, sym, _∙_}
-use mathlib.Core.Bool.{Bool}
+use mathlib.Core.Path.{_≡_, ap, sym, _∙_}
 use native.Mathlib.Omega.{arith}
 use lib.ListN.{length, drop}
 use borrow.Author.Needs.{needs}
@@ -15,13 +14,13 @@ use Rattle.timeouts.proofs.back.early.Statement.{statement}
 use Rattle.timeouts.proofs.back.early.Tie as tie
 
 abbrev Inv-loop : tie.InvT-loop
-Inv-loop words clock n k₀ k =
+Inv-loop words clock n j₀ j =
     let p = whole words in
     let items = outItems (p .lists .sent) in
-    (k ≤ n) × (n ≡ length items) × (early clock (p .outgoing) items ≡ k + early clock (p .outgoing) (drop k items))
+    (j ≤ n) × (n ≡ length items) × (early clock (p .outgoing) items ≡ j + early clock (p .outgoing) (drop j items))
 
 abbrev μ-loop : tie.MeasureT-loop
-μ-loop words clock n k₀ k = n - k
+μ-loop words clock n j₀ j = n - j
 
 count-requires : tie.Need-count-requires Inv-loop μ-loop
 count-requires c κs = search needs
@@ -50,12 +49,12 @@ returns c =
     let a = at-loop .before .before .before .args in
     let p = whole (a .words .now) in
     let i = at-loop .loop .inv in
-    let here = early-here (a .clock) (p .outgoing) (outItems (p .lists .sent)) (at-loop .loop .k) (at-slot .slot-at .result) (omega (arith, i .1, at-slot .before .loop-test .taken)) (at-slot .slot-at .ensures)
+    let here = early-here (a .clock) (p .outgoing) (outItems (p .lists .sent)) (at-loop .loop .j) (at-slot .slot-at .result) (omega (arith, i .1, at-slot .before .loop-test .taken)) (at-slot .slot-at .ensures)
     (ap (isDue (a .clock)) (sym (at-sent .sent-at .ensures)) ∙ sym (at-due .is-due .ensures) ∙ c .if1 .taken) in
     omega (arith, i .2, here)
 
-add-k : tie.Need-add-k Inv-loop μ-loop
-add-k c = search needs
+add-j : tie.Need-add-j Inv-loop μ-loop
+add-j c = search needs
 
 loop-less : tie.Need-loop-less Inv-loop μ-loop
 loop-less c = search needs
@@ -69,7 +68,7 @@ loop-again c =
     let a = at-loop .before .before .before .args in
     let p = whole (a .words .now) in
     let i = at-loop .loop .inv in
-    let on = early-on (a .clock) (p .outgoing) (outItems (p .lists .sent)) (at-loop .loop .k) (at-slot .slot-at .result) (omega (arith, i .1, at-slot .before .loop-test .taken)) (at-slot .slot-at .ensures)
+    let on = early-on (a .clock) (p .outgoing) (outItems (p .lists .sent)) (at-loop .loop .j) (at-slot .slot-at .result) (omega (arith, i .1, at-slot .before .loop-test .taken)) (at-slot .slot-at .ensures)
     (ap (isDue (a .clock)) (sym (at-sent .sent-at .ensures)) ∙ sym (at-due .is-due .ensures) ∙ c .if1 .left) in
     (omega arith, i .1, omega (arith, i .2, on))
 
@@ -79,7 +78,7 @@ returns-2 c =
     let a = at-loop .before .before .before .args in
     let p = whole (a .words .now) in
     let i = at-loop .loop .inv in
-    let end = early-end (a .clock) (p .outgoing) (outItems (p .lists .sent)) (at-loop .loop .k) (omega (arith, i .1, c .loop-test .left)) in
+    let end = early-end (a .clock) (p .outgoing) (outItems (p .lists .sent)) (at-loop .loop .j) (omega (arith, i .1, c .loop-test .left)) in
     omega (arith, i .0, i .1, i .2, end, c .loop-test .left)
 
 pub early-spec : {M : Type 1} → statement M
@@ -95,7 +94,7 @@ early-spec =
     sent-at-requires
     is-due-requires
     returns
-    add-k
+    add-j
     loop-less
     loop-again
     returns-2)

@@ -1,9 +1,8 @@
 -- `gather` meets its contract. The loop's invariant: what bears the mark among the slots passed stands in the run from its first cell on, and m counts it;
 -- a turn is one more place, with or without its slot. The measure is what is left of the slots.
-use Prim.Native.Nat.{ℕ, _+_, _≤_, _<_, _-_}
+use Prim.Native.Nat.{_+_, _≤_, _<_, _-_}
 use mathlib.Core.Path.{_≡_, refl, ap, _∙_}
 use mathlib.Core.Logic.{⊎-elim}
-use mathlib.Core.List.{List}
 use native.Mathlib.Omega.{arith}
 use lib.ListN.{length, take}
 use lib.Seq.{length-sets}

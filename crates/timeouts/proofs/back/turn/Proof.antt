@@ -1,14 +1,11 @@
 -- `turn` meets its contract: the step's answer on what it needs of the slot is the rule's, and only the slot's timeout is another.
-use mathlib.Core.Path.{_≡_, ap, _∙_}
-use lib.ListN.{getD, set}
+use mathlib.Core.Path.{ap}
+use lib.ListN.{getD}
 use borrow.Author.Needs.{needs}
 use Rattle.record.specs.Fresh.{noOutgoing}
-use Rattle.record.specs.Updates.{withTimeout}
-use Rattle.peer.specs.Updates.{withOutgoing}
 use Rattle.places.specs.Whole.{whole}
-use Rattle.overdue.specs.Overdue.{stepBy}
-use Rattle.overdue.specs.Walking.{sentOf}
 use Rattle.overdue.specs.declared.step.After.{After}
+use Rattle.timeouts.proofs.BackLaws.{turn-is, turn-put}
 use Rattle.timeouts.proofs.back.turn.Statement.{statement}
 use Rattle.timeouts.proofs.back.turn.Tie as tie
 
@@ -32,10 +29,12 @@ returns c =
     let a = at-sent .before .before .before .args in
     let p = whole (a .words .now) in
     let o = getD (p .outgoing) (a .s) noOutgoing in
-    let is : at-step .step-by .result ≡ stepBy (a .limits) (a .clock) (a .walk) (sentOf o) =
-    at-step .step-by .ensures ∙ ap (stepBy (a .limits) (a .clock) (a .walk)) (at-sent .sent-at .ensures) in (
+    let is = turn-is (a .limits) (a .clock) (a .walk) o (at-sent .sent-at .result) (at-step .step-by .result) (at-sent .sent-at .ensures) (at-step .step-by .ensures) in (
       ap (λ (r : After). r .walk) is,
-      (ap (λ (r : After). r .mark) is, at-put .retime .ensures ∙ ap (λ (r : After). withOutgoing p (set (p .outgoing) (a .s) (withTimeout o (r .timeout)))) is),
+      (
+        ap (λ (r : After). r .mark) is,
+        turn-put (a .limits) (a .clock) (a .walk) o (at-sent .sent-at .result) (at-step .step-by .result) (at-sent .sent-at .ensures) (at-step .step-by .ensures) p _ (a .s) (at-put .retime .ensures),
+      ),
     )
 
 pub turn-spec : {M : Type 1} → statement M
