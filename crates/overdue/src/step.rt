@@ -39,7 +39,7 @@ pub const BACK_OUTGOING: u8 = 1;
 
 pub const BACK_RELIABLE: u8 = 2;
 
-fn is_due(clock: u32, o: Sent) -> bool
+pub fn is_due(clock: u32, o: Sent) -> bool
     ensures { λ r. ⌜ r ≡ isDue clock o ⌝ }
 {
     o.timeout <= clock::distance(clock, o.sent)

@@ -1,4 +1,4 @@
--- The lent record: a turn's numbers and slot are the rule's; the sent list fits its cells and is read as it is; the slots that bear a mark, gathered into a
+-- The lent record: a timeout that a slot has need not be written; a turn's numbers and slot are the rule's; the sent list fits its cells and is read as it is; the slots that bear a mark, gathered into a
 -- run of their own; the three lists put one after the other are the rule's. The argument: each step's own equation, in the order of the steps.
 use Prim.Native.Nat.{ℕ, _≤_, _%_}
 use mathlib.Core.Path.{_≡_, refl, ap, sym, _∙_}
@@ -7,18 +7,17 @@ use mathlib.Core.List.{List, [], _∷_, map}
 use native.Mathlib.Omega.{arith}
 use lib.Dec.{eqb}
 use lib.ListN.{length, take, drop, getD, set, length-take, length-drop, length-map}
-use lib.Seq.{take-all}
+use lib.Seq.{take-all, set-getD}
 use Rattle.numbers.specs.Pick.{pick}
 use Rattle.cells.specs.Runs.{prepended, Makes}
 use Rattle.record.specs.Lists.{outgoing, outItems, outKeep}
 use Rattle.record.proofs.Views.{view-over}
 use Rattle.lists.specs.Rows.{low, section, lenOf, cellsOf}
 use Rattle.lists.proofs.Mapped.{map-take}
+use Rattle.record.specs.Fresh.{noOutgoing}
 use Rattle.record.specs.Updates.{withAttempt, withTimeout}
 use Rattle.record.specs.declared.groups.Limits.{Limits}
 use Rattle.record.specs.declared.groups.Outgoing.{Outgoing}
-use Rattle.pool.specs.Slots.{briefOf}
-use Rattle.pool.specs.declared.Brief.{Brief}
 use Rattle.peer.specs.Updates.{withLists, withOutgoing}
 use Rattle.peer.specs.declared.Peer.{Peer}
 use Rattle.places.specs.Whole.{whole, made, parts, sizes}
@@ -31,21 +30,28 @@ use Rattle.overdue.specs.declared.step.Walk.{Walk}
 use Rattle.overdue.specs.declared.step.After.{After}
 use Rattle.overdue.proofs.Laws.{Borne, borne-made}
 
--- what the step needs of a slot in brief
-abbrev sentIn : Brief → Sent
-sentIn b = record { sent = b .sent; timeout = b .timeout; attempts = b .attempts; length = b .length; packet = b .packet }
+-- slot s of the record p gets a timeout: o is what the step needs of it
+module _ (p : Peer) (s : ℕ) (o : Sent) (oe : o ≡ sentOf (getD (p .outgoing) s noOutgoing)) (t : ℕ) where
+  abbrev slot : Outgoing
+  slot = getD (p .outgoing) s noOutgoing
 
--- a turn: b is the slot in brief, r what the step made of it
-module _ (l : Limits) (clock : ℕ) (w : Walk) (o : Outgoing) (b : Brief) (r : After) (be : b ≡ briefOf o) (re : r ≡ stepBy l clock w (sentIn b)) where
+  pub retime-same : t ≡ o .timeout → p ≡ withOutgoing p (set (p .outgoing) s (withTimeout slot t))
+  retime-same e =
+      ap (withOutgoing p) (sym (set-getD (p .outgoing) s noOutgoing))
+      ∙ ap (λ (x : ℕ). withOutgoing p (set (p .outgoing) s (withTimeout slot x))) (sym (e ∙ ap (λ (x : Sent). x .timeout) oe))
+
+  pub retime-put : (v : Peer) → v ≡ withOutgoing p (set (p .outgoing) s (withAttempt slot (o .sent) t (o .attempts)))
+      → v ≡ withOutgoing p (set (p .outgoing) s (withTimeout slot t))
+  retime-put v e = e ∙ ap (λ (x : Sent). withOutgoing p (set (p .outgoing) s (withAttempt slot (x .sent) t (x .attempts)))) oe
+
+-- a turn: b is what the step needs of the slot o, r what the step made of it
+module _ (l : Limits) (clock : ℕ) (w : Walk) (o : Outgoing) (b : Sent) (r : After) (be : b ≡ sentOf o) (re : r ≡ stepBy l clock w b) where
   pub turn-is : r ≡ stepBy l clock w (sentOf o)
-  turn-is = re ∙ ap (λ (x : Brief). stepBy l clock w (sentIn x)) be
+  turn-is = re ∙ ap (stepBy l clock w) be
 
-  pub turn-put : (p v : Peer) (s : ℕ) → v ≡ withOutgoing p (set (p .outgoing) s (withAttempt o (b .sent) (r .timeout) (b .attempts)))
+  pub turn-put : (p v : Peer) (s : ℕ) → v ≡ withOutgoing p (set (p .outgoing) s (withTimeout o (r .timeout)))
       → v ≡ withOutgoing p (set (p .outgoing) s (turnBy l clock w o .slot))
-  turn-put p v s e =
-      e
-      ∙ ap (λ (x : Brief). withOutgoing p (set (p .outgoing) s (withAttempt o (x .sent) (r .timeout) (x .attempts)))) be
-      ∙ ap (λ (x : After). withOutgoing p (set (p .outgoing) s (withTimeout o (x .timeout)))) turn-is
+  turn-put p v s e = e ∙ ap (λ (x : After). withOutgoing p (set (p .outgoing) s (withTimeout o (x .timeout)))) turn-is
 
 -- the sent list of any numbers
 module _ (ws : List ℕ) where

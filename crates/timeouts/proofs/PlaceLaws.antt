@@ -41,10 +41,13 @@ use Rattle.timeouts.specs.declared.Reply.the-variants as vr
 use Rattle.timeouts.proofs.Walking.{Going, going-turn, going-end}
 
 -- ---- the walk over the sent list of the record p₀, which is p now
-module _ {limits : Limits} {clock : ℕ} {w₀ : Walk} {p₀ p : Peer} {w : Walk} {marks : List ℕ} {j : ℕ}
-    (g : Going limits clock (outItems (p₀ .lists .sent)) w₀ p₀ p w marks j) where
+module _ {limits : Limits} {clock : ℕ} {p₀ p : Peer} {w : Walk} {marks : List ℕ} {j : ℕ}
+    (g : Going limits clock (outItems (p₀ .lists .sent)) (atEntry (p₀ .times) (p₀ .loss) (p₀ .flow)) p₀ p w marks j) where
   abbrev items : List ℕ
   items = outItems (p₀ .lists .sent)
+
+  abbrev w₀ : Walk
+  w₀ = atEntry (p₀ .times) (p₀ .loss) (p₀ .flow)
 
   -- s is the slot that the code read, after, v and m what its turn left
   pub lent-turn : (s m : ℕ) (v : Walk) (after : Peer) → j < length items → length items ≤ outgoing → s ≡ getD (outItems (p .lists .sent)) j 0
@@ -60,11 +63,10 @@ module _ {limits : Limits} {clock : ℕ} {w₀ : Walk} {p₀ p : Peer} {w : Walk
       (subst (λ (x : ℕ). Going limits clock items w₀ p₀ (withOutgoing p (set (p .outgoing) s (t .slot))) (t .walk) (set marks j x) (j + 1)) (sym me)
       (going-turn g s split (omega arith) t refl)))
 
-  module _ (le : limits ≡ p₀ .limits) (we : w₀ ≡ atEntry (p₀ .times) (p₀ .loss) (p₀ .flow)) (e : j ≡ length items) where
+  module _ (le : limits ≡ p₀ .limits) (e : j ≡ length items) where
     pub walk-end : walkOf clock p₀ ≡ record { walk = w; marks = take (length items) marks; slots = p .outgoing }
     walk-end =
-        ap (λ (x : Walk). walked (p₀ .limits) clock items x (p₀ .outgoing)) (sym we)
-        ∙ ap (λ (x : Limits). walked x clock items w₀ (p₀ .outgoing)) (sym le)
+        ap (λ (x : Limits). walked x clock items w₀ (p₀ .outgoing)) (sym le)
         ∙ going-end g (drop-of-length-le items {i = j} (omega arith))
         ∙ ap (λ (k : ℕ). record { walk = w; marks = take k marks; slots = p .outgoing }) e
 

@@ -1,7 +1,7 @@
 -- The check's contract settles its result: two results, reply and record, that it allows for one input are the same.
 -- The argument: the record is the rule's, and no two replies have one answer.
 use Prim.Native.Nat.{ℕ}
-use mathlib.Core.Path.{_≡_, refl, ap, sym, _∙_}
+use mathlib.Core.Path.{_≡_, refl, ap, sym}
 use native.Mathlib.Omega.{arith}
 use lib.ListN.{getD}
 use Rattle.numbers.specs.Answers.{Answer, numbersOf}

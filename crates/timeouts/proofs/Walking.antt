@@ -1,6 +1,6 @@
 -- A check's loop: after j of the sent commands, what the walk makes of all of them is what it makes of those left, on the record as stored so far,
 -- with the marks so far before. The argument: a turn is the definition's; at the end none is left.
-use Prim.Native.Nat.{ℕ, _+_, _≤_, _<_}
+use Prim.Native.Nat.{ℕ, _+_, _<_}
 use mathlib.Core.Path.{_≡_, ap, sym, _∙_}
 use mathlib.Core.List.{List, [], _∷_, _++_, append-assoc, append-nil}
 use native.Mathlib.Numerals.{add-one}
@@ -17,7 +17,7 @@ use Rattle.overdue.specs.declared.step.Walk.{Walk}
 use Rattle.overdue.specs.Walking.{Turned}
 
 -- what is left of a walk, with the marks so far before
-abbrev onward : List ℕ → Walked → Walked
+abbrev pub onward : List ℕ → Walked → Walked
 onward ms w = record { walk = w .walk; marks = ms ++ w .marks; slots = w .slots }
 
 onward-marked : (ms : List ℕ) (m : ℕ) (w : Walked) → onward ms (markedBy m w) ≡ onward (ms ++ (m ∷ [])) w

@@ -3,14 +3,17 @@ pub mod back;
 
 ghost use mathlib.Core.Path.{_≡_};
 ghost use Rattle.timeouts.specs.Calls.{replyBy, answerOf, walkOf, checks};
-ghost use lib.ListN.{length, take};
+ghost use lib.ListN.{length, take, replicate};
 ghost use Rattle.numbers.specs.Pick.{pick};
-ghost use Rattle.record.specs.Lists.{outItems};
+ghost use Rattle.record.specs.Lists.{outgoing, outItems};
 ghost use Rattle.record.specs.Updates.{withTimeouts, withPacketsLost, withTransit};
 ghost use Rattle.peer.specs.Outcome.{Came};
 ghost use Rattle.peer.specs.Updates.{withChecked, withLists, withOutgoing};
 ghost use Rattle.places.specs.Whole.{whole, recordLength};
+ghost use Rattle.overdue.specs.Overdue.{stays};
 ghost use Rattle.overdue.specs.Walking.{atEntry, listsBy};
+ghost use Rattle.timeouts.specs.CodeEarly.{begun};
+use crate::back::early;
 use crate::back::send_back;
 use crate::back::turn;
 use numbers::refusals::Refusal;
@@ -40,35 +43,32 @@ fn reply_by(over: bool) -> Reply
     Reply::Done
 }
 
-// The numbers that the walk begins with.
-fn begin(words: &[u32]) -> Walk
+// The numbers that the walk begins with, behind k that are kept.
+fn begin(words: &[u32], k: usize) -> Walk
     requires { ⌜ length (now words) ≡ recordLength ⌝ }
-    ensures { λ r. ⌜ r ≡ atEntry (whole (now (words .entry)) .times) (whole (now (words .entry)) .loss) (whole (now (words .entry)) .flow) ⌝ }
+    ensures { λ r. ⌜ r ≡ begun k (atEntry (whole (now (words .entry)) .times) (whole (now (words .entry)) .loss) (whole (now (words .entry)) .flow)) ⌝ }
 {
-    at_entry(
+    let mut w = at_entry(
         groups::times(words),
         groups::loss(words),
         groups::flow(words),
-    )
+    );
+    w.kept = 0 < k;
+    w
 }
 
-// The numbers that the walk ends with, and a mark for each slot of the sent list.
-struct Marked {
-    walk: Walk,
-    marks: [u8; OUTGOING],
-}
-
-fn walk(words: &mut [u32], clock: u32) -> Marked
+// The numbers that the walk ends with; a mark for each slot of the sent list is written.
+fn walk(words: &mut [u32], clock: u32, marks: &mut [u8]) -> Walk
     requires { ⌜ length (now words) ≡ recordLength ⌝ }
-    ensures walk { λ r. ⌜ r .walk ≡ walkOf clock (whole (now (words .entry))) .walk ⌝ }
-    ensures marks { λ r. ⌜ take (length (outItems (whole (now (words .entry)) .lists .sent))) (r .marks) ≡ walkOf clock (whole (now (words .entry))) .marks ⌝ }
+    requires { ⌜ now marks ≡ replicate outgoing stays ⌝ }
+    ensures walk { λ r. ⌜ r ≡ walkOf clock (whole (now (words .entry))) .walk ⌝ }
+    ensures marks { λ r. ⌜ take (length (outItems (whole (now (words .entry)) .lists .sent))) (now (marks .exit)) ≡ walkOf clock (whole (now (words .entry))) .marks ⌝ }
     ensures slots { λ r. ⌜ whole (now (words .exit)) ≡ withOutgoing (whole (now (words .entry))) (walkOf clock (whole (now (words .entry))) .slots) ⌝ }
 {
     let limits = groups::limits(words);
     let n = outgoing::count(words, Out::Sent);
-    let mut w = begin(words);
-    let mut marks = [0u8; OUTGOING];
-    let mut j: usize = 0;
+    let mut j = early(words, clock);
+    let mut w = begin(words, j);
     while j < n {
         let s = outgoing::slot_at(words, Out::Sent, j);
         let t = turn(words, limits, clock, w, s as usize);
@@ -76,13 +76,14 @@ fn walk(words: &mut [u32], clock: u32) -> Marked
         w = t.walk;
         j = j + 1;
     }
-    Marked { walk: w, marks }
+    w
 }
 
 // Where one went back: what stays is sent, the others go before what stood in their list.
-fn divide(words: &mut [u32], back: bool, marks: [u8; OUTGOING])
+fn divide(words: &mut [u32], back: bool, marks: &[u8])
     requires { ⌜ length (now words) ≡ recordLength ⌝ }
-    ensures { λ _. ⌜ whole (now (words .exit)) ≡ pick back (withLists (whole (now (words .entry))) (listsBy marks (whole (now (words .entry)) .lists))) (whole (now (words .entry))) ⌝ }
+    requires { ⌜ length (now marks) ≡ outgoing ⌝ }
+    ensures { λ _. ⌜ whole (now (words .exit)) ≡ pick back (withLists (whole (now (words .entry))) (listsBy (now (marks .entry)) (whole (now (words .entry)) .lists))) (whole (now (words .entry))) ⌝ }
 {
     if back {
         send_back(words, marks);
@@ -114,10 +115,9 @@ pub fn check(words: &mut [u32; RECORD], settings: Settings, clock: u32) -> Reply
     if let Gate::Shut(why) = gate {
         return Reply::Refused(why);
     }
-    let m = walk(words, clock);
-    let w = m.walk;
-    let marks = m.marks;
-    divide(words, w.back, marks);
+    let mut marks = [0u8; OUTGOING];
+    let w = walk(words, clock, &mut marks);
+    divide(words, w.back, &marks);
     settle(words, w);
     reply_by(w.over)
 }

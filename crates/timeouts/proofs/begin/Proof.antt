@@ -1,6 +1,8 @@
 -- `begin` meets its contract: the groups that it reads are the record's.
+use mathlib.Core.Path.{ap}
 use borrow.Author.Needs.{needs}
 use Rattle.places.specs.Whole.{whole}
+use Rattle.timeouts.specs.CodeEarly.{begun}
 use Rattle.timeouts.proofs.PlaceLaws.{begin-is}
 use Rattle.timeouts.proofs.begin.Statement.{statement}
 use Rattle.timeouts.proofs.begin.Tie as tie
@@ -19,11 +21,13 @@ at-entry-requires c κs = search needs
 
 returns : tie.Need-returns
 returns c =
-    let f = c .before in
-    let l = f .before in
-    let t = l .before in
-    begin-is (whole (t .before .before .args .words .now)) (c .at-entry .result) (t .times .result) (l .loss .result) (f .flow .result)
-    (t .times .ensures) (l .loss .ensures) (f .flow .ensures) (c .at-entry .ensures)
+    let at-flow = c .before in
+    let at-loss = at-flow .before in
+    let at-times = at-loss .before in
+    let a = at-times .before .before .args in
+    ap (begun (a .k))
+    (begin-is (whole (a .words .now)) (c .at-entry .result) (at-times .times .result) (at-loss .loss .result) (at-flow .flow .result)
+    (at-times .times .ensures) (at-loss .loss .ensures) (at-flow .flow .ensures) (c .at-entry .ensures))
 
 pub begin-spec : {M : Type 1} → statement M
 begin-spec = tie.close (tie.spec times-requires loss-requires flow-requires at-entry-requires returns)

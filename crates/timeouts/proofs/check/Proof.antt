@@ -24,8 +24,14 @@ returns c =
 enum-told : tie.Need-enum-told
 enum-told c = search needs
 
+slice-aggregate-walk : tie.Need-slice-aggregate-walk
+slice-aggregate-walk c = search needs
+
 walk-requires : tie.Need-walk-requires
 walk-requires c κs = search needs
+
+slice-aggregate-divide : tie.Need-slice-aggregate-divide
+slice-aggregate-divide c = search needs
 
 divide-requires : tie.Need-divide-requires
 divide-requires c κs = search needs
@@ -38,17 +44,16 @@ reply-by-requires c κs = search needs
 
 returns-2 : tie.Need-returns-2
 returns-2 c =
-    let z = c .before in
-    let y = z .before .before in
-    let x = y .before .before .before .before in
-    let o = x .before .before in
-    let g = o .before .before in
-    let a = g .before .before .before .args in
-    let w = x .walk .result in
+    let at-settle = c .before in
+    let at-divide = at-settle .before .before in
+    let at-walk = at-divide .before .before .before .before in
+    let at-open = at-walk .before .before .before in
+    let at-gate = at-open .before .before in
+    let a = at-gate .before .before .before .args in
     let long : length (a .words .now) ≡ recordLength = search needs in
-    check-went (a .settings) (a .clock) (a .words .now) (record { gate = g .ask .result; is = g .ask .ensures }) (o .enum-told .given .1) (w .walk) (w .marks)
-    (x .walk .ensures .0) (x .walk .ensures .1 .0) (whole (x .walk .last .0)) (x .walk .ensures .1 .1) long
-    (whole (y .divide .last .0)) (whole (z .settle .last .0)) (c .reply-by .result) (y .divide .ensures) (z .settle .ensures) (c .reply-by .ensures)
+    check-went (a .settings) (a .clock) (a .words .now) (record { gate = at-gate .ask .result; is = at-gate .ask .ensures }) (at-open .enum-told .given .1)
+    (at-walk .walk .result) (at-walk .walk .last .1 .1 .0) (at-walk .walk .ensures .0) (at-walk .walk .ensures .1 .0) (whole (at-walk .walk .last .0)) (at-walk .walk .ensures .1 .1) long
+    (whole (at-divide .divide .last .0)) (whole (at-settle .settle .last .0)) (c .reply-by .result) (at-divide .divide .ensures) (at-settle .settle .ensures) (c .reply-by .ensures)
 
 pub check-spec : {M : Type 1} → statement M
 check-spec =
@@ -58,7 +63,9 @@ check-spec =
     enum-known-gate
     returns
     enum-told
+    slice-aggregate-walk
     walk-requires
+    slice-aggregate-divide
     divide-requires
     settle-requires
     reply-by-requires

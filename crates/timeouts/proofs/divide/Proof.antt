@@ -17,17 +17,17 @@ same-length c = search needs
 
 returns : tie.Need-returns
 returns c =
-    let s = c .before .before in
-    let i = s .before .before in
-    let a = i .before .before .args in
+    let at-back = c .before .before in
+    let at-if = at-back .before .before in
+    let a = at-if .before .before .before .args in
     let p = whole (a .words .now) in
-    s .send-back .ensures ∙ ap (λ (b : Bool). pick b (withLists p (listsBy (a .marks) (p .lists))) p) (sym (i .if1 .taken))
+    at-back .send-back .ensures ∙ ap (λ (b : Bool). pick b (withLists p (listsBy (a .marks .now) (p .lists))) p) (sym (at-if .if1 .taken))
 
 returns-2 : tie.Need-returns-2
 returns-2 c =
-    let a = c .before .before .args in
+    let a = c .before .before .before .args in
     let p = whole (a .words .now) in
-    ap (λ (b : Bool). pick b (withLists p (listsBy (a .marks) (p .lists))) p) (sym (c .if1 .left))
+    ap (λ (b : Bool). pick b (withLists p (listsBy (a .marks .now) (p .lists))) p) (sym (c .if1 .left))
 
 pub divide-spec : {M : Type 1} → statement M
 divide-spec = tie.close (tie.spec send-back-requires same-length returns returns-2)

@@ -1,25 +1,27 @@
 -- `walk` meets its contract. What its loop keeps is `Going`: what the walk makes of all slots of the sent list is what it makes of those left, on the record
--- as stored so far. The measure is what is left of the list.
-use Prim.Native.Nat.{_-_, _≤_}
-use mathlib.Core.Path.{_≡_, refl, ap, sym}
+-- as stored so far; it begins behind those that are not due. The measure is what is left of the list.
+use Prim.Native.Nat.{ℕ, _-_, _≤_}
+use mathlib.Core.Path.{_≡_, ap, sym, _∙_}
 use native.Mathlib.Omega.{arith}
-use lib.ListN.{length}
+use lib.ListN.{length, length-replicate}
 use borrow.Author.Needs.{needs}
 use Rattle.record.specs.Lists.{outItems}
 use Rattle.places.specs.Whole.{whole, recordLength}
-use Rattle.overdue.specs.Walking.{Walked}
+use Rattle.overdue.specs.Walking.{Walked, atEntry}
 use Rattle.timeouts.proofs.BackLaws.{sent-fits}
 use Rattle.timeouts.proofs.Walking.{Going}
+use Rattle.timeouts.proofs.Early.{early-fits, going-begun}
 use Rattle.timeouts.proofs.PlaceLaws.{lent-turn, walk-end, slots-end}
 use Rattle.timeouts.proofs.walk.Statement.{statement}
 use Rattle.timeouts.proofs.walk.Tie as tie
 
 abbrev Inv-loop : tie.InvT-loop
-Inv-loop words₀ clock limits n w₀ marks₀ j₀ words w marks j =
-    (j ≤ n) × (n ≤ 32) × (length words ≡ recordLength) × Going limits clock (outItems (whole words₀ .lists .sent)) w₀ (whole words₀) (whole words) w marks j
+Inv-loop words₀ clock marks₀ limits n j₀ w₀ words marks j w =
+    let p = whole words₀ in
+    (j ≤ n) × (n ≤ 32) × (length words ≡ recordLength) × (length marks ≡ 32) × Going limits clock (outItems (p .lists .sent)) (atEntry (p .times) (p .loss) (p .flow)) p (whole words) w marks j
 
 abbrev μ-loop : tie.MeasureT-loop
-μ-loop words₀ clock limits n w₀ marks₀ j₀ words w marks j = n - j
+μ-loop words₀ clock marks₀ limits n j₀ w₀ words marks j w = n - j
 
 limits-requires : tie.Need-limits-requires Inv-loop μ-loop
 limits-requires c κs = search needs
@@ -27,17 +29,25 @@ limits-requires c κs = search needs
 count-requires : tie.Need-count-requires Inv-loop μ-loop
 count-requires c κs = search needs
 
+early-requires : tie.Need-early-requires Inv-loop μ-loop
+early-requires c κs = search needs
+
 begin-requires : tie.Need-begin-requires Inv-loop μ-loop
 begin-requires c κs = search needs
 
 loop-holds : tie.Need-loop-holds Inv-loop μ-loop
 loop-holds c =
-    let n = c .before .before in
-    let b = n .before .before .before .before .before in (
-      omega arith,
-      omega (arith, n .count .ensures, sent-fits (b .args .words .now)),
-      b .pre,
-      record { sized = refl; same = refl; goes = refl },
+    let at-early = c .before .before in
+    let at-count = at-early .before .before in
+    let at-start = at-count .before .before .before .before .before .before in
+    let p = whole (at-start .args .words .now) in
+    let fits = sent-fits (at-start .args .words .now) in
+    let low = early-fits (at-start .args .clock) (p .outgoing) (outItems (p .lists .sent)) in (
+      omega (arith, at-count .count .ensures, at-early .early .ensures, low),
+      omega (arith, at-count .count .ensures, fits),
+      at-start .pre .0,
+      ap length (at-start .pre .1) ∙ length-replicate {A = ℕ} 32 0,
+      going-begun (at-count .before .before .limits .result) (at-start .args .clock) p (at-start .args .marks .now) (at-early .early .result) (c .begin .result) fits (at-start .pre .1) (at-early .early .ensures) (c .begin .ensures),
     )
 
 slot-at-requires : tie.Need-slot-at-requires Inv-loop μ-loop
@@ -49,8 +59,8 @@ cast-turn c = search needs
 turn-requires : tie.Need-turn-requires Inv-loop μ-loop
 turn-requires c κs = search needs
 
-array-write-marks : tie.Need-array-write-marks Inv-loop μ-loop
-array-write-marks c = omega arith
+slice-write-marks : tie.Need-slice-write-marks Inv-loop μ-loop
+slice-write-marks c = search needs
 
 add-j : tie.Need-add-j Inv-loop μ-loop
 add-j c = omega arith
@@ -60,33 +70,37 @@ loop-less c = omega arith
 
 loop-again : tie.Need-loop-again Inv-loop μ-loop
 loop-again c =
-    let t = c .before .before .before in
-    let s = t .before .before in
-    let e = s .before .before in
-    let l = e .before in
-    let n = l .before .before .before in
-    let i = l .loop .inv in (
+    let at-turn = c .before .before .before in
+    let at-slot = at-turn .before .before in
+    let at-test = at-slot .before .before in
+    let at-loop = at-test .before in
+    let at-count = at-loop .before .before .before .before .before in
+    let i = at-loop .loop .inv in (
       omega arith,
       i .1,
       search needs,
-      lent-turn (i .3) (s .slot-at .result) (t .turn .result .mark) (t .turn .result .walk) (whole (t .turn .last .0)) (omega (arith, n .count .ensures, e .loop-test .taken))
-          (omega (arith, n .count .ensures)) (s .slot-at .ensures) (t .turn .ensures .0) (t .turn .ensures .1 .0) (t .turn .ensures .1 .1),
+      search needs,
+      lent-turn (i .4) (at-slot .slot-at .result) (at-turn .turn .result .mark) (at-turn .turn .result .walk) (whole (at-turn .turn .last .0)) (omega (arith, at-count .count .ensures, at-test .loop-test .taken))
+          (omega (arith, at-count .count .ensures)) (at-slot .slot-at .ensures) (at-turn .turn .ensures .0) (at-turn .turn .ensures .1 .0) (at-turn .turn .ensures .1 .1),
     )
 
 same-length : tie.Need-same-length Inv-loop μ-loop
 same-length c = search needs
 
+same-length-2 : tie.Need-same-length-2 Inv-loop μ-loop
+same-length-2 c = search needs
+
 returns : tie.Need-returns Inv-loop μ-loop
 returns c =
-    let l = c .before in
-    let b = l .before in
-    let n = b .before .before in
-    let m = n .before .before in
-    let i = l .loop .inv in
-    let e : l .loop .j ≡ length (outItems (whole (m .before .before .before .args .words .now) .lists .sent)) = omega (arith, n .count .ensures) in
-    let is = walk-end (i .3) (m .limits .ensures) (b .begin .ensures) e in (
+    let at-loop = c .before in
+    let at-count = at-loop .before .before .before .before .before in
+    let at-limits = at-count .before .before in
+    let p = whole (at-limits .before .before .before .before .args .words .now) in
+    let i = at-loop .loop .inv in
+    let e : at-loop .loop .j ≡ length (outItems (p .lists .sent)) = omega (arith, at-count .count .ensures) in
+    let is = walk-end (i .4) (at-limits .limits .ensures) e in (
       ap (λ (x : Walked). x .walk) (sym is),
-      (ap (λ (x : Walked). x .marks) (sym is), slots-end (i .3) (m .limits .ensures) (b .begin .ensures) e),
+      (ap (λ (x : Walked). x .marks) (sym is), slots-end (i .4) (at-limits .limits .ensures) e),
     )
 
 pub walk-spec : {M : Type 1} → statement M
@@ -97,14 +111,16 @@ walk-spec =
     μ-loop
     limits-requires
     count-requires
+    early-requires
     begin-requires
     loop-holds
     slot-at-requires
     cast-turn
     turn-requires
-    array-write-marks
+    slice-write-marks
     add-j
     loop-less
     loop-again
     same-length
+    same-length-2
     returns)

@@ -1,4 +1,4 @@
--- `turn` meets its contract: the step's answer on the slot in brief is the rule's, and only the slot's timeout is another.
+-- `turn` meets its contract: the step's answer on what it needs of the slot is the rule's, and only the slot's timeout is another.
 use mathlib.Core.Path.{ap}
 use lib.ListN.{getD}
 use borrow.Author.Needs.{needs}
@@ -9,34 +9,34 @@ use Rattle.timeouts.proofs.BackLaws.{turn-is, turn-put}
 use Rattle.timeouts.proofs.back.turn.Statement.{statement}
 use Rattle.timeouts.proofs.back.turn.Tie as tie
 
-brief-at-requires : tie.Need-brief-at-requires
-brief-at-requires c κs = search needs
+sent-at-requires : tie.Need-sent-at-requires
+sent-at-requires c κs = search needs
 
 step-by-requires : tie.Need-step-by-requires
 step-by-requires c κs = search needs
 
-put-attempt-requires : tie.Need-put-attempt-requires
-put-attempt-requires c κs = search needs
+retime-requires : tie.Need-retime-requires
+retime-requires c κs = search needs
 
 same-length : tie.Need-same-length
 same-length c = search needs
 
 returns : tie.Need-returns
 returns c =
-    let u = c .before .before in
-    let t = u .before .before .before in
-    let b = t .before in
-    let a = b .before .before .before .args in
+    let at-put = c .before .before in
+    let at-step = at-put .before .before .before in
+    let at-sent = at-step .before in
+    let a = at-sent .before .before .before .args in
     let p = whole (a .words .now) in
     let o = getD (p .outgoing) (a .s) noOutgoing in
-    let is = turn-is (a .limits) (a .clock) (a .walk) o (b .brief-at .result) (t .step-by .result) (b .brief-at .ensures) (t .step-by .ensures) in (
+    let is = turn-is (a .limits) (a .clock) (a .walk) o (at-sent .sent-at .result) (at-step .step-by .result) (at-sent .sent-at .ensures) (at-step .step-by .ensures) in (
       ap (λ (r : After). r .walk) is,
       (
         ap (λ (r : After). r .mark) is,
-        turn-put (a .limits) (a .clock) (a .walk) o (b .brief-at .result) (t .step-by .result) (b .brief-at .ensures) (t .step-by .ensures) p _ (a .s) (u .put-attempt .ensures),
+        turn-put (a .limits) (a .clock) (a .walk) o (at-sent .sent-at .result) (at-step .step-by .result) (at-sent .sent-at .ensures) (at-step .step-by .ensures) p _ (a .s) (at-put .retime .ensures),
       ),
     )
 
 pub turn-spec : {M : Type 1} → statement M
 turn-spec =
-    tie.close (tie.spec brief-at-requires step-by-requires put-attempt-requires same-length returns)
+    tie.close (tie.spec sent-at-requires step-by-requires retime-requires same-length returns)
