@@ -2,7 +2,6 @@
 pub mod flags;
 pub mod groups;
 pub mod incoming;
-pub mod marks;
 pub mod outgoing;
 
 // The pools' sizes, in this one place.

@@ -3,6 +3,7 @@ ghost use mathlib.Core.Path.{_≡_};
 ghost use Prim.Native.Nat.{_≤_};
 ghost use lib.ListN.{length};
 ghost use Rattle.numbers.specs.Limits.{mostMtu};
+ghost use Rattle.record.specs.Lists.{outgoing};
 ghost use Rattle.peer.specs.Gate.{then};
 ghost use Rattle.peer.specs.Outcome.{Came};
 ghost use Rattle.peer.specs.Calls.{answerOf};
@@ -12,6 +13,7 @@ ghost use Rattle.outbox.specs.CodePlaces.{inLists, queuedBy};
 ghost use Rattle.packets.specs.Refusals.{sendGate, queueGate};
 ghost use Rattle.packets.specs.CodePlans.{packetOf, pieceAt};
 ghost use Rattle.send.specs.Calls.{fragment, sends};
+use cells::marks;
 use outbox::Outbox;
 use outbox::counting::Counters;
 use packets::plans::Packet;
@@ -48,22 +50,31 @@ fn plan_gate(
     channel: u8,
     size: u32,
     count: u32,
-    marks: [u8; OUTGOING],
+    marks: &[u8],
 ) -> Gate
     requires { ⌜ length (now words) ≡ recordLength ⌝ }
-    ensures { λ r. ⌜ r ≡ then (sendGate settings channel size (whole (now (words .entry)) .standing)) (queueGate count (freeIn marks)) ⌝ }
+    requires { ⌜ length (now marks) ≡ outgoing ⌝ }
+    ensures { λ r. ⌜ r ≡ then (sendGate settings channel size (whole (now (words .entry)) .standing)) (queueGate count (freeIn (now (marks .entry)))) ⌝ }
 {
     let standing = groups::standing(words);
-    packets::plans::plan_gate(settings, standing, channel, size, count, marks)
+    packets::plans::plan_gate(settings, standing, channel, size, count, marks::clear(marks))
 }
 
 // Command j of a packet, at its offset, in the lowest free slot.
-fn queue(words: &mut [u32], o: Outbox, packet: Packet, j: u32, offset: u32) -> Outbox
+fn queue(
+    words: &mut [u32],
+    marks: &mut [u8],
+    o: Outbox,
+    packet: Packet,
+    j: u32,
+    offset: u32,
+) -> Outbox
     requires { ⌜ length (now words) ≡ recordLength ⌝ }
-    ensures out { λ r. ⌜ inLists r (queueing (inLists o (whole (now (words .entry)) .lists)) (pieceAt packet j offset) .outbox .lists) ≡ queueing (inLists o (whole (now (words .entry)) .lists)) (pieceAt packet j offset) .outbox ⌝ }
-    ensures kept { λ _. ⌜ whole (now (words .exit)) ≡ queuedBy (whole (now (words .entry))) (queueing (inLists o (whole (now (words .entry)) .lists)) (pieceAt packet j offset)) ⌝ }
+    requires { ⌜ length (now marks) ≡ outgoing ⌝ }
+    ensures out { λ r. ⌜ inLists r (now (marks .exit)) (queueing (inLists o (now (marks .entry)) (whole (now (words .entry)) .lists)) (pieceAt packet j offset) .outbox .lists) ≡ queueing (inLists o (now (marks .entry)) (whole (now (words .entry)) .lists)) (pieceAt packet j offset) .outbox ⌝ }
+    ensures kept { λ _. ⌜ whole (now (words .exit)) ≡ queuedBy (whole (now (words .entry))) (queueing (inLists o (now (marks .entry)) (whole (now (words .entry)) .lists)) (pieceAt packet j offset)) ⌝ }
 {
-    outbox::queue(words, o, packets::plans::piece_at(packet, j, offset))
+    outbox::queue(words, marks, o, packets::plans::piece_at(packet, j, offset))
 }
 
 // Refused by 11, 13, 1, 2, 3, 4 and 5, in this order.
@@ -80,18 +91,18 @@ pub fn send(
     if let Gate::Shut(why) = gate {
         return Reply::Refused(why);
     }
-    let mut o = outbox::open(words, channel);
+    let mut marks = [0u8; OUTGOING];
+    let mut o = outbox::open(words, channel, &mut marks);
     let packet = packet_of(words, settings, o.counters, channel, length, flags);
     let count = packets::plans::count_of(packet);
-    let marks = o.marks;
-    let room = plan_gate(words, settings, channel, length, count, marks);
+    let room = plan_gate(words, settings, channel, length, count, &marks);
     if let Gate::Shut(why) = room {
         return Reply::Refused(why);
     }
     let mut j: u32 = 0;
     let mut offset: u32 = 0;
     while j < count {
-        o = queue(words, o, packet, j, offset);
+        o = queue(words, &mut marks, o, packet, j, offset);
         offset = packets::plans::next_at(packet, offset);
         j = j + 1;
     }
