@@ -1,17 +1,20 @@
 -- Setting up on the lent record: what the code changes in its places is what the outbox with its lists has, and the record's other groups stay.
 -- The argument: each record on the way is a variable with an equation; the definitions compute.
-use Prim.Native.Nat.{ℕ, _≤_, _<_, min}
+use Prim.Native.Nat.{ℕ, _+_, _≤_, _<_, min}
 use mathlib.Core.Path.{_≡_, refl, ap, sym, subst, _∙_}
-use mathlib.Core.List.{List}
+use mathlib.Core.Bool.{true}
+use mathlib.Core.List.{List, _++_}
 use native.Mathlib.Omega.{arith}
-use lib.ListN.{length, set, List·getD-eq-default}
+use lib.ListN.{length, set, length-append, List·getD-eq-default}
 use lib.Seq.{set-out}
 use Rattle.numbers.specs.Modulo.{sum}
 use Rattle.cells.specs.Free.{isMarked, firstFrom, nameable}
 use Rattle.cells.specs.declared.Free.{Free}
 use Rattle.cells.specs.declared.Free.the-variants.{Lowest, Full}
-use Rattle.cells.proofs.Lowest.{first-exists}
-use Rattle.record.specs.Lists.{outgoing}
+use Rattle.cells.proofs.Lowest.{first-exists, free-and-named}
+use Rattle.record.specs.Lists.{outgoing, outItems}
+use Rattle.record.specs.Room.{roomIn}
+use Rattle.record.specs.Damage.{usedOut}
 use Rattle.record.specs.Sizes.{channels}
 use Rattle.record.specs.Fresh.{noChannel}
 use Rattle.record.specs.Updates.{withReliable, withOutgoingGroup, withOutgoingTotal, withQueued}
@@ -19,9 +22,11 @@ use Rattle.record.specs.declared.groups.Flow.{Flow}
 use Rattle.record.specs.declared.groups.Totals.{Totals}
 use Rattle.record.specs.declared.groups.Waiting.{Waiting}
 use Rattle.record.specs.declared.groups.Outgoing.{Outgoing}
+use Rattle.peer.specs.Damage.{sound}
 use Rattle.peer.specs.Sounds.{Whole}
 use Rattle.peer.specs.Updates.{withTotals, withWaiting, withFlow, withLists, withGroups, withChannels, withOutgoing}
 use Rattle.peer.specs.declared.Peer.{Peer}
+use Rattle.peer.proofs.Clauses.{sound-clauses}
 use Rattle.outbox.specs.Counting.{channelAt, numbered, stamped}
 use Rattle.outbox.specs.Pieces.{slotOf, listsWith}
 use Rattle.outbox.specs.CodeOutboxes.{queueingIn, queueing}
@@ -97,3 +102,13 @@ module _ (marks : List ℕ) (long : length marks ≡ outgoing) (f : Free) (fe : 
     sets-one s e t te n ne slot se v y ve ye r re =
         subst (By r (set marks s 1) y) (sym (queueing-is (Lowest s) e))
         (rw (re, te), ye ∙ ap (λ (y : Peer). withOutgoing y (set (y .outgoing) s slot)) ve ∙ rw (se, te, ne))
+
+-- ---- the free slots of a sound record: with what the three lists name they are the whole pool; a, b and c are the lists' lengths
+pub room-left : (p : Peer) → sound p ≡ true → (a b c : ℕ) → a ≡ length (outItems (p .lists .sent)) → b ≡ length (outItems (p .lists .«send_reliable»))
+    → c ≡ length (outItems (p .lists .outgoing)) → roomIn (p .lists) + (a + (b + c)) ≡ outgoing
+room-left p good a b c ae be ce =
+    let k = sound-clauses p good in
+    let l = p .lists in
+    rw (ae, be, ce)
+    (rw (length-append (outItems (l .sent)) (outItems (l .«send_reliable») ++ outItems (l .outgoing)), length-append (outItems (l .«send_reliable»)) (outItems (l .outgoing)))
+    at (free-and-named outgoing (usedOut l) (k .exists) (k .single)))

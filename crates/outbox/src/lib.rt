@@ -4,8 +4,11 @@ pub mod counting;
 pub mod pieces;
 
 ghost use mathlib.Core.Path.{_≡_};
+ghost use mathlib.Core.Bool.{true};
 ghost use lib.ListN.{length, replicate};
 ghost use Rattle.record.specs.Lists.{outgoing};
+ghost use Rattle.record.specs.Room.{roomIn};
+ghost use Rattle.peer.specs.Damage.{sound};
 ghost use Rattle.peer.specs.Updates.{withLists};
 ghost use Rattle.places.specs.Whole.{whole, recordLength};
 ghost use Rattle.outbox.specs.Counting.{countersAt};
@@ -24,6 +27,7 @@ use places::groups;
 use places::pools;
 use queues::Out;
 use queues::outgoing;
+use record::OUTGOING;
 use record::groups::CHANNELS;
 
 // The data total, the host count, the counters of a channel. Which slots the lists name is marked beside it, a mark a slot.
@@ -152,4 +156,16 @@ pub fn close(words: &mut [u32], channel: u8, o: Outbox)
     waiting.queued = o.queued;
     groups::put_waiting(words, waiting);
     recount(words, channel, o.counters);
+}
+
+// How many slots are free: in a sound record the lists name slots that are there, each once.
+pub fn room_in(words: &[u32]) -> usize
+    requires { ⌜ length (now words) ≡ recordLength ⌝ }
+    requires { ⌜ sound (whole (now words)) ≡ true ⌝ }
+    ensures { λ r. ⌜ r ≡ roomIn (whole (now (words .entry)) .lists) ⌝ }
+{
+    let sent = outgoing::count(words, Out::Sent);
+    let reliable = outgoing::count(words, Out::Reliable);
+    let waiting = outgoing::count(words, Out::Outgoing);
+    OUTGOING - sent - reliable - waiting
 }

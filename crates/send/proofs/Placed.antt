@@ -20,11 +20,12 @@ use Rattle.peer.specs.declared.gate.Lent.the-variants.{Nothing}
 use Rattle.peer.specs.declared.calls.Reply.the-variants.{Done, Refused}
 use Rattle.peer.proofs.Gates.{AtGate}
 use Rattle.outbox.specs.Counting.{channelAt}
-use Rattle.outbox.specs.CodeOutboxes.{queueing, outboxOf, freeIn}
+use Rattle.outbox.specs.CodeOutboxes.{queueing, outboxOf}
 use Rattle.outbox.specs.CodePlaces.{inLists, queuedBy, closed}
 use Rattle.outbox.specs.CodeOutboxes.{Outbox}
 use Rattle.outbox.specs.declared.Outbox as lent
 use Rattle.outbox.proofs.PlaceLaws.{Sets}
+use Rattle.setup.specs.Queueing.{room}
 use Rattle.packets.specs.Refusals.{sendGate, queueGate}
 use Rattle.packets.specs.CodePlans.{packetOf, countOf, pieceAt, nextAt}
 use Rattle.packets.specs.declared.plans.Packet.{Packet}
@@ -54,7 +55,7 @@ module _ (x : Packet) (count channel : ℕ) (p₀ : Peer) where
 module _ (s : Settings) (channel n flags : ℕ) (p : Peer) (g : AtGate s Nothing p) (passed : g .gate ≡ Open) (o : lent.Outbox) (marks : List ℕ)
     (oe : inLists o marks (p .lists) ≡ outboxOf (p .totals) (p .waiting) (p .flow) (p .groups) (p .channels) channel (p .lists)) (x : Packet)
     (xe : x ≡ packetOf flags (o .counters .reliable) (o .counters .unreliable) channel n (fragment s p)) (count : ℕ) (ce : count ≡ countOf x) (k : Gate)
-    (ke : k ≡ then (sendGate s channel n (p .standing)) (queueGate count (freeIn marks))) where
+    (ke : k ≡ then (sendGate s channel n (p .standing)) (queueGate count (room p))) where
   pub lent-shut : (why : Refusal) → k ≡ Shut why → Came answerOf (sends s channel n flags p) (Refused why) p
   lent-shut =
       send-shut s channel n flags p g passed (inLists o marks (p .lists)) oe (fragment s p) refl x xe count ce k ke

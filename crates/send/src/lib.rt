@@ -1,19 +1,21 @@
 // Send: a packet becomes commands, one or a piece each.
 ghost use mathlib.Core.Path.{_≡_};
+ghost use mathlib.Core.Bool.{true};
 ghost use Prim.Native.Nat.{_≤_};
 ghost use lib.ListN.{length};
 ghost use Rattle.numbers.specs.Limits.{mostMtu};
 ghost use Rattle.record.specs.Lists.{outgoing};
+ghost use Rattle.record.specs.Room.{roomIn};
+ghost use Rattle.peer.specs.Damage.{sound};
 ghost use Rattle.peer.specs.Gate.{then};
 ghost use Rattle.peer.specs.Outcome.{Came};
 ghost use Rattle.peer.specs.Calls.{answerOf};
 ghost use Rattle.places.specs.Whole.{whole, recordLength};
-ghost use Rattle.outbox.specs.CodeOutboxes.{queueing, freeIn};
+ghost use Rattle.outbox.specs.CodeOutboxes.{queueing};
 ghost use Rattle.outbox.specs.CodePlaces.{inLists, queuedBy};
 ghost use Rattle.packets.specs.Refusals.{sendGate, queueGate};
 ghost use Rattle.packets.specs.CodePlans.{packetOf, pieceAt};
 ghost use Rattle.send.specs.Calls.{fragment, sends};
-use cells::marks;
 use outbox::Outbox;
 use outbox::counting::Counters;
 use packets::plans::Packet;
@@ -43,21 +45,21 @@ fn packet_of(
     packets::plans::packet_of(flags, k, channel, size, fragment)
 }
 
-// 1, 2, 3, 4, 5 of so many commands, by the record's state and channel count.
+// 1, 2, 3, 4, 5 of so many commands, by the record's state, channel count and free slots.
 fn plan_gate(
     words: &[u32],
     settings: Settings,
     channel: u8,
     size: u32,
     count: u32,
-    marks: &[u8],
 ) -> Gate
     requires { ⌜ length (now words) ≡ recordLength ⌝ }
-    requires { ⌜ length (now marks) ≡ outgoing ⌝ }
-    ensures { λ r. ⌜ r ≡ then (sendGate settings channel size (whole (now (words .entry)) .standing)) (queueGate count (freeIn (now (marks .entry)))) ⌝ }
+    requires { ⌜ sound (whole (now words)) ≡ true ⌝ }
+    ensures { λ r. ⌜ r ≡ then (sendGate settings channel size (whole (now (words .entry)) .standing)) (queueGate count (roomIn (whole (now (words .entry)) .lists))) ⌝ }
 {
     let standing = groups::standing(words);
-    packets::plans::plan_gate(settings, standing, channel, size, count, marks::clear(marks))
+    let free = outbox::room_in(words);
+    packets::plans::plan_gate(settings, standing, channel, size, count, free)
 }
 
 // Command j of a packet, at its offset, in the lowest free slot.
@@ -95,7 +97,7 @@ pub fn send(
     let mut o = outbox::open(words, channel, &mut marks);
     let packet = packet_of(words, settings, o.counters, channel, length, flags);
     let count = packets::plans::count_of(packet);
-    let room = plan_gate(words, settings, channel, length, count, &marks);
+    let room = plan_gate(words, settings, channel, length, count);
     if let Gate::Shut(why) = room {
         return Reply::Refused(why);
     }

@@ -5,7 +5,6 @@ ghost use Rattle.peer.specs.Outcome.{Came};
 ghost use Rattle.peer.specs.Calls.{answerOf};
 ghost use Rattle.places.specs.Whole.{whole};
 ghost use Rattle.setup.specs.Calls.{onChannel, setupGate, setsUp};
-use cells::marks;
 use command::bytes;
 use command::fields::Command;
 use command::fields::Fields;
@@ -59,13 +58,13 @@ pub fn setup(words: &mut [u32; RECORD], settings: Settings, x: Piece) -> Reply
         return Reply::Refused(why);
     }
     let c = x.command;
-    let mut marks = [0u8; OUTGOING];
-    let o = outbox::open(words, c.channel, &mut marks);
     let standing = groups::standing(words);
-    let may = setup_gate(x, standing.channels, marks::clear(&marks));
+    let may = setup_gate(x, standing.channels, outbox::room_in(words));
     if let Gate::Shut(why) = may {
         return Reply::Refused(why);
     }
+    let mut marks = [0u8; OUTGOING];
+    let o = outbox::open(words, c.channel, &mut marks);
     let after = outbox::queue(words, &mut marks, o, x);
     outbox::close(words, c.channel, after);
     Reply::Done
@@ -104,12 +103,12 @@ pub fn ping(words: &mut [u32; RECORD], settings: Settings) -> Reply
     if let Gate::Shut(why) = gate {
         return Reply::Refused(why);
     }
-    let mut marks = [0u8; OUTGOING];
-    let o = outbox::open(words, ITSELF, &mut marks);
-    let may = ping_gate(groups::standing(words), marks::clear(&marks));
+    let may = ping_gate(groups::standing(words), outbox::room_in(words));
     if let Gate::Shut(why) = may {
         return Reply::Refused(why);
     }
+    let mut marks = [0u8; OUTGOING];
+    let o = outbox::open(words, ITSELF, &mut marks);
     let after = outbox::queue(words, &mut marks, o, PING);
     outbox::close(words, ITSELF, after);
     Reply::Done
