@@ -1,10 +1,12 @@
 -- `send` passes the gate and its own refusals; then its loop queues the packet's commands in order, in place, and the numbers go back.
 -- What the loop keeps is `Goes`: Going of the record as it then is.
 use Prim.Native.Nat.{ℕ, _-_, _≤_}
-use mathlib.Core.Path.{refl}
+use mathlib.Core.Path.{_≡_, refl}
+use mathlib.Core.Bool.{true}
 use mathlib.Core.List.{List}
 use borrow.Author.Needs.{needs}
 use Rattle.numbers.specs.Limits.{mostMtu}
+use Rattle.peer.specs.Damage.{sound}
 use Rattle.peer.specs.Calls.{answerOf}
 use Rattle.peer.specs.declared.Peer.{Peer}
 use Rattle.peer.specs.declared.gate.Lent.the-variants.{Nothing}
@@ -42,12 +44,15 @@ named c = c .«open» .last .1 .1 .0
 abbrev asked : (c : Opened) → AtGate (begun c .args .settings) Nothing (peer c)
 asked c = let g = passed c .before .before .ask in record { gate = g .result; is = g .ensures }
 
+good : (c : Opened) → sound (peer c) ≡ true
+good c = open-sound (asked c) (passed c .enum-told .given .1)
+
 -- where the send's own gate has answered: the commands counted, the packet, the outbox
 abbrev Planned : Type 0
 Planned = tie.After-plan-gate Inv-loop μ-loop
 
 abbrev counted : Planned → tie.After-count-of Inv-loop μ-loop
-counted c = c .before .before .before .before
+counted c = c .before .before .before
 
 abbrev opened : Planned → Opened
 opened c = counted c .before .before .before .before .before
@@ -79,17 +84,16 @@ open-requires c κs = search needs
 packet-of-requires : tie.Need-packet-of-requires Inv-loop μ-loop
 packet-of-requires c κs =
     let o = c .before .before .before in
-    let h : peer o .flow .mtu ≤ mostMtu = mtu-high (peer o) (open-sound (asked o) (passed o .enum-told .given .1)) in
+    let h : peer o .flow .mtu ≤ mostMtu = mtu-high (peer o) (good o) in
     search needs
 
 count-of-requires : tie.Need-count-of-requires Inv-loop μ-loop
 count-of-requires c κs = search needs
 
-slice-aggregate-plan-gate : tie.Need-slice-aggregate-plan-gate Inv-loop μ-loop
-slice-aggregate-plan-gate c = search needs
-
 plan-gate-requires : tie.Need-plan-gate-requires Inv-loop μ-loop
-plan-gate-requires c κs = search needs
+plan-gate-requires c κs =
+    let h = good (c .before .before .before .before .before .before .before) in
+    search needs
 
 enum-known-room : tie.Need-enum-known-room Inv-loop μ-loop
 enum-known-room c = search needs
@@ -175,7 +179,6 @@ send-spec =
     open-requires
     packet-of-requires
     count-of-requires
-    slice-aggregate-plan-gate
     plan-gate-requires
     enum-known-room
     returns-2
