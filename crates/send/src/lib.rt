@@ -46,13 +46,7 @@ fn packet_of(
 }
 
 // 1, 2, 3, 4, 5 of so many commands, by the record's state, channel count and free slots.
-fn plan_gate(
-    words: &[u32],
-    settings: Settings,
-    channel: u8,
-    size: u32,
-    count: u32,
-) -> Gate
+fn plan_gate(words: &[u32], settings: Settings, channel: u8, size: u32, count: u32) -> Gate
     requires { ⌜ length (now words) ≡ recordLength ⌝ }
     requires { ⌜ sound (whole (now words)) ≡ true ⌝ }
     ensures { λ r. ⌜ r ≡ then (sendGate settings channel size (whole (now (words .entry)) .standing)) (queueGate count (roomIn (whole (now (words .entry)) .lists))) ⌝ }

@@ -1,7 +1,7 @@
 -- A setup or a ping comes out as its rule says: the parts that the code makes are the rule's, whatever made them.
 -- The argument: each part is given by its equation; behind both gates the record made of them is the one that Stored speaks of.
-use Prim.Native.Nat.{ℕ, _≤_, _<_}
-use mathlib.Core.Path.{_≡_, refl, ap, sym, _∙_}
+use Prim.Native.Nat.{ℕ, _≤_}
+use mathlib.Core.Path.{_≡_, refl, sym, _∙_}
 use mathlib.Core.List.{List}
 use lib.ListN.{set}
 use borrow.Author.Tests.{leb-true}
