@@ -8,6 +8,7 @@ ghost use Rattle.cells.specs.Free.{markedAll};
 ghost use Rattle.record.specs.Damage.{below, held};
 ghost use Rattle.places.specs.Whole.{whole, recordLength};
 use cells::Free;
+use cells::marks;
 use numbers::counters::Reliable;
 use places::groups;
 use record::INCOMING;
@@ -15,7 +16,6 @@ use record::groups::CELL;
 use record::groups::CHANNELS;
 use record::groups::Incoming;
 use record::groups::Waiting;
-use record::marks::lowest_incoming;
 
 // The slot of a packet that came whole.
 pub fn incoming_of(byte: u8, channel: u8, number: Reliable, length: u32) -> Incoming
@@ -88,5 +88,5 @@ pub fn free_slot(words: &[u32]) -> Free
     queues::dispatched::mark(words, &mut marks);
     let standing = groups::standing(words);
     mark_held(words, standing.channels, &mut marks);
-    lowest_incoming(marks)
+    marks::lowest(&marks)
 }

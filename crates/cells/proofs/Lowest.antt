@@ -50,10 +50,13 @@ first-none f (suc left) from e j p q = go (first-none f left (from + 1)) (f from
     go rest true t e false s = rest e j (omega (arith, eqb-false from j s)) (omega arith)
     go rest false t e a s = let z : _≡_ {A = ℕ} 0 1 = cc in absurd (omega arith)
 
+pub first-exists : (f : ℕ → Bool) (n k : ℕ) → firstFrom f n 0 ≡ Lowest k → k < n
+first-exists f n k e = let r = first-is f n 0 k e in omega (arith, r .high)
+
 module _ (n : ℕ) (xs : List ℕ) where
   module _ (k : ℕ) (e : lowest n xs ≡ Lowest k) where
     pub lowest-exists : k < n
-    lowest-exists = let r = first-is (has xs) n 0 k e in omega (arith, r .high)
+    lowest-exists = first-exists (has xs) n k e
 
     pub lowest-free : has xs k ≡ false
     lowest-free = first-is (has xs) n 0 k e .free

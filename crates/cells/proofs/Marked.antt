@@ -8,8 +8,8 @@ use native.Mathlib.Omega.{arith}
 use lib.ListN.{length, set, replicate, length-set, length-replicate}
 use Rattle.numbers.specs.Pick.{pick}
 use Rattle.cells.specs.Runs.{has}
-use Rattle.cells.specs.Free.{firstFrom, countFrom, lowest, howMany, isMarked, markedAll}
-use Rattle.cells.proofs.Scans.{set-mark-past, or-swap, off, unmarked, first-same, count-same}
+use Rattle.cells.specs.Free.{firstFrom, lowest, isMarked, markedAll}
+use Rattle.cells.proofs.Scans.{set-mark-past, or-swap, off, unmarked, first-same}
 
 -- two lists one after the other
 pub marked-append : (m xs ys : List ℕ) → markedAll m (xs ++ ys) ≡ markedAll (markedAll m xs) ys
@@ -35,6 +35,3 @@ marked-says n xs k h = marked-at (replicate n 0) xs k (rw (length-replicate {A =
 
 pub marked-lowest : (n : ℕ) (xs : List ℕ) → firstFrom (isMarked (markedAll (replicate n 0) xs)) n 0 ≡ lowest n xs
 marked-lowest n xs = first-same (isMarked (markedAll (replicate n 0) xs)) (has xs) n 0 (λ j q. marked-says n xs j (omega arith))
-
-pub marked-count : (n : ℕ) (xs : List ℕ) → countFrom (isMarked (markedAll (replicate n 0) xs)) n 0 ≡ howMany n xs
-marked-count n xs = count-same (isMarked (markedAll (replicate n 0) xs)) (has xs) n 0 (λ j q. marked-says n xs j (omega arith))

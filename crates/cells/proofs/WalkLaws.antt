@@ -1,4 +1,4 @@
--- The loops that walk: what is left of the view from place k is cell k and what is left from k + 1; and so for a count upward.
+-- The loops that walk: what is left of the view from place k is cell k and what is left from k + 1; and so for a search upward.
 -- The argument: the definition on the whole is the definition on what is left, a turn at a time.
 use Prim.Native.Nat.{ℕ, zero, suc, _+_, _-_, _≤_, _<_}
 use mathlib.Core.Path.{_≡_}
@@ -9,7 +9,7 @@ use lib.ListN.{length, take, drop, getD}
 use borrow.Author.Tests.{eq-eqb, ne-eqb}
 use Rattle.cells.proofs.Views.{part-step, part-end}
 use Rattle.cells.specs.Runs.{findFrom}
-use Rattle.cells.specs.Free.{firstFrom, countFrom}
+use Rattle.cells.specs.Free.{firstFrom}
 use Rattle.cells.specs.declared.Found.the-variants.{At, Nowhere}
 use Rattle.cells.specs.declared.Free.the-variants.{Lowest, Full}
 
@@ -30,7 +30,7 @@ module _ (xs : List ℕ) (n k s : ℕ) (e : n ≤ length xs) (h : k < n) where
 pub find-end : (xs : List ℕ) (n k s : ℕ) → n ≤ k → findFrom k (drop k (take n xs)) s ≡ Nowhere
 find-end xs n k s h = rw (view-end xs n k)
 
--- the search and the count upward to n
+-- the search upward to n
 module _ (f : ℕ → Bool) (n k : ℕ) where
   pub first-hit : k < n → f k ≡ false → firstFrom f (n - k) k ≡ Lowest k
   unfolding firstFrom
@@ -43,15 +43,3 @@ module _ (f : ℕ → Bool) (n k : ℕ) where
   pub first-end : n ≤ k → firstFrom f (n - k) k ≡ Full
   unfolding firstFrom
   first-end h = let d : n - k ≡ zero = omega arith in rw d
-
-  pub count-hit : k < n → f k ≡ false → countFrom f (n - k) k ≡ 1 + countFrom f (n - (k + 1)) (k + 1)
-  unfolding countFrom
-  count-hit h e = let d : n - k ≡ suc (n - (k + 1)) = omega arith in rw (d, e)
-
-  pub count-miss : k < n → f k ≡ true → countFrom f (n - k) k ≡ countFrom f (n - (k + 1)) (k + 1)
-  unfolding countFrom
-  count-miss h e = let d : n - k ≡ suc (n - (k + 1)) = omega arith in rw (d, e) (omega arith)
-
-  pub count-end : n ≤ k → countFrom f (n - k) k ≡ 0
-  unfolding countFrom
-  count-end h = let d : n - k ≡ zero = omega arith in rw d

@@ -1,8 +1,8 @@
-// Marks, one a slot of a pool: which slots the lists name, the lowest free one, how many are free.
+// Marks, one a slot of a pool: which slots the lists name, the lowest free one.
 ghost use mathlib.Core.Path.{_≡_};
 ghost use Prim.Native.Nat.{min};
 ghost use lib.ListN.{length};
-ghost use Rattle.cells.specs.Free.{isMarked, firstFrom, countFrom, nameable};
+ghost use Rattle.cells.specs.Free.{isMarked, firstFrom, nameable};
 use crate::Free;
 use crate::least;
 
@@ -22,19 +22,4 @@ pub fn lowest(marks: &[u8]) -> Free
         k = k + 1;
     }
     Free::Full
-}
-
-// How many slots have no mark.
-pub fn clear(marks: &[u8]) -> usize
-    ensures { λ r. ⌜ r ≡ countFrom (isMarked (now (marks .entry))) (length (now (marks .entry))) 0 ⌝ }
-{
-    let mut count: usize = 0;
-    let mut j: usize = 0;
-    while j < marks.len() {
-        if marks[j] != 1 {
-            count = count + 1;
-        }
-        j = j + 1;
-    }
-    count
 }

@@ -1,16 +1,20 @@
 -- Setting up on the lent record: what the code changes in its places is what the outbox with its lists has, and the record's other groups stay.
 -- The argument: each record on the way is a variable with an equation; the definitions compute.
-use Prim.Native.Nat.{ℕ, _≤_}
+use Prim.Native.Nat.{ℕ, _+_, _≤_, _<_, min}
 use mathlib.Core.Path.{_≡_, refl, ap, sym, subst, _∙_}
-use mathlib.Core.List.{List}
+use mathlib.Core.Bool.{true}
+use mathlib.Core.List.{List, _++_}
 use native.Mathlib.Omega.{arith}
-use lib.ListN.{set, List·getD-eq-default}
+use lib.ListN.{length, set, length-append, List·getD-eq-default}
 use lib.Seq.{set-out}
 use Rattle.numbers.specs.Modulo.{sum}
-use Rattle.cells.specs.Free.{isMarked, firstFrom}
+use Rattle.cells.specs.Free.{isMarked, firstFrom, nameable}
 use Rattle.cells.specs.declared.Free.{Free}
 use Rattle.cells.specs.declared.Free.the-variants.{Lowest, Full}
-use Rattle.record.specs.Lists.{outgoing}
+use Rattle.cells.proofs.Lowest.{first-exists, free-and-named}
+use Rattle.record.specs.Lists.{outgoing, outItems}
+use Rattle.record.specs.Room.{roomIn}
+use Rattle.record.specs.Damage.{usedOut}
 use Rattle.record.specs.Sizes.{channels}
 use Rattle.record.specs.Fresh.{noChannel}
 use Rattle.record.specs.Updates.{withReliable, withOutgoingGroup, withOutgoingTotal, withQueued}
@@ -18,9 +22,11 @@ use Rattle.record.specs.declared.groups.Flow.{Flow}
 use Rattle.record.specs.declared.groups.Totals.{Totals}
 use Rattle.record.specs.declared.groups.Waiting.{Waiting}
 use Rattle.record.specs.declared.groups.Outgoing.{Outgoing}
+use Rattle.peer.specs.Damage.{sound}
 use Rattle.peer.specs.Sounds.{Whole}
 use Rattle.peer.specs.Updates.{withTotals, withWaiting, withFlow, withLists, withGroups, withChannels, withOutgoing}
 use Rattle.peer.specs.declared.Peer.{Peer}
+use Rattle.peer.proofs.Clauses.{sound-clauses}
 use Rattle.outbox.specs.Counting.{channelAt, numbered, stamped}
 use Rattle.outbox.specs.Pieces.{slotOf, listsWith}
 use Rattle.outbox.specs.CodeOutboxes.{queueingIn, queueing}
@@ -64,26 +70,45 @@ closed-is p v w x channel o t h te ve he we xe =
     ∙ ap (λ (h : Waiting). withWaiting v (withQueued h (o .queued))) he
     ∙ ap (λ (y : Peer). withWaiting y (withQueued (y .waiting) (o .queued))) (ve ∙ ap (λ (t : Totals). withTotals p (withOutgoingTotal t (o .total))) te))
 
--- ---- a piece set up: o, p become r, y as the outbox with its lists has it
-abbrev pub Sets : Peer → lent.Outbox → Piece → lent.Outbox → Peer → Type 0
-Sets p o x r y =
-    (inLists r (queueing (inLists o (p .lists)) x .outbox .lists) ≡ queueing (inLists o (p .lists)) x .outbox)
-    × (y ≡ queuedBy p (queueing (inLists o (p .lists)) x))
+-- ---- a piece set up: o, its marks and p become r, other marks and y as the outbox with its lists has it
+abbrev pub Sets : Peer → lent.Outbox → List ℕ → Piece → lent.Outbox → List ℕ → Peer → Type 0
+Sets p o marks x r after y =
+    (inLists r after (queueing (inLists o marks (p .lists)) x .outbox .lists) ≡ queueing (inLists o marks (p .lists)) x .outbox)
+    × (y ≡ queuedBy p (queueing (inLists o marks (p .lists)) x))
 
-module _ (p : Peer) (o : lent.Outbox) (x : Piece) (f : Free) (fe : f ≡ firstFrom (isMarked (o .marks)) outgoing 0) where
-  abbrev By : lent.Outbox → Peer → Queued → Type 0
-  By r y q = (inLists r (q .outbox .lists) ≡ q .outbox) × (y ≡ queuedBy p q)
+-- f is the lowest slot without a mark, as the code found it
+module _ (marks : List ℕ) (long : length marks ≡ outgoing) (f : Free) (fe : f ≡ firstFrom (isMarked marks) (min (length marks) nameable) 0) where
+  found-is : f ≡ firstFrom (isMarked marks) outgoing 0
+  found-is = rw long at fe
 
-  queueing-is : (g : Free) → f ≡ g → queueing (inLists o (p .lists)) x ≡ queueingIn g (inLists o (p .lists)) x
-  queueing-is g e = ap (λ (f : Free). queueingIn f (inLists o (p .lists)) x) (sym fe ∙ e)
+  pub found-exists : (s : ℕ) → f ≡ Lowest s → s < length marks
+  found-exists s e = rw long (first-exists (isMarked marks) outgoing s (sym found-is ∙ e))
 
-  pub sets-none : Whole p → f ≡ Full → Sets p o x o p
-  sets-none s e = subst (By o p) (sym (queueing-is Full e)) (refl, ap (withOutgoing p) (sym (set-out (p .outgoing) outgoing _ (omega (arith, s .outgoing)))))
+  module _ (p : Peer) (o : lent.Outbox) (x : Piece) where
+    abbrev By : lent.Outbox → List ℕ → Peer → Queued → Type 0
+    By r after y q = (inLists r after (q .outbox .lists) ≡ q .outbox) × (y ≡ queuedBy p q)
 
-  -- t is how the command was stamped; v and y are the record with its list, then with its slot
-  pub sets-one : (s : ℕ) → f ≡ Lowest s → (t : Stamped) → t ≡ stamped (x .command .byte) (x .command .channel) (x .offset) (o .counters) → (n : ℕ) → n ≡ sum 32 (o .queued) 1
-      → (slot : Outgoing) → slot ≡ slotOf x t n → (v y : Peer) → v ≡ withLists p (listsWith (p .lists) x s) → y ≡ withOutgoing v (set (v .outgoing) s slot)
-      → (r : lent.Outbox) → r ≡ placed o x s (t .counters) → Sets p o x r y
-  sets-one s e t te n ne slot se v y ve ye r re =
-      subst (By r y) (sym (queueing-is (Lowest s) e))
-      (rw (re, te), ye ∙ ap (λ (y : Peer). withOutgoing y (set (y .outgoing) s slot)) ve ∙ rw (se, te, ne))
+    queueing-is : (g : Free) → f ≡ g → queueing (inLists o marks (p .lists)) x ≡ queueingIn g (inLists o marks (p .lists)) x
+    queueing-is g e = ap (λ (f : Free). queueingIn f (inLists o marks (p .lists)) x) (sym found-is ∙ e)
+
+    pub sets-none : Whole p → f ≡ Full → Sets p o marks x o marks p
+    sets-none s e =
+        subst (By o marks p) (sym (queueing-is Full e)) (refl, ap (withOutgoing p) (sym (set-out (p .outgoing) outgoing _ (omega (arith, s .outgoing)))))
+
+    -- t is how the command was stamped; v and y are the record with its list, then with its slot
+    pub sets-one : (s : ℕ) → f ≡ Lowest s → (t : Stamped) → t ≡ stamped (x .command .byte) (x .command .channel) (x .offset) (o .counters) → (n : ℕ)
+        → n ≡ sum 32 (o .queued) 1 → (slot : Outgoing) → slot ≡ slotOf x t n → (v y : Peer) → v ≡ withLists p (listsWith (p .lists) x s)
+        → y ≡ withOutgoing v (set (v .outgoing) s slot) → (r : lent.Outbox) → r ≡ placed o x (t .counters) → Sets p o marks x r (set marks s 1) y
+    sets-one s e t te n ne slot se v y ve ye r re =
+        subst (By r (set marks s 1) y) (sym (queueing-is (Lowest s) e))
+        (rw (re, te), ye ∙ ap (λ (y : Peer). withOutgoing y (set (y .outgoing) s slot)) ve ∙ rw (se, te, ne))
+
+-- ---- the free slots of a sound record: with what the three lists name they are the whole pool; a, b and c are the lists' lengths
+pub room-left : (p : Peer) → sound p ≡ true → (a b c : ℕ) → a ≡ length (outItems (p .lists .sent)) → b ≡ length (outItems (p .lists .«send_reliable»))
+    → c ≡ length (outItems (p .lists .outgoing)) → roomIn (p .lists) + (a + (b + c)) ≡ outgoing
+room-left p good a b c ae be ce =
+    let k = sound-clauses p good in
+    let l = p .lists in
+    rw (ae, be, ce)
+    (rw (length-append (outItems (l .sent)) (outItems (l .«send_reliable») ++ outItems (l .outgoing)), length-append (outItems (l .«send_reliable»)) (outItems (l .outgoing)))
+    at (free-and-named outgoing (usedOut l) (k .exists) (k .single)))

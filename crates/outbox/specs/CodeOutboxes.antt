@@ -5,7 +5,7 @@ use mathlib.Core.List.{List}
 use lib.ListN.{set, replicate}
 use Rattle.numbers.specs.Modulo.{sum}
 use Rattle.record.specs.Lists.{outgoing}
-use Rattle.cells.specs.Free.{isMarked, markedAll, firstFrom, countFrom}
+use Rattle.cells.specs.Free.{isMarked, markedAll, firstFrom}
 use Rattle.cells.specs.declared.Free.{Free}
 use Rattle.cells.specs.declared.Free.the-variants.{Lowest, Full}
 use Rattle.record.specs.Damage.{usedOut}
@@ -69,6 +69,3 @@ outboxOf totals waiting flow groups cs channel lists =
       lists = lists;
       marks = markedAll (replicate outgoing 0) (usedOut lists);
     }
-
-abbrev pub freeIn : List ℕ → ℕ
-freeIn marks = countFrom (isMarked marks) outgoing 0

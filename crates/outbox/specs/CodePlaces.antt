@@ -1,5 +1,6 @@
--- Setting up on the lent record: the outbox keeps no lists, they change in their places. Only the code's own, as the outbox is.
+-- Setting up on the lent record: the outbox keeps no lists and no marks, they change in their places. Only the code's own, as the outbox is.
 use Prim.Native.Nat.{ℕ}
+use mathlib.Core.List.{List}
 use lib.ListN.{set}
 use Rattle.numbers.specs.Modulo.{sum}
 use Rattle.record.specs.Updates.{withOutgoingTotal, withQueued, withReliable, withOutgoingGroup}
@@ -14,13 +15,13 @@ use Rattle.outbox.specs.CodeOutboxes.{Outbox}
 use Rattle.outbox.specs.CodeOutboxes.{Queued}
 use Rattle.outbox.specs.declared.Outbox as lent
 
--- the outbox of the record whose lists these are
-abbrev pub inLists : lent.Outbox → Lists → Outbox
-inLists o l = record { total = o .total; queued = o .queued; counters = o .counters; lists = l; marks = o .marks }
+-- the outbox of the record whose lists these are, with these marks
+abbrev pub inLists : lent.Outbox → List ℕ → Lists → Outbox
+inLists o marks l = record { total = o .total; queued = o .queued; counters = o .counters; lists = l; marks = marks }
 
--- it once a piece is in slot s, with the counters that it left
-abbrev pub placed : lent.Outbox → Piece → ℕ → Counters → lent.Outbox
-placed o x s k = record { total = grown (o .total) x; queued = sum 32 (o .queued) 1; counters = k; marks = set (o .marks) s 1 }
+-- it once a piece is in a slot, with the counters that it left
+abbrev pub placed : lent.Outbox → Piece → Counters → lent.Outbox
+placed o x k = record { total = grown (o .total) x; queued = sum 32 (o .queued) 1; counters = k }
 
 -- the record with a piece set up: its lists, and the slot in the pool
 abbrev pub queuedBy : Peer → Queued → Peer

@@ -4,16 +4,21 @@ pub mod counting;
 pub mod pieces;
 
 ghost use mathlib.Core.Path.{_≡_};
-ghost use lib.ListN.{length, set};
+ghost use mathlib.Core.Bool.{true};
+ghost use lib.ListN.{length, replicate};
+ghost use Rattle.record.specs.Lists.{outgoing};
+ghost use Rattle.record.specs.Room.{roomIn};
+ghost use Rattle.peer.specs.Damage.{sound};
 ghost use Rattle.peer.specs.Updates.{withLists};
 ghost use Rattle.places.specs.Whole.{whole, recordLength};
 ghost use Rattle.outbox.specs.Counting.{countersAt};
 ghost use Rattle.outbox.specs.Pieces.{listsWith};
-ghost use Rattle.outbox.specs.CodeOutboxes.{queueing, outboxOf, freeIn};
+ghost use Rattle.outbox.specs.CodeOutboxes.{queueing, outboxOf};
 ghost use Rattle.outbox.specs.CodePlaces.{inLists, placed, queuedBy, recounted, closed};
 use crate::counting::Counters;
 use crate::pieces::Piece;
 use cells::Free;
+use cells::marks;
 use command::bytes;
 use numbers::counters::Reliable;
 use numbers::counters::Unreliable;
@@ -24,14 +29,12 @@ use queues::Out;
 use queues::outgoing;
 use record::OUTGOING;
 use record::groups::CHANNELS;
-use record::marks;
 
-// The data total, the host count, the counters of a channel, and the slots that the lists name.
+// The data total, the host count, the counters of a channel. Which slots the lists name is marked beside it, a mark a slot.
 pub struct Outbox {
     pub total: u32,
     pub queued: u32,
     pub counters: Counters,
-    pub marks: [u8; OUTGOING],
 }
 
 // The counters that a command on this channel may step; 0 for a channel that is not there.
@@ -61,21 +64,20 @@ fn counters_at(words: &[u32], channel: u8) -> Counters
     }
 }
 
-// What setting up on a channel changes, off the record.
-pub fn open(words: &[u32], channel: u8) -> Outbox
+// What setting up on a channel changes, off the record; each slot that the lists name gets its mark.
+pub fn open(words: &[u32], channel: u8, marks: &mut [u8]) -> Outbox
     requires { ⌜ length (now words) ≡ recordLength ⌝ }
-    ensures { λ r. ⌜ inLists r (whole (now (words .entry)) .lists) ≡ outboxOf (whole (now (words .entry)) .totals) (whole (now (words .entry)) .waiting) (whole (now (words .entry)) .flow) (whole (now (words .entry)) .groups) (whole (now (words .entry)) .channels) channel (whole (now (words .entry)) .lists) ⌝ }
+    requires { ⌜ now marks ≡ replicate outgoing 0 ⌝ }
+    ensures { λ r. ⌜ inLists r (now (marks .exit)) (whole (now (words .entry)) .lists) ≡ outboxOf (whole (now (words .entry)) .totals) (whole (now (words .entry)) .waiting) (whole (now (words .entry)) .flow) (whole (now (words .entry)) .groups) (whole (now (words .entry)) .channels) channel (whole (now (words .entry)) .lists) ⌝ }
 {
     let totals = groups::totals(words);
     let waiting = groups::waiting(words);
     let counters = counters_at(words, channel);
-    let mut marks = [0u8; OUTGOING];
-    outgoing::mark(words, &mut marks);
+    outgoing::mark(words, marks);
     Outbox {
         total: totals.outgoing,
         queued: waiting.queued,
         counters,
-        marks,
     }
 }
 
@@ -94,38 +96,36 @@ fn join(words: &mut [u32], x: Piece, s: u16)
     outgoing::push(words, Out::Outgoing, s);
 }
 
-// The outbox once a piece is in slot s, with the counters that it left.
-fn placed(o: Outbox, x: Piece, s: u16, counters: Counters) -> Outbox
-    ensures { λ r. ⌜ r ≡ placed o x s counters ⌝ }
+// The outbox once a piece is in a slot, with the counters that it left.
+fn placed(o: Outbox, x: Piece, counters: Counters) -> Outbox
+    ensures { λ r. ⌜ r ≡ placed o x counters ⌝ }
 {
-    let before = o.marks;
-    let marks = mark(before, s);
     Outbox {
         total: pieces::grown(o.total, x),
         queued: std::num::wrapping_add_u32(o.queued, 1),
         counters,
-        marks,
     }
 }
 
-// A piece in the lowest free slot: in its list, and in the pool. With none free, nothing changes.
-pub fn queue(words: &mut [u32], o: Outbox, x: Piece) -> Outbox
+// A piece in the lowest free slot: in its list, in the pool, and marked. With none free, nothing changes.
+pub fn queue(words: &mut [u32], marks: &mut [u8], o: Outbox, x: Piece) -> Outbox
     requires { ⌜ length (now words) ≡ recordLength ⌝ }
-    ensures out { λ r. ⌜ inLists r (queueing (inLists o (whole (now (words .entry)) .lists)) x .outbox .lists) ≡ queueing (inLists o (whole (now (words .entry)) .lists)) x .outbox ⌝ }
-    ensures kept { λ _. ⌜ whole (now (words .exit)) ≡ queuedBy (whole (now (words .entry))) (queueing (inLists o (whole (now (words .entry)) .lists)) x) ⌝ }
+    requires { ⌜ length (now marks) ≡ outgoing ⌝ }
+    ensures out { λ r. ⌜ inLists r (now (marks .exit)) (queueing (inLists o (now (marks .entry)) (whole (now (words .entry)) .lists)) x .outbox .lists) ≡ queueing (inLists o (now (marks .entry)) (whole (now (words .entry)) .lists)) x .outbox ⌝ }
+    ensures kept { λ _. ⌜ whole (now (words .exit)) ≡ queuedBy (whole (now (words .entry))) (queueing (inLists o (now (marks .entry)) (whole (now (words .entry)) .lists)) x) ⌝ }
 {
-    let c = x.command;
-    let stamped = counting::stamp(c.byte, c.channel, x.offset, o.counters);
-    let slot = pieces::slot_of(x, stamped, std::num::wrapping_add_u32(o.queued, 1));
-    let marks = o.marks;
-    let free = marks::lowest_outgoing(marks);
+    let free = marks::lowest(marks);
     let Free::Lowest(s) = free else {
         return o;
     };
-    let counters = stamped.counters;
+    let c = x.command;
+    let stamped = counting::stamp(c.byte, c.channel, x.offset, o.counters);
+    let slot = pieces::slot_of(x, stamped, std::num::wrapping_add_u32(o.queued, 1));
     join(words, x, s);
     pools::put_outgoing(words, s as usize, slot);
-    placed(o, x, s, counters)
+    marks[s as usize] = 1;
+    let counters = stamped.counters;
+    placed(o, x, counters)
 }
 
 // The counters back: the peer's own number, its group, the channel's two.
@@ -158,21 +158,14 @@ pub fn close(words: &mut [u32], channel: u8, o: Outbox)
     recount(words, channel, o.counters);
 }
 
-// One slot more has a mark.
-pub(crate) fn mark(marks: [u8; OUTGOING], s: u16) -> [u8; OUTGOING]
-    ensures { λ r. ⌜ r ≡ set marks s 1 ⌝ }
+// How many slots are free: in a sound record the lists name slots that are there, each once.
+pub fn room_in(words: &[u32]) -> usize
+    requires { ⌜ length (now words) ≡ recordLength ⌝ }
+    requires { ⌜ sound (whole (now words)) ≡ true ⌝ }
+    ensures { λ r. ⌜ r ≡ roomIn (whole (now (words .entry)) .lists) ⌝ }
 {
-    let mut all = marks;
-    if OUTGOING <= s as usize {
-        return all;
-    }
-    all[s as usize] = 1;
-    all
-}
-
-// How many slots are free, by the marks of the others.
-pub fn free_in(marks: [u8; OUTGOING]) -> usize
-    ensures { λ r. ⌜ r ≡ freeIn marks ⌝ }
-{
-    cells::marks::clear(&marks)
+    let sent = outgoing::count(words, Out::Sent);
+    let reliable = outgoing::count(words, Out::Reliable);
+    let waiting = outgoing::count(words, Out::Outgoing);
+    OUTGOING - sent - reliable - waiting
 }

@@ -1,7 +1,6 @@
 // What a send is to do: which commands it queues, and whether it is refused.
 ghost use mathlib.Core.Path.{_≡_};
 ghost use Rattle.peer.specs.Gate.{then};
-ghost use Rattle.outbox.specs.CodeOutboxes.{freeIn};
 ghost use Rattle.packets.specs.Packets.{pieceCount};
 ghost use Rattle.packets.specs.Refusals.{sendGate, queueGate};
 ghost use Rattle.packets.specs.CodePlans.{packetOf, countOf, pieceAt, nextAt};
@@ -13,7 +12,6 @@ use outbox::pieces::Piece;
 use peer::Peer;
 use peer::gate::Gate;
 use peer::settings::Settings;
-use record::OUTGOING;
 use record::groups::Standing;
 
 // A packet as it goes out: in one command, or cut.
@@ -107,20 +105,20 @@ pub fn next_at(packet: Packet, offset: u32) -> u32
     }
 }
 
-// 1, 2, 3, 4, 5 of so many commands: all of them are judged before anything changes.
+// 1, 2, 3, 4, 5 of so many commands, with so many slots free: all of them are judged before anything changes.
 pub fn plan_gate(
     settings: Settings,
     standing: Standing,
     channel: u8,
     length: u32,
     count: u32,
-    marks: [u8; OUTGOING],
+    free: usize,
 ) -> Gate
-    ensures { λ r. ⌜ r ≡ then (sendGate settings channel length standing) (queueGate count (freeIn marks)) ⌝ }
+    ensures { λ r. ⌜ r ≡ then (sendGate settings channel length standing) (queueGate count free) ⌝ }
 {
     let gate = send_gate(settings, standing, channel, length);
     if let Gate::Shut(why) = gate {
         return Gate::Shut(why);
     }
-    queue_gate(count, outbox::free_in(marks))
+    queue_gate(count, free)
 }

@@ -4,7 +4,6 @@ pub mod flags;
 pub mod fresh;
 pub mod groups;
 pub mod incoming;
-pub mod marks;
 pub mod outgoing;
 
 // The pools' sizes, in this one place.

@@ -33,13 +33,13 @@ use Rattle.peer.specs.declared.gate.Lent.the-variants.{Nothing}
 use Rattle.peer.specs.declared.calls.Reply.the-variants.{Done, Refused}
 use Rattle.peer.proofs.Gates.{openness, open-sound, behind-shut, behind-open, then-behind, came-open, AtGate}
 use Rattle.outbox.specs.Counting.{channelAt}
-use Rattle.outbox.specs.CodeOutboxes.{queueing, outboxOf, freeIn}
+use Rattle.outbox.specs.CodeOutboxes.{queueing, outboxOf}
 use Rattle.outbox.specs.declared.pieces.Piece.{Piece}
 use Rattle.outbox.specs.CodeOutboxes.{Outbox}
 use Rattle.outbox.specs.CodeOutboxes.{Queued}
 use Rattle.setup.specs.Queueing.{room, queued, queuedAll}
 use Rattle.setup.specs.Taking.{Ready}
-use Rattle.setup.proofs.Stored.{stored, Says, says-first, stored-first, open-room, Turned, turn-on}
+use Rattle.setup.proofs.Stored.{stored, Says, says-first, stored-first, Turned, turn-on}
 use Rattle.packets.specs.Packets.{isReliable, isUnsequenced, spent, blank, reliableByte, unreliableByte, unsequencedByte, whole, startOf, cutCommand, pieces}
 use Rattle.packets.specs.Packets.{cutBy}
 use Rattle.packets.specs.Refusals.{sendGate, queueGate}
@@ -165,7 +165,7 @@ then-second (Shut why) h e = absurd (omega (arith, ap openness e))
 module _ (s : Settings) (channel n flags : ℕ) (p : Peer) (g : AtGate s Nothing p)
     (passed : g .gate ≡ Open) (o : Outbox) (oe : o ≡ outboxOf (p .totals) (p .waiting) (p .flow) (p .groups) (p .channels) channel (p .lists)) (size : ℕ)
     (se : size ≡ fragment s p) (x : Packet) (xe : x ≡ packetOf flags (o .counters .reliable) (o .counters .unreliable) channel n size) (count : ℕ)
-    (ce : count ≡ countOf x) (k : Gate) (ke : k ≡ then (sendGate s channel n (p .standing)) (queueGate count (freeIn (o .marks)))) where
+    (ce : count ≡ countOf x) (k : Gate) (ke : k ≡ then (sendGate s channel n (p .standing)) (queueGate count (room p))) where
   good : sound p ≡ true
   good = open-sound g passed
 
@@ -191,7 +191,6 @@ module _ (s : Settings) (channel n flags : ℕ) (p : Peer) (g : AtGate s Nothing
   unfolding gates
   gates-are =
       ke
-      ∙ ap (λ (free : ℕ). then (sendGate s channel n (p .standing)) (queueGate count free)) (open-room p channel o oe)
       ∙ ap (λ (m : ℕ). then (sendGate s channel n (p .standing)) (queueGate m (room p))) count-is
 
   send-is : sendsSound s channel n flags p ≡ behind gates p (finished (queuedAll xs p))

@@ -1,13 +1,17 @@
 // Send: a packet becomes commands, one or a piece each.
 ghost use mathlib.Core.Path.{_≡_};
+ghost use mathlib.Core.Bool.{true};
 ghost use Prim.Native.Nat.{_≤_};
 ghost use lib.ListN.{length};
 ghost use Rattle.numbers.specs.Limits.{mostMtu};
+ghost use Rattle.record.specs.Lists.{outgoing};
+ghost use Rattle.record.specs.Room.{roomIn};
+ghost use Rattle.peer.specs.Damage.{sound};
 ghost use Rattle.peer.specs.Gate.{then};
 ghost use Rattle.peer.specs.Outcome.{Came};
 ghost use Rattle.peer.specs.Calls.{answerOf};
 ghost use Rattle.places.specs.Whole.{whole, recordLength};
-ghost use Rattle.outbox.specs.CodeOutboxes.{queueing, freeIn};
+ghost use Rattle.outbox.specs.CodeOutboxes.{queueing};
 ghost use Rattle.outbox.specs.CodePlaces.{inLists, queuedBy};
 ghost use Rattle.packets.specs.Refusals.{sendGate, queueGate};
 ghost use Rattle.packets.specs.CodePlans.{packetOf, pieceAt};
@@ -41,29 +45,32 @@ fn packet_of(
     packets::plans::packet_of(flags, k, channel, size, fragment)
 }
 
-// 1, 2, 3, 4, 5 of so many commands, by the record's state and channel count.
-fn plan_gate(
-    words: &[u32],
-    settings: Settings,
-    channel: u8,
-    size: u32,
-    count: u32,
-    marks: [u8; OUTGOING],
-) -> Gate
+// 1, 2, 3, 4, 5 of so many commands, by the record's state, channel count and free slots.
+fn plan_gate(words: &[u32], settings: Settings, channel: u8, size: u32, count: u32) -> Gate
     requires { ⌜ length (now words) ≡ recordLength ⌝ }
-    ensures { λ r. ⌜ r ≡ then (sendGate settings channel size (whole (now (words .entry)) .standing)) (queueGate count (freeIn marks)) ⌝ }
+    requires { ⌜ sound (whole (now words)) ≡ true ⌝ }
+    ensures { λ r. ⌜ r ≡ then (sendGate settings channel size (whole (now (words .entry)) .standing)) (queueGate count (roomIn (whole (now (words .entry)) .lists))) ⌝ }
 {
     let standing = groups::standing(words);
-    packets::plans::plan_gate(settings, standing, channel, size, count, marks)
+    let free = outbox::room_in(words);
+    packets::plans::plan_gate(settings, standing, channel, size, count, free)
 }
 
 // Command j of a packet, at its offset, in the lowest free slot.
-fn queue(words: &mut [u32], o: Outbox, packet: Packet, j: u32, offset: u32) -> Outbox
+fn queue(
+    words: &mut [u32],
+    marks: &mut [u8],
+    o: Outbox,
+    packet: Packet,
+    j: u32,
+    offset: u32,
+) -> Outbox
     requires { ⌜ length (now words) ≡ recordLength ⌝ }
-    ensures out { λ r. ⌜ inLists r (queueing (inLists o (whole (now (words .entry)) .lists)) (pieceAt packet j offset) .outbox .lists) ≡ queueing (inLists o (whole (now (words .entry)) .lists)) (pieceAt packet j offset) .outbox ⌝ }
-    ensures kept { λ _. ⌜ whole (now (words .exit)) ≡ queuedBy (whole (now (words .entry))) (queueing (inLists o (whole (now (words .entry)) .lists)) (pieceAt packet j offset)) ⌝ }
+    requires { ⌜ length (now marks) ≡ outgoing ⌝ }
+    ensures out { λ r. ⌜ inLists r (now (marks .exit)) (queueing (inLists o (now (marks .entry)) (whole (now (words .entry)) .lists)) (pieceAt packet j offset) .outbox .lists) ≡ queueing (inLists o (now (marks .entry)) (whole (now (words .entry)) .lists)) (pieceAt packet j offset) .outbox ⌝ }
+    ensures kept { λ _. ⌜ whole (now (words .exit)) ≡ queuedBy (whole (now (words .entry))) (queueing (inLists o (now (marks .entry)) (whole (now (words .entry)) .lists)) (pieceAt packet j offset)) ⌝ }
 {
-    outbox::queue(words, o, packets::plans::piece_at(packet, j, offset))
+    outbox::queue(words, marks, o, packets::plans::piece_at(packet, j, offset))
 }
 
 // Refused by 11, 13, 1, 2, 3, 4 and 5, in this order.
@@ -80,18 +87,18 @@ pub fn send(
     if let Gate::Shut(why) = gate {
         return Reply::Refused(why);
     }
-    let mut o = outbox::open(words, channel);
+    let mut marks = [0u8; OUTGOING];
+    let mut o = outbox::open(words, channel, &mut marks);
     let packet = packet_of(words, settings, o.counters, channel, length, flags);
     let count = packets::plans::count_of(packet);
-    let marks = o.marks;
-    let room = plan_gate(words, settings, channel, length, count, marks);
+    let room = plan_gate(words, settings, channel, length, count);
     if let Gate::Shut(why) = room {
         return Reply::Refused(why);
     }
     let mut j: u32 = 0;
     let mut offset: u32 = 0;
     while j < count {
-        o = queue(words, o, packet, j, offset);
+        o = queue(words, &mut marks, o, packet, j, offset);
         offset = packets::plans::next_at(packet, offset);
         j = j + 1;
     }

@@ -1,7 +1,7 @@
 -- A setup or a ping comes out as its rule says: the parts that the code makes are the rule's, whatever made them.
 -- The argument: each part is given by its equation; behind both gates the record made of them is the one that Stored speaks of.
-use Prim.Native.Nat.{ℕ, _≤_, _<_}
-use mathlib.Core.Path.{_≡_, refl, ap, sym, _∙_}
+use Prim.Native.Nat.{ℕ, _≤_}
+use mathlib.Core.Path.{_≡_, refl, sym, _∙_}
 use mathlib.Core.List.{List}
 use lib.ListN.{set}
 use borrow.Author.Tests.{leb-true}
@@ -22,14 +22,14 @@ use Rattle.peer.specs.declared.gate.Lent.the-variants.{Nothing}
 use Rattle.peer.specs.declared.calls.Reply.the-variants.{Done, Refused}
 use Rattle.peer.proofs.Gates.{behind-shut, behind-open, came-open, AtGate}
 use Rattle.outbox.specs.Counting.{numbered}
-use Rattle.outbox.specs.CodeOutboxes.{queueing, outboxOf, freeIn}
+use Rattle.outbox.specs.CodeOutboxes.{queueing, outboxOf}
 use Rattle.outbox.specs.declared.pieces.Piece.{Piece}
 use Rattle.outbox.specs.CodeOutboxes.{Outbox}
 use Rattle.outbox.specs.CodeOutboxes.{Queued}
 use Rattle.setup.specs.Queueing.{room, queued}
 use Rattle.setup.specs.Calls.{setupGate}
 use Rattle.setup.proofs.Sound.{setup-open}
-use Rattle.setup.proofs.Stored.{one-stored, open-room}
+use Rattle.setup.proofs.Stored.{one-stored}
 
 -- the record as a call leaves it: an outbox's numbers, lists and channels, and the pool with another slot
 abbrev pub leaves : Peer → Outbox → List Channel → ℕ → Outgoing → Peer
@@ -37,11 +37,8 @@ leaves p o cs at slot =
     renewed p (p .standing) (withOutgoingTotal (p .totals) (o .total)) (p .times) (p .loss) (withReliable (p .flow) (o .counters .own)) (o .lists)
     (withOutgoingGroup (p .groups) (o .counters .group)) (withQueued (p .waiting) (o .queued)) cs (set (p .outgoing) at slot)
 
--- a call that queues one piece behind a gate of its own: ws, g, o and may are what the code answered, in this order
-module _ (s : Settings) (x : Piece) (p : Peer) (g : AtGate s Nothing p)
-    (passed : g .gate ≡ Open) (o : Outbox)
-    (oe : o ≡ outboxOf (p .totals) (p .waiting) (p .flow) (p .groups) (p .channels) (x .command .channel) (p .lists)) (rule may : Gate) (me : may ≡ rule)
-    (some : rule ≡ Open → 1 ≤ room p) where
+-- a call that queues one piece behind a gate of its own: g, may, o and q are what the code answered, in this order
+module _ (s : Settings) (x : Piece) (p : Peer) (g : AtGate s Nothing p) (passed : g .gate ≡ Open) (rule may : Gate) (me : may ≡ rule) where
   abbrev rest : Outcome Peer
   rest = behind rule p (finished (queued x p))
 
@@ -50,7 +47,8 @@ module _ (s : Settings) (x : Piece) (p : Peer) (g : AtGate s Nothing p)
       came-open g p rest answerOf (Refused why) p passed
       (rw (behind-shut rule p (finished (queued x p)) why (sym me ∙ q)) (record { answer = refl; after = refl }))
 
-  module _ (opened : may ≡ Open) (q : Queued) (qe : q ≡ queueing o x) where
+  module _ (some : rule ≡ Open → 1 ≤ room p) (opened : may ≡ Open) (o : Outbox)
+      (oe : o ≡ outboxOf (p .totals) (p .waiting) (p .flow) (p .groups) (p .channels) (x .command .channel) (p .lists)) (q : Queued) (qe : q ≡ queueing o x) where
     pub one-left : (cs : List Channel) → cs ≡ numbered (p .channels) (x .command .channel) (q .outbox .counters)
         → Came answerOf (onRecord s p rest) Done (leaves p (q .outbox) cs (q .at) (q .slot))
     one-left cs ce =
@@ -58,11 +56,6 @@ module _ (s : Settings) (x : Piece) (p : Peer) (g : AtGate s Nothing p)
         (rw (behind-open rule p (finished (queued x p)) (sym me ∙ opened))
         (record { answer = refl; after = rw ce (sym (one-stored x p (some (sym me ∙ opened)) o oe q qe)) }))
 
--- setup's own gate, on as many free slots as the code counted
-pub setup-gate : (x : Piece) (p : Peer) (o : Outbox)
-    → o ≡ outboxOf (p .totals) (p .waiting) (p .flow) (p .groups) (p .channels) (x .command .channel) (p .lists) → (free : ℕ) → free ≡ freeIn (o .marks)
-    → (may : Gate) → may ≡ setupGate x (p .standing .channels) free → may ≡ setupGate x (p .standing .channels) (room p)
-setup-gate x p o oe free fe may me = me ∙ ap (setupGate x (p .standing .channels)) (fe ∙ open-room p (x .command .channel) o oe)
-
+-- setup's own gate is open only where a slot is free
 pub setup-some : (x : Piece) (p : Peer) → setupGate x (p .standing .channels) (room p) ≡ Open → 1 ≤ room p
 setup-some x p e = leb-true 1 (room p) (setup-open x p e .1)

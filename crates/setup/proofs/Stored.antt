@@ -17,7 +17,7 @@ use Rattle.cells.specs.declared.Free.{Free}
 use Rattle.cells.specs.declared.Free.the-variants.{Lowest, Full}
 use Rattle.cells.proofs.Lowest.{lowest-exists}
 use Rattle.cells.proofs.Scans.{first-same, set-mark-past}
-use Rattle.cells.proofs.Marked.{marked-length, marked-says, marked-count}
+use Rattle.cells.proofs.Marked.{marked-length, marked-says}
 use Rattle.record.specs.Fresh.{noChannel}
 use Rattle.record.specs.Damage.{usedOut}
 use Rattle.record.specs.Updates.{withOutgoingTotal, withReliable, withOutgoingGroup, withQueued, withNumbers}
@@ -26,7 +26,7 @@ use Rattle.record.specs.declared.groups.Outgoing.{Outgoing}
 use Rattle.peer.specs.Updates.{renewed}
 use Rattle.peer.specs.declared.Peer.{Peer}
 use Rattle.outbox.specs.Counting.{channelAt, countersAt, numbered}
-use Rattle.outbox.specs.CodeOutboxes.{stampIn, slotIn, placedIn, queueingIn, queueing, outboxOf, freeIn}
+use Rattle.outbox.specs.CodeOutboxes.{stampIn, slotIn, placedIn, queueingIn, queueing, outboxOf}
 use Rattle.outbox.specs.declared.counting.Counters.{Counters}
 use Rattle.outbox.specs.declared.pieces.Piece.{Piece}
 use Rattle.outbox.specs.CodeOutboxes.{Outbox}
@@ -111,10 +111,6 @@ module _ (x : Piece) (p : Peer) (h : 1 ≤ room p) (o : Outbox)
 
   pub one-stored : queued x p ≡ stored p (x .command .channel) (q .outbox) (set (p .outgoing) (q .at) (q .slot))
   one-stored = let f = room-slot p h in queue-stored x p marks₀ says₀ (f .slot) (f .low) q (e ∙ ap (λ (o : Outbox). queueing o x) oe)
-
-pub open-room : (p : Peer) (channel : ℕ) (o : Outbox) → o ≡ outboxOf (p .totals) (p .waiting) (p .flow) (p .groups) (p .channels) channel (p .lists)
-    → freeIn (o .marks) ≡ room p
-open-room p channel o oe = ap (λ (x : Outbox). freeIn (x .marks)) oe ∙ marked-count outgoing (usedOut (p .lists))
 
 -- ---- several on one channel
 set-twice : {A : Type 0} (xs : List A) (i : ℕ) (a b : A) → set (set xs i a) i b ≡ set xs i b

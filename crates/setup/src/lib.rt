@@ -19,6 +19,7 @@ use peer::gate::Lent;
 use peer::settings::Settings;
 use places::RECORD;
 use places::groups;
+use record::OUTGOING;
 use record::channels::on_channel;
 use record::groups::ITSELF;
 use record::groups::Standing;
@@ -48,14 +49,14 @@ pub fn setup(words: &mut [u32; RECORD], settings: Settings, x: Piece) -> Reply
         return Reply::Refused(why);
     }
     let c = x.command;
-    let o = outbox::open(words, c.channel);
-    let marks = o.marks;
     let standing = groups::standing(words);
-    let may = setup_gate(x, standing.channels, outbox::free_in(marks));
+    let may = setup_gate(x, standing.channels, outbox::room_in(words));
     if let Gate::Shut(why) = may {
         return Reply::Refused(why);
     }
-    let after = outbox::queue(words, o, x);
+    let mut marks = [0u8; OUTGOING];
+    let o = outbox::open(words, c.channel, &mut marks);
+    let after = outbox::queue(words, &mut marks, o, x);
     outbox::close(words, c.channel, after);
     Reply::Done
 }
@@ -93,13 +94,13 @@ pub fn ping(words: &mut [u32; RECORD], settings: Settings) -> Reply
     if let Gate::Shut(why) = gate {
         return Reply::Refused(why);
     }
-    let o = outbox::open(words, ITSELF);
-    let marks = o.marks;
-    let may = ping_gate(groups::standing(words), outbox::free_in(marks));
+    let may = ping_gate(groups::standing(words), outbox::room_in(words));
     if let Gate::Shut(why) = may {
         return Reply::Refused(why);
     }
-    let after = outbox::queue(words, o, PING);
+    let mut marks = [0u8; OUTGOING];
+    let o = outbox::open(words, ITSELF, &mut marks);
+    let after = outbox::queue(words, &mut marks, o, PING);
     outbox::close(words, ITSELF, after);
     Reply::Done
 }

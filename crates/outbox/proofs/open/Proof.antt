@@ -12,14 +12,19 @@ waiting-requires c κs = search needs
 counters-at-requires : tie.Need-counters-at-requires
 counters-at-requires c κs = search needs
 
-slice-aggregate-mark : tie.Need-slice-aggregate-mark
-slice-aggregate-mark c = search needs
-
 mark-requires : tie.Need-mark-requires
 mark-requires c κs = search needs
 
+same-length : tie.Need-same-length
+same-length c = search needs
+
 returns : tie.Need-returns
-returns c = rw (c .before .before .before .before .before .totals .ensures, c .before .before .before .before .waiting .ensures, c .before .before .before .counters-at .ensures, c .before .mark .ensures)
+returns c =
+    let m = c .before .before in
+    let k = m .before .before in
+    let t = k .before .before in
+    let b = t .before .before .before in
+    rw (t .totals .ensures, k .before .waiting .ensures, k .counters-at .ensures, m .mark .ensures, b .pre .1)
 
 pub open-spec : {M : Type 1} → statement M
 open-spec =
@@ -28,6 +33,6 @@ open-spec =
     totals-requires
     waiting-requires
     counters-at-requires
-    slice-aggregate-mark
     mark-requires
+    same-length
     returns)

@@ -3,9 +3,6 @@ use borrow.Author.Needs.{needs}
 use Rattle.outbox.proofs.placed.Statement.{statement}
 use Rattle.outbox.proofs.placed.Tie as tie
 
-mark-requires : tie.Need-mark-requires
-mark-requires c κs = search needs
-
 grown-requires : tie.Need-grown-requires
 grown-requires c κs = search needs
 
@@ -13,7 +10,7 @@ wrapping-add-u32-requires : tie.Need-wrapping-add-u32-requires
 wrapping-add-u32-requires c κs = search needs
 
 returns : tie.Need-returns
-returns c = rw (c .wrapping-add-u32 .ensures, c .before .grown .ensures, c .before .before .mark .ensures)
+returns c = rw (c .wrapping-add-u32 .ensures, c .before .grown .ensures)
 
 pub placed-spec : {M : Type 1} → statement M
-placed-spec = tie.close (tie.spec mark-requires grown-requires wrapping-add-u32-requires returns)
+placed-spec = tie.close (tie.spec grown-requires wrapping-add-u32-requires returns)

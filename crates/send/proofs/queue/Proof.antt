@@ -16,11 +16,17 @@ queue-requires c κs = search needs
 same-length : tie.Need-same-length
 same-length c = search needs
 
+same-length-2 : tie.Need-same-length-2
+same-length-2 c = search needs
+
 returns : tie.Need-returns
 returns c =
-    let q = c .before .before .queue in
-    let a = c .before .before .before .before .before .before .args in
-    subst (λ (x : Piece). Sets (whole (a .words .now)) (a .o) x (q .result) (whole (q .last .0))) (c .before .before .before .piece-at .ensures) (q .ensures)
+    let at-queue = c .before .before .before .before in
+    let q = at-queue .queue in
+    let at-piece = at-queue .before in
+    let a = at-piece .before .before .before .before .before .args in
+    subst (λ (x : Piece). Sets (whole (a .words .now)) (a .o) (a .marks .now) x (q .result) (q .last .1 .0) (whole (q .last .0))) (at-piece .piece-at .ensures) (q .ensures)
 
 pub queue-spec : {M : Type 1} → statement M
-queue-spec = tie.close (tie.spec piece-at-requires queue-requires same-length returns)
+queue-spec =
+    tie.close (tie.spec piece-at-requires queue-requires same-length same-length-2 returns)

@@ -1,18 +1,45 @@
 -- `setup` passes the gate and its own refusals, then the lowest free slot takes the piece in place, and the numbers go back.
-use mathlib.Core.Path.{refl, ap, _∙_}
+use mathlib.Core.Path.{_≡_, refl, ap, _∙_}
+use mathlib.Core.Bool.{true}
 use borrow.Author.Needs.{needs}
 use Rattle.record.specs.declared.groups.Standing.{Standing}
+use Rattle.peer.specs.Damage.{sound}
 use Rattle.peer.specs.Calls.{answerOf}
+use Rattle.peer.specs.declared.Peer.{Peer}
 use Rattle.peer.specs.declared.gate.Lent.the-variants.{Nothing}
-use Rattle.peer.proofs.Gates.{AtGate, came-shut}
+use Rattle.peer.proofs.Gates.{AtGate, came-shut, open-sound}
 use Rattle.places.specs.Whole.{whole}
-use Rattle.outbox.specs.CodePlaces.{inLists}
 use Rattle.setup.specs.Queueing.{room}
 use Rattle.setup.specs.Calls.{setupGate, setsUpSound}
-use Rattle.setup.proofs.Setups.{setup-gate, setup-some}
-use Rattle.setup.proofs.Placed.{lent-shut, lent-left}
+use Rattle.setup.proofs.Setups.{one-shut, setup-some}
+use Rattle.setup.proofs.Placed.{lent-left}
 use Rattle.setup.proofs.setup.Statement.{statement}
 use Rattle.setup.proofs.setup.Tie as tie
+
+-- where the gate of every call is passed: the call as it begins, the record as it was lent, and what the gate answered
+abbrev begun : tie.After-enum-told → tie.Start
+begun c = c .before .before .before .before .before
+
+abbrev peer : tie.After-enum-told → Peer
+peer c = whole (begun c .args .words .now)
+
+abbrev asked : (c : tie.After-enum-told) → AtGate (begun c .args .settings) Nothing (peer c)
+asked c = let g = c .before .before .ask in record { gate = g .result; is = g .ensures }
+
+abbrev passed : tie.After-standing → tie.After-enum-told
+passed c = c .before .before .before .before
+
+-- where the call's own gate has answered
+abbrev stood : tie.After-setup-gate → tie.After-standing
+stood c = c .before .before .before .before
+
+judged : (c : tie.After-setup-gate) → let t = passed (stood c) in c .setup-gate .result ≡ setupGate (begun t .args .x) (peer t .standing .channels) (room (peer t))
+judged c =
+    let t = passed (stood c) in
+    let free = c .before .room-in in
+    c .setup-gate .ensures
+    ∙ ap (λ (s : Standing). setupGate (begun t .args .x) (s .channels) (free .result)) (stood c .standing .ensures)
+    ∙ ap (setupGate (begun t .args .x) (peer t .standing .channels)) (free .ensures)
 
 ask-requires : tie.Need-ask-requires
 ask-requires c κs = search needs
@@ -32,14 +59,14 @@ returns c =
 enum-told : tie.Need-enum-told
 enum-told c = search needs
 
-open-requires : tie.Need-open-requires
-open-requires c κs = search needs
-
 standing-requires : tie.Need-standing-requires
 standing-requires c κs = search needs
 
-free-in-requires : tie.Need-free-in-requires
-free-in-requires c κs = search needs
+room-in-requires : tie.Need-room-in-requires
+room-in-requires c κs =
+    let t = passed (c .before .before) in
+    let h : sound (peer t) ≡ true = open-sound (asked t) (t .enum-told .given .1) in
+    search needs
 
 setup-gate-requires : tie.Need-setup-gate-requires
 setup-gate-requires c κs = search needs
@@ -50,21 +77,21 @@ enum-known-may c = search needs
 returns-2 : tie.Need-returns-2
 returns-2 c =
     let k = c .before .may .given in
-    let j = c .before .before .before .setup-gate in
-    let n = c .before .before .before .before .free-in in
-    let s = c .before .before .before .before .before .standing in
-    let o = c .before .before .before .before .before .before .before .before .before .«open» in
-    let t = c .before .before .before .before .before .before .before .before .before .before .before .before .before .enum-told in
-    let g = c .before .before .before .before .before .before .before .before .before .before .before .before .before .before .before .ask in
-    let a = c .before .before .before .before .before .before .before .before .before .before .before .before .before .before .before .before .before .before .args in
-    let p = whole (a .words .now) in
-    let me = setup-gate (a .x) p (inLists (o .result) (p .lists)) (o .ensures) (n .result) (n .ensures) (j .result)
-    (j .ensures ∙ ap (λ (s : Standing). setupGate (a .x) (s .channels) (n .result)) (s .ensures)) in
-    lent-shut (a .settings) (a .x) p (record { gate = g .result; is = g .ensures }) (t .given .1) (o .result) (o .ensures) (setupGate (a .x) (p .standing .channels) (room p)) (j .result) me
-    (setup-some (a .x) p) (k .0 .0) (k .1)
+    let j = c .before .before .before in
+    let t = passed (stood j) in
+    one-shut (begun t .args .settings) (begun t .args .x) (peer t) (asked t) (t .enum-told .given .1) (setupGate (begun t .args .x) (peer t .standing .channels) (room (peer t))) (j .setup-gate .result) (judged j) (k .0 .0) (k .1)
 
 enum-told-2 : tie.Need-enum-told-2
 enum-told-2 c = search needs
+
+slice-aggregate-open : tie.Need-slice-aggregate-open
+slice-aggregate-open c = search needs
+
+open-requires : tie.Need-open-requires
+open-requires c κs = search needs
+
+slice-aggregate-queue : tie.Need-slice-aggregate-queue
+slice-aggregate-queue c = search needs
 
 queue-requires : tie.Need-queue-requires
 queue-requires c κs = search needs
@@ -74,20 +101,14 @@ close-requires c κs = search needs
 
 returns-3 : tie.Need-returns-3
 returns-3 c =
-    let q = c .before .before .queue in
-    let u = c .before .before .before .before .enum-told2 in
-    let j = c .before .before .before .before .before .before .setup-gate in
-    let n = c .before .before .before .before .before .before .before .free-in in
-    let s = c .before .before .before .before .before .before .before .before .standing in
-    let o = c .before .before .before .before .before .before .before .before .before .before .before .before .«open» in
-    let t = c .before .before .before .before .before .before .before .before .before .before .before .before .before .before .before .before .enum-told in
-    let g = c .before .before .before .before .before .before .before .before .before .before .before .before .before .before .before .before .before .before .ask in
-    let a = c .before .before .before .before .before .before .before .before .before .before .before .before .before .before .before .before .before .before .before .before .before .args in
-    let p = whole (a .words .now) in
-    let me = setup-gate (a .x) p (inLists (o .result) (p .lists)) (o .ensures) (n .result) (n .ensures) (j .result)
-    (j .ensures ∙ ap (λ (s : Standing). setupGate (a .x) (s .channels) (n .result)) (s .ensures)) in
-    lent-left (a .settings) (a .x) p (record { gate = g .result; is = g .ensures }) (t .given .1) (o .result) (o .ensures) (setupGate (a .x) (p .standing .channels) (room p)) (j .result) me
-    (setup-some (a .x) p) (u .given .1) (q .result) (whole (q .last .0)) (whole (c .close .last .0)) (q .ensures) (c .close .ensures)
+    let q = c .before .before .before in
+    let o = q .before .before .before .before in
+    let u = o .before .before .before .before in
+    let j = u .before .before in
+    let t = passed (stood j) in
+    lent-left (begun t .args .settings) (begun t .args .x) (peer t) (asked t) (t .enum-told .given .1) (setupGate (begun t .args .x) (peer t .standing .channels) (room (peer t))) (j .setup-gate .result) (judged j) (setup-some (begun t .args .x) (peer t)) (u .enum-told2 .given .1)
+    (o .«open» .result) (o .«open» .last .1 .1 .0) (o .«open» .ensures) (q .queue .result) (q .queue .last .1 .0) (whole (q .queue .last .0)) (whole (c .close .last .0))
+    (q .queue .ensures) (c .close .ensures)
 
 pub setup-spec : {M : Type 1} → statement M
 setup-spec =
@@ -97,13 +118,15 @@ setup-spec =
     enum-known-gate
     returns
     enum-told
-    open-requires
     standing-requires
-    free-in-requires
+    room-in-requires
     setup-gate-requires
     enum-known-may
     returns-2
     enum-told-2
+    slice-aggregate-open
+    open-requires
+    slice-aggregate-queue
     queue-requires
     close-requires
     returns-3)

@@ -16,17 +16,14 @@ returns c = rw (sym (c .before .before .before .send-gate .ensures) ∙ c .befor
 enum-told : tie.Need-enum-told
 enum-told c = search needs
 
-free-in-requires : tie.Need-free-in-requires
-free-in-requires c κs = search needs
-
 queue-gate-requires : tie.Need-queue-gate-requires
 queue-gate-requires c κs = search needs
 
 returns-2 : tie.Need-returns-2
 returns-2 c =
-    let t = c .before .before in
-    rw (sym (t .before .before .send-gate .ensures) ∙ t .enum-told .given .1, ← c .before .free-in .ensures) (c .queue-gate .ensures)
+    let t = c .before in
+    rw (sym (t .before .before .send-gate .ensures) ∙ t .enum-told .given .1) (c .queue-gate .ensures)
 
 pub plan-gate-spec : {M : Type 1} → statement M
 plan-gate-spec =
-    tie.close (tie.spec send-gate-requires enum-known-gate returns enum-told free-in-requires queue-gate-requires returns-2)
+    tie.close (tie.spec send-gate-requires enum-known-gate returns enum-told queue-gate-requires returns-2)
