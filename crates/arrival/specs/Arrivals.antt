@@ -87,9 +87,9 @@ arrivedSlot a = incomingOf (a .byte) (a .channel) (a .number) (a .length)
 
 -- the packet in slot s and in its cell, its length awaited; lists, groups and channels are each arrival's own
 abbrev pub storedAt : ℕ → Arrival → List ℕ → State → Lists → Unsequenced → List Channel → State
-storedAt s a datagram x lists groups channels =
+storedAt s a datagram x lists unsequenced channels =
     let p = x .peer in
     record {
-      peer = withArrival p lists groups (awaiting (p .waiting) (a .length)) channels (set (p .incoming) s (arrivedSlot a));
+      peer = withArrival p lists unsequenced (awaiting (p .waiting) (a .length)) channels (set (p .incoming) s (arrivedSlot a));
       store = filled (x .store) s datagram (a .place) (a .length);
     }

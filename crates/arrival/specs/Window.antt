@@ -14,14 +14,14 @@ use Rattle.arrival.specs.declared.Judged.{Judged}
 
 -- a group that the window takes, at the base and with the words that its move left; what joins dispatched sets bit 1 of the flags
 abbrev pub takenAt : Fate → Unsequenced → Group → Group → List ℕ → Judged
-takenAt fate.Passed g group base words = record { groups = withWindow g base (marking words (group .0)); fate = fate.Passed }
-takenAt fate.NoRoom g group base words = record { groups = withWindow g base words; fate = fate.NoRoom }
+takenAt fate.Passed g group base words = record { unsequenced = withWindow g base (marking words (group .0)); fate = fate.Passed }
+takenAt fate.NoRoom g group base words = record { unsequenced = withWindow g base words; fate = fate.NoRoom }
 takenAt (fate.Stored s) g group base words =
-    record { groups = flagged (withWindow g base (marking words (group .0))); fate = fate.Stored s }
+    record { unsequenced = flagged (withWindow g base (marking words (group .0))); fate = fate.Stored s }
 
 -- passed over, nothing changed
 abbrev pub passedBy : Unsequenced → Judged
-passedBy g = record { groups = g; fate = fate.Passed }
+passedBy g = record { unsequenced = g; fate = fate.Passed }
 
 -- the window's tests in their order: too far, in another window than the base's, marked, not marked; room says what becomes of one that is taken
 abbrev pub judgeWindow : Unsequenced → Group → Fate → Judged

@@ -46,7 +46,7 @@ pub enum Fate {
 
 // The groups as an unsequenced arrival leaves them, and its fate.
 pub struct Judged {
-    pub groups: Unsequenced,
+    pub unsequenced: Unsequenced,
     pub fate: Fate,
 }
 
@@ -132,10 +132,10 @@ pub fn keep(store: &mut [u8], s: u16, datagram: &[u8], a: Arrival, waiting: Wait
 }
 
 // The base and the words of the window.
-fn shift(groups: Unsequenced, base: Group, words: [u32; UNSEQUENCED_WORDS]) -> Unsequenced
-    ensures { λ r. ⌜ r ≡ withWindow groups base words ⌝ }
+fn shift(unsequenced: Unsequenced, base: Group, words: [u32; UNSEQUENCED_WORDS]) -> Unsequenced
+    ensures { λ r. ⌜ r ≡ withWindow unsequenced base words ⌝ }
 {
-    let mut g = groups;
+    let mut g = unsequenced;
     g.incoming = base;
     g.words = words;
     g
@@ -144,43 +144,43 @@ fn shift(groups: Unsequenced, base: Group, words: [u32; UNSEQUENCED_WORDS]) -> U
 // The move is kept in any case; marked unless there was no room, and flagged once it is stored.
 fn taken_at(
     room: Fate,
-    groups: Unsequenced,
+    unsequenced: Unsequenced,
     group: Group,
     base: Group,
     words: [u32; UNSEQUENCED_WORDS],
 ) -> Judged
-    ensures { λ r. ⌜ r ≡ takenAt room groups group base words ⌝ }
+    ensures { λ r. ⌜ r ≡ takenAt room unsequenced group base words ⌝ }
 {
     match room {
         Fate::Passed => Judged {
-            groups: shift(groups, base, window::marking(words, group)),
+            unsequenced: shift(unsequenced, base, window::marking(words, group)),
             fate: Fate::Passed,
         },
         Fate::NoRoom => Judged {
-            groups: shift(groups, base, words),
+            unsequenced: shift(unsequenced, base, words),
             fate: Fate::NoRoom,
         },
         Fate::Stored(s) => Judged {
-            groups: flagged(shift(groups, base, window::marking(words, group))),
+            unsequenced: flagged(shift(unsequenced, base, window::marking(words, group))),
             fate: Fate::Stored(s),
         },
     }
 }
 
 // A group against the window; room says what becomes of one that it takes.
-pub fn judge_window(groups: Unsequenced, group: Group, room: Fate) -> Judged
-    ensures { λ r. ⌜ r ≡ judgeWindow groups group room ⌝ }
+pub fn judge_window(unsequenced: Unsequenced, group: Group, room: Fate) -> Judged
+    ensures { λ r. ⌜ r ≡ judgeWindow unsequenced group room ⌝ }
 {
-    let words = groups.words;
-    let seen = window::judge(groups.incoming, words, group);
+    let words = unsequenced.words;
+    let seen = window::judge(unsequenced.incoming, words, group);
     let verdict = seen.verdict;
     if let Verdict::Taken = verdict {
         let base = seen.base;
         let after = seen.words;
-        return taken_at(room, groups, group, base, after);
+        return taken_at(room, unsequenced, group, base, after);
     }
     Judged {
-        groups,
+        unsequenced,
         fate: Fate::Passed,
     }
 }

@@ -116,11 +116,11 @@ module _ (s : Settings) (a : Arrival) (datagram : List ℕ) (p : Peer) (store : 
           -- longer is the channel with the slot, d what is ready of it then
           pub arrive-stored : (longer : Channel) (slot : Incoming) (d : Dispatched) (waiting : Waiting) (cells : List ℕ)
               → longer ≡ heldWith (p .incoming) own (a .number .0) n → slot ≡ arrivedSlot a
-              → d ≡ dispatchedBy (set (p .incoming) n slot) longer (p .lists) (p .groups) → waiting ≡ awaiting (p .waiting) (a .length)
+              → d ≡ dispatchedBy (set (p .incoming) n slot) longer (p .lists) (p .unsequenced) → waiting ≡ awaiting (p .waiting) (a .length)
               → cells ≡ filled store n datagram (a .place) (a .length)
               → Came answerOf outcome reply.Stored
               (record {
-                peer = withArrival p (d .lists) (d .groups) waiting (set (p .channels) (a .channel) (d .channel)) (set (p .incoming) n slot);
+                peer = withArrival p (d .lists) (d .unsequenced) waiting (set (p .channels) (a .channel) (d .channel)) (set (p .incoming) n slot);
                 store = cells;
               })
           arrive-stored longer slot d waiting cells h i u x y =
@@ -131,5 +131,5 @@ module _ (s : Settings) (a : Arrival) (datagram : List ℕ) (p : Peer) (store : 
 
               whole : d ≡ dispatchedWith n a p
               whole =
-                  u ∙ ap (λ (c : Channel). dispatchedBy (set (p .incoming) n slot) c (p .lists) (p .groups)) held
-                  ∙ ap (λ (j : Incoming). dispatchedBy (set (p .incoming) n j) (heldWith (p .incoming) (channelOf a p) (a .number .0) n) (p .lists) (p .groups)) i
+                  u ∙ ap (λ (c : Channel). dispatchedBy (set (p .incoming) n slot) c (p .lists) (p .unsequenced)) held
+                  ∙ ap (λ (j : Incoming). dispatchedBy (set (p .incoming) n j) (heldWith (p .incoming) (channelOf a p) (a .number .0) n) (p .lists) (p .unsequenced)) i

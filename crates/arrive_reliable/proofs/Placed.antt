@@ -60,12 +60,12 @@ pub settled : (p q r t u : Peer) (i n s : ℕ) (slot : Incoming) (waiting : Wait
 settled p q r t u i n s slot waiting h eq er et eu =
     let slots = set (p .incoming) s slot in
     let own = heldWith (p .incoming) (channelAt p i) n s in
-    let d = dispatchedBy slots own (p .lists) (p .groups) in
-    let stored = withArrival p (p .lists) (p .groups) waiting (set (p .channels) i own) slots in
+    let d = dispatchedBy slots own (p .lists) (p .unsequenced) in
+    let stored = withArrival p (p .lists) (p .unsequenced) waiting (set (p .channels) i own) slots in
     eu
     ∙ ap (dispatchedOn i) (et ∙ ap (λ (x : Peer). withWaiting x waiting) (er ∙ ap (λ (x : Peer). withIncoming x (set (x .incoming) s slot)) eq))
-    ∙ ap (λ (c : Channel). withDispatch i (dispatchedBy slots c (p .lists) (p .groups)) stored) (getD-set-same (p .channels) i own noChannel h)
-    ∙ ap (λ (cs : List Channel). withArrival p (d .lists) (d .groups) waiting cs slots) (set-set (p .channels) i own (d .channel))
+    ∙ ap (λ (c : Channel). withDispatch i (dispatchedBy slots c (p .lists) (p .unsequenced)) stored) (getD-set-same (p .channels) i own noChannel h)
+    ∙ ap (λ (cs : List Channel). withArrival p (d .lists) (d .unsequenced) waiting cs slots) (set-set (p .channels) i own (d .channel))
 
 -- g is what the gate answered
 module _ (s : Settings) (a : Arrival) (datagram : List ℕ) (p : Peer) (store : List ℕ) (g : AtGate s (Store (length store)) p) where
@@ -112,5 +112,5 @@ module _ (s : Settings) (a : Arrival) (datagram : List ℕ) (p : Peer) (store : 
             let longer = heldWith (p .incoming) (channelOf a p) (a .number .0) n in
             subst (λ (y : Peer). Came answerOf outcome reply.Stored (record { peer = y; store = cells })) (sym done)
             (arrive-stored s a datagram p store g opens m same may free refl room refl (channelOf a p) refl passed refl f w n t
-            longer slot (dispatchedBy (set (p .incoming) n slot) longer (p .lists) (p .groups)) waiting cells refl ei refl
+            longer slot (dispatchedBy (set (p .incoming) n slot) longer (p .lists) (p .unsequenced)) waiting cells refl ei refl
             (ew ∙ ap (λ (x : Waiting). awaiting x (a .length)) eb) ec)

@@ -30,7 +30,7 @@ channelOf a p = getD (p .channels) (a .channel) noChannel
 -- slot s joins the channel's list, and what is ready then joins dispatched
 abbrev pub dispatchedWith : ℕ → Arrival → Peer → Dispatched
 dispatchedWith s a p =
-    dispatchedBy (set (p .incoming) s (arrivedSlot a)) (heldWith (p .incoming) (channelOf a p) (a .number .0) s) (p .lists) (p .groups)
+    dispatchedBy (set (p .incoming) s (arrivedSlot a)) (heldWith (p .incoming) (channelOf a p) (a .number .0) s) (p .lists) (p .unsequenced)
 
 -- what a fate leaves
 abbrev pub reliableAfter : Fate → Arrival → List ℕ → State → State
@@ -38,7 +38,7 @@ reliableAfter fate.Passed a datagram x = x
 reliableAfter fate.NoRoom a datagram x = x
 reliableAfter (fate.Stored s) a datagram x =
     let d = dispatchedWith s a (x .peer) in
-    storedAt s a datagram x (d .lists) (d .groups) (set (x .peer .channels) (a .channel) (d .channel))
+    storedAt s a datagram x (d .lists) (d .unsequenced) (set (x .peer .channels) (a .channel) (d .channel))
 
 -- room says what becomes of one that is not passed over by its number
 abbrev pub fateOf : Bool → Fate → Fate

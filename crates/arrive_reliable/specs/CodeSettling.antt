@@ -11,5 +11,5 @@ use Rattle.arrive_reliable.specs.Holding.{heldWith}
 
 abbrev pub settledOn : ℕ → ℕ → ℕ → Incoming → Waiting → Peer → Peer
 settledOn i n s slot waiting p =
-    let d = dispatchedBy (set (p .incoming) s slot) (heldWith (p .incoming) (channelAt p i) n s) (p .lists) (p .groups) in
-    withArrival p (d .lists) (d .groups) waiting (set (p .channels) i (d .channel)) (set (p .incoming) s slot)
+    let d = dispatchedBy (set (p .incoming) s slot) (heldWith (p .incoming) (channelAt p i) n s) (p .lists) (p .unsequenced) in
+    withArrival p (d .lists) (d .unsequenced) waiting (set (p .channels) i (d .channel)) (set (p .incoming) s slot)

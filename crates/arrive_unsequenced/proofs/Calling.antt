@@ -52,7 +52,7 @@ module _ (s : Settings) (a : Arrival) (group : Group) (datagram : List ℕ) (p :
 
   -- what comes of it by a verdict
   abbrev by : Judged → Outcome State
-  by j = record { answer = answerOf (replyOf (j .fate)); after = unsequencedAfter (j .fate) (j .groups) a datagram found }
+  by j = record { answer = answerOf (replyOf (j .fate)); after = unsequencedAfter (j .fate) (j .unsequenced) a datagram found }
 
   pub arrive-shut : (why : Refusal) → g .gate ≡ Shut why → Came answerOf outcome (reply.Refused why) found
   arrive-shut why q =
@@ -69,19 +69,19 @@ module _ (s : Settings) (a : Arrival) (group : Group) (datagram : List ℕ) (p :
 
     -- free, room and j are what the helpers answered
     module _ (may : m ≡ Open) (free : Free) (f : free ≡ freeSlot (p .lists) (p .channels) (p .standing .channels))
-        (room : Fate) (z : room ≡ roomFor s (p .standing .state) (p .waiting .total) free) (j : Judged) (w : j ≡ judgeWindow (p .groups) group room) where
+        (room : Fate) (z : room ≡ roomFor s (p .standing .state) (p .waiting .total) free) (j : Judged) (w : j ≡ judgeWindow (p .unsequenced) group room) where
       judged-is : j ≡ judgedOn s group p
       judged-is =
-          w ∙ ap (judgeWindow (p .groups) group) (z ∙ ap (roomFor s (p .standing .state) (p .waiting .total)) f)
+          w ∙ ap (judgeWindow (p .unsequenced) group) (z ∙ ap (roomFor s (p .standing .state) (p .waiting .total)) f)
 
       went : (r : Reply) (y : State) → Came answerOf (by j) r y → Came answerOf outcome r y
       went r y c = came r y (rw may (rw judged-is at c))
 
       pub arrive-left : OneOf others (tagOf the-type (j .fate)) → (r : Reply) → r ≡ replyOf (j .fate)
-          → Came answerOf outcome r (regrouped found (j .groups))
-      arrive-left k r q = went r (regrouped found (j .groups)) (record { answer = ap answerOf q; after = go (j .fate) k })
+          → Came answerOf outcome r (regrouped found (j .unsequenced))
+      arrive-left k r q = went r (regrouped found (j .unsequenced)) (record { answer = ap answerOf q; after = go (j .fate) k })
         where
-          go : (f : Fate) → OneOf others (tagOf the-type f) → regrouped found (j .groups) ≡ unsequencedAfter f (j .groups) a datagram found
+          go : (f : Fate) → OneOf others (tagOf the-type f) → regrouped found (j .unsequenced) ≡ unsequencedAfter f (j .unsequenced) a datagram found
           go fate.Passed k = refl
           go fate.NoRoom k = refl
           go (fate.Stored n) k = absurd (miss others 2 tt k)
@@ -91,12 +91,12 @@ module _ (s : Settings) (a : Arrival) (group : Group) (datagram : List ℕ) (p :
         slot-exists =
             lowest-exists incoming (usedIn (p .lists) (below (p .channels) (p .standing .channels))) n
             (sym f ∙ room-stored s (p .standing .state) (p .waiting .total) free n
-            (sym z ∙ judged-stored (p .groups) group room n (sym (ap (λ (x : Judged). x .fate) w) ∙ t)))
+            (sym z ∙ judged-stored (p .unsequenced) group room n (sym (ap (λ (x : Judged). x .fate) w) ∙ t)))
 
         pub arrive-stored : (slot : Incoming) (lists : Lists) (waiting : Waiting) (cells : List ℕ)
             → slot ≡ arrivedSlot a → lists ≡ delivered (p .lists) n → waiting ≡ awaiting (p .waiting) (a .length)
             → cells ≡ filled store n datagram (a .place) (a .length)
             → Came answerOf outcome reply.Stored
-            (record { peer = withArrival p lists (j .groups) waiting (p .channels) (set (p .incoming) n slot); store = cells })
+            (record { peer = withArrival p lists (j .unsequenced) waiting (p .channels) (set (p .incoming) n slot); store = cells })
         arrive-stored slot lists waiting cells i l x y =
             went reply.Stored _ (rw t (record { answer = refl; after = rw (i, l, x, y) }))

@@ -7,7 +7,7 @@ use Rattle.numbers.specs.declared.counters.Group.{Group}
 use Rattle.record.specs.declared.groups.Unsequenced.{Unsequenced}
 use Rattle.peer.specs.Outcome.{State, Outcome}
 use Rattle.peer.specs.Gate.{behind, gated}
-use Rattle.peer.specs.Updates.{withGroups}
+use Rattle.peer.specs.Updates.{withUnsequenced}
 use Rattle.peer.specs.declared.settings.Settings.{Settings}
 use Rattle.peer.specs.declared.Peer.{Peer}
 use Rattle.peer.specs.declared.gate.Lent.the-variants.{Store}
@@ -25,23 +25,23 @@ sendUnsequenced = 9
 
 -- the state with other groups, and nothing else changed
 abbrev pub regrouped : State → Unsequenced → State
-regrouped x groups = record { peer = withGroups (x .peer) groups; store = x .store }
+regrouped x unsequenced = record { peer = withUnsequenced (x .peer) unsequenced; store = x .store }
 
 -- what a fate leaves; the groups are the window's
 abbrev pub unsequencedAfter : Fate → Unsequenced → Arrival → List ℕ → State → State
-unsequencedAfter fate.Passed groups a datagram x = regrouped x groups
-unsequencedAfter fate.NoRoom groups a datagram x = regrouped x groups
-unsequencedAfter (fate.Stored s) groups a datagram x =
-    storedAt s a datagram x (delivered (x .peer .lists) s) groups (x .peer .channels)
+unsequencedAfter fate.Passed unsequenced a datagram x = regrouped x unsequenced
+unsequencedAfter fate.NoRoom unsequenced a datagram x = regrouped x unsequenced
+unsequencedAfter (fate.Stored s) unsequenced a datagram x =
+    storedAt s a datagram x (delivered (x .peer .lists) s) unsequenced (x .peer .channels)
 
 abbrev pub judgedOn : Settings → Group → Peer → Judged
-judgedOn s group p = judgeWindow (p .groups) group (roomOf s p)
+judgedOn s group p = judgeWindow (p .unsequenced) group (roomOf s p)
 
 abbrev pub unsequencedSound : Settings → Arrival → Group → List ℕ → State → Outcome State
 unsequencedSound s a group datagram x =
     let j = judgedOn s group (x .peer) in
     behind (arrivalGate sendUnsequenced a s (x .peer .standing) (length datagram)) x
-    (record { answer = answerOf (replyOf (j .fate)); after = unsequencedAfter (j .fate) (j .groups) a datagram x })
+    (record { answer = answerOf (replyOf (j .fate)); after = unsequencedAfter (j .fate) (j .unsequenced) a datagram x })
 
 abbrev pub arrivesUnsequenced : Settings → Arrival → Group → List ℕ → State → Outcome State
 arrivesUnsequenced s a group datagram x =

@@ -2,7 +2,7 @@
 ghost use mathlib.Core.Path.{_≡_};
 ghost use lib.ListN.{length, set};
 ghost use Rattle.peer.specs.Outcome.{Came};
-ghost use Rattle.peer.specs.Updates.{withGroups, withArrival};
+ghost use Rattle.peer.specs.Updates.{withUnsequenced, withArrival};
 ghost use Rattle.places.specs.Whole.{whole, recordLength};
 ghost use Rattle.arrival.specs.Storing.{delivered, awaiting, filled};
 ghost use Rattle.arrival.specs.Arrivals.{answerOf, arrivedSlot};
@@ -25,23 +25,23 @@ use queues::dispatched;
 fn judge_on(words: &mut [u32], settings: Settings, group: Group) -> Fate
     requires { ⌜ length (now words) ≡ recordLength ⌝ }
     ensures { λ r. ⌜ r ≡ judgedOn settings group (whole (now (words .entry))) .fate ⌝ }
-    ensures { λ _. ⌜ whole (now (words .exit)) ≡ withGroups (whole (now (words .entry))) (judgedOn settings group (whole (now (words .entry))) .groups) ⌝ }
+    ensures { λ _. ⌜ whole (now (words .exit)) ≡ withUnsequenced (whole (now (words .entry))) (judgedOn settings group (whole (now (words .entry))) .unsequenced) ⌝ }
 {
     let free = arrival::storing::free_slot(words);
     let standing = groups::standing(words);
     let waiting = groups::waiting(words);
     let room = arrival::room_for(settings, standing.state, waiting.total, free);
-    let own = window::groups(words);
+    let own = window::unsequenced(words);
     let judged = arrival::judge_window(own, group, room);
-    let after = judged.groups;
-    window::put_groups(words, after);
+    let after = judged.unsequenced;
+    window::put_unsequenced(words, after);
     judged.fate
 }
 
 // "Stored": in slot s and its cell, to the end of dispatched, its length awaited.
 fn deliver(words: &mut [u32], store: &mut [u8], s: u16, datagram: &[u8], a: Arrival)
     requires { ⌜ length (now words) ≡ recordLength ⌝ }
-    ensures { λ _. ⌜ whole (now (words .exit)) ≡ withArrival (whole (now (words .entry))) (delivered (whole (now (words .entry)) .lists) s) (whole (now (words .entry)) .groups) (awaiting (whole (now (words .entry)) .waiting) (a .length)) (whole (now (words .entry)) .channels) (set (whole (now (words .entry)) .incoming) s (arrivedSlot a)) ⌝ }
+    ensures { λ _. ⌜ whole (now (words .exit)) ≡ withArrival (whole (now (words .entry))) (delivered (whole (now (words .entry)) .lists) s) (whole (now (words .entry)) .unsequenced) (awaiting (whole (now (words .entry)) .waiting) (a .length)) (whole (now (words .entry)) .channels) (set (whole (now (words .entry)) .incoming) s (arrivedSlot a)) ⌝ }
     ensures { λ _. ⌜ now (store .exit) ≡ filled (now (store .entry)) s (now (datagram .entry)) (a .place) (a .length) ⌝ }
 {
     let old = groups::waiting(words);

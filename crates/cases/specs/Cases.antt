@@ -19,7 +19,7 @@ use Rattle.record.specs.declared.groups.Incoming.{Incoming}
 use Rattle.peer.specs.Fresh.{freshPeer}
 use Rattle.peer.specs.States.{connected}
 use Rattle.peer.specs.Outcome.{State, Outcome}
-use Rattle.peer.specs.Updates.{withGroups, withArrival, withHeard}
+use Rattle.peer.specs.Updates.{withUnsequenced, withArrival, withHeard}
 use Rattle.lifecycle.specs.Calls.{begins, setsState}
 use Rattle.peer.specs.declared.settings.Settings.{Settings}
 use Rattle.peer.specs.declared.defaults.Kept.{Kept}
@@ -88,7 +88,7 @@ paces last variance value trip = turned (throttles (settings 576) trip (paced la
 -- such a peer with a base and words; its store has any bytes, the datagram none
 abbrev pub at : ℕ → List ℕ → List ℕ → State
 at base words store =
-    let p = opened 576 in record { peer = withGroups p (withWindow (p .groups) (record { 0 = base }) words); store = store }
+    let p = opened 576 in record { peer = withUnsequenced p (withWindow (p .unsequenced) (record { 0 = base }) words); store = store }
 
 -- an unsequenced packet of channel 0, without a payload
 abbrev pub arrival : Arrival
@@ -101,7 +101,7 @@ arrives x g = arrivesUnsequenced (settings 576) arrival (record { 0 = g }) [] x
 abbrev pub landed : Outcome State → List ℤ
 landed o =
     pos (o .answer .number)
-    ∷ (o .answer .values ++ map pos (o .after .peer .groups .incoming .0 ∷ inItems (o .after .peer .lists .dispatched)))
+    ∷ (o .answer .values ++ map pos (o .after .peer .unsequenced .incoming .0 ∷ inItems (o .after .peer .lists .dispatched)))
 
 -- the reply's number, then the lengths of what waits in send-reliable
 abbrev waiting : Outcome Peer → List ℤ
@@ -122,7 +122,7 @@ abbrev holding : ℕ → Incoming → Incoming → Incoming → Peer
 holding last a b c =
     let p = opened 576 in
     let three : InList = record { len = 3; slots = 0 ∷ 1 ∷ 2 ∷ replicate 9 0 } in
-    withArrival p (p .lists) (p .groups) (p .waiting)
+    withArrival p (p .lists) (p .unsequenced) (p .waiting)
     (set (p .channels) 0 (withHeld (withLast noChannel (record { 0 = last }) (record { 0 = 0 })) three))
     (set (set (set (p .incoming) 0 a) 1 b) 2 c)
 

@@ -25,7 +25,7 @@ use Rattle.record.specs.declared.groups.Trips.{Trips}
 use Rattle.record.specs.declared.groups.Waiting.{Waiting}
 use Rattle.pool.specs.Slots.{slotFrom, inSlotFrom}
 use Rattle.pool.proofs.Rows.{rows-length}
-use Rattle.peer.specs.Updates.{rebuilt, withStanding, withTotals, withTimes, withLoss, withThrottling, withFlow, withLists, withGroups, withWaiting, withChannels, withOutgoing}
+use Rattle.peer.specs.Updates.{rebuilt, withStanding, withTotals, withTimes, withLoss, withThrottling, withFlow, withLists, withUnsequenced, withWaiting, withChannels, withOutgoing}
 use Rattle.peer.specs.declared.Peer.{Peer}
 use Rattle.places.specs.Updates.{withTrips, withIncoming}
 use Rattle.places.specs.Whole.{sizes, numbers, parts, made, whole}
@@ -48,9 +48,9 @@ unfolding made parts numbers sizes
 ids-made ws a b c d ea eb ec ed = rw (ea, eb, ec, ed)
 
 pub peer-made : (p : Peer) (ids : Ids) (standing : Standing) (bandwidth : Bandwidth) (totals : Totals) (times : Times) (loss : Loss) (throttling : Throttling) (limits : Limits) (trips : Trips) (flow : Flow) (lists : Lists)
-    (groups : Unsequenced) (waiting : Waiting) (channels : List Channel) (outgoing : List Outgoing) (incoming : List Incoming)
+    (unsequenced : Unsequenced) (waiting : Waiting) (channels : List Channel) (outgoing : List Outgoing) (incoming : List Incoming)
     → ids ≡ p .ids → standing ≡ p .standing → bandwidth ≡ p .bandwidth → totals ≡ p .totals → times ≡ p .times → loss ≡ p .loss → throttling ≡ p .throttling → limits ≡ p .limits → trips ≡ p .trips
-    → flow ≡ p .flow → lists ≡ p .lists → groups ≡ p .groups → waiting ≡ p .waiting → channels ≡ p .channels → outgoing ≡ p .outgoing → incoming ≡ p .incoming
+    → flow ≡ p .flow → lists ≡ p .lists → unsequenced ≡ p .unsequenced → waiting ≡ p .waiting → channels ≡ p .channels → outgoing ≡ p .outgoing → incoming ≡ p .incoming
     → _≡_ {A = Peer}
     (record {
       ids = ids;
@@ -64,13 +64,13 @@ pub peer-made : (p : Peer) (ids : Ids) (standing : Standing) (bandwidth : Bandwi
       trips = trips;
       flow = flow;
       lists = lists;
-      groups = groups;
+      unsequenced = unsequenced;
       waiting = waiting;
       channels = channels;
       outgoing = outgoing;
       incoming = incoming;
     }) p
-peer-made p ids standing bandwidth totals times loss throttling limits trips flow lists groups waiting channels outgoing incoming e0 e1 e2 e3 e4 e5 e6 e7 e8 e9 e10 e11 e12 e13 e14 e15 =
+peer-made p ids standing bandwidth totals times loss throttling limits trips flow lists unsequenced waiting channels outgoing incoming e0 e1 e2 e3 e4 e5 e6 e7 e8 e9 e10 e11 e12 e13 e14 e15 =
     rw (e0, e1, e2, e3, e4, e5, e6, e7, e8, e9, e10, e11, e12, e13, e14, e15)
 
 -- ---- written
@@ -102,7 +102,7 @@ fixed-put p₀ p₁ p₂ p₃ i b l e₁ e₂ e₃ =
 -- the seven groups of numbers beside them
 abbrev pub numbered : Peer → Standing → Totals → Times → Loss → Throttling → Trips → Flow → Peer
 numbered p standing totals times loss throttling trips flow =
-    rebuilt p standing totals times loss throttling trips flow (p .lists) (p .groups) (p .waiting) (p .channels) (p .outgoing) (p .incoming)
+    rebuilt p standing totals times loss throttling trips flow (p .lists) (p .unsequenced) (p .waiting) (p .channels) (p .outgoing) (p .incoming)
 
 pub numbered-put : (p₀ p₁ p₂ p₃ p₄ p₅ p₆ p₇ : Peer) (standing : Standing) (totals : Totals) (times : Times) (loss : Loss) (throttling : Throttling) (trips : Trips) (flow : Flow)
     → p₁ ≡ withStanding p₀ standing → p₂ ≡ withTotals p₁ totals → p₃ ≡ withTimes p₂ times → p₄ ≡ withLoss p₃ loss → p₅ ≡ withThrottling p₄ throttling → p₆ ≡ withTrips p₅ trips → p₇ ≡ withFlow p₆ flow
@@ -120,7 +120,7 @@ numbered-put p₀ p₁ p₂ p₃ p₄ p₅ p₆ p₇ standing totals times loss 
 
 -- all of them
 pub peer-put : (x p₀ p₁ p₂ p₃ p₄ p₅ p₆ p₇ p₈ : Peer) → p₁ ≡ withFixed p₀ (x .ids) (x .bandwidth) (x .limits)
-    → p₂ ≡ numbered p₁ (x .standing) (x .totals) (x .times) (x .loss) (x .throttling) (x .trips) (x .flow) → p₃ ≡ withLists p₂ (x .lists) → p₄ ≡ withGroups p₃ (x .groups)
+    → p₂ ≡ numbered p₁ (x .standing) (x .totals) (x .times) (x .loss) (x .throttling) (x .trips) (x .flow) → p₃ ≡ withLists p₂ (x .lists) → p₄ ≡ withUnsequenced p₃ (x .unsequenced)
     → p₅ ≡ withWaiting p₄ (x .waiting) → p₆ ≡ withChannels p₅ (x .channels) → p₇ ≡ withOutgoing p₆ (x .outgoing) → p₈ ≡ withIncoming p₇ (x .incoming) → p₈ ≡ x
 peer-put x p₀ p₁ p₂ p₃ p₄ p₅ p₆ p₇ p₈ e₁ e₂ e₃ e₄ e₅ e₆ e₇ e₈ =
     e₈
@@ -132,7 +132,7 @@ peer-put x p₀ p₁ p₂ p₃ p₄ p₅ p₆ p₇ p₈ e₁ e₂ e₃ e₄ e₅
     (e₅
     ∙ ap (λ (p : Peer). withWaiting p (x .waiting))
     (e₄
-    ∙ ap (λ (p : Peer). withGroups p (x .groups))
+    ∙ ap (λ (p : Peer). withUnsequenced p (x .unsequenced))
     (e₃
     ∙ ap (λ (p : Peer). withLists p (x .lists))
     (e₂ ∙ ap (λ (p : Peer). numbered p (x .standing) (x .totals) (x .times) (x .loss) (x .throttling) (x .trips) (x .flow)) e₁))))))

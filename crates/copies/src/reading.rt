@@ -183,7 +183,7 @@ pub fn read(words: &[u32]) -> Peer
     let trips = groups::trips(words);
     let flow = groups::flow(words);
     let lists = lists(words);
-    let groups = window::groups(words);
+    let unsequenced = window::unsequenced(words);
     let waiting = groups::waiting(words);
     let channels = all_channels(words);
     let outgoing = outgoing(words);
@@ -200,7 +200,7 @@ pub fn read(words: &[u32]) -> Peer
         trips,
         flow,
         lists,
-        groups,
+        unsequenced,
         waiting,
         channels,
         outgoing,

@@ -94,7 +94,7 @@ fn put_numbers(
     flow: Flow,
 )
     requires { ⌜ length (now words) ≡ recordLength ⌝ }
-    ensures { λ _. ⌜ whole (now (words .exit)) ≡ rebuilt (whole (now (words .entry))) standing totals times loss throttling trips flow (whole (now (words .entry)) .lists) (whole (now (words .entry)) .groups) (whole (now (words .entry)) .waiting) (whole (now (words .entry)) .channels) (whole (now (words .entry)) .outgoing) (whole (now (words .entry)) .incoming) ⌝ }
+    ensures { λ _. ⌜ whole (now (words .exit)) ≡ rebuilt (whole (now (words .entry))) standing totals times loss throttling trips flow (whole (now (words .entry)) .lists) (whole (now (words .entry)) .unsequenced) (whole (now (words .entry)) .waiting) (whole (now (words .entry)) .channels) (whole (now (words .entry)) .outgoing) (whole (now (words .entry)) .incoming) ⌝ }
 {
     groups::put_standing(words, standing);
     groups::put_totals(words, totals);
@@ -228,7 +228,7 @@ pub fn write(words: &mut [u32], peer: Peer)
         peer.flow,
     );
     put_lists(words, peer.lists);
-    window::put_groups(words, peer.groups);
+    window::put_unsequenced(words, peer.unsequenced);
     groups::put_waiting(words, peer.waiting);
     put_channels(words, channels);
     put_outgoing(words, outgoing);

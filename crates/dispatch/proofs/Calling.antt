@@ -40,14 +40,14 @@ module _ (channel : ℕ) (p : Peer) where
   last = readyLast (p .incoming) (inItems (chosen .held)) (chosen .«incoming_reliable» .0)
 
   abbrev pub gone : Dispatched
-  gone = movedOn ready last chosen (p .lists) (p .groups)
+  gone = movedOn ready last chosen (p .lists) (p .unsequenced)
 
   -- a property that the record has where none is ready, and the record from which they went
   pub dispatched-has : (P : Peer → Type 0) → (ready ≡ 0 → P p) → P (withDispatch channel gone p) → P (dispatchedOn channel p)
   dispatched-has P none some = go (eqb ready 0) refl
     where
       go : (b : Bool) → eqb ready 0 ≡ b
-          → P (withDispatch channel (pick b (record { channel = chosen; lists = p .lists; groups = p .groups }) gone) p)
+          → P (withDispatch channel (pick b (record { channel = chosen; lists = p .lists; unsequenced = p .unsequenced }) gone) p)
       go true e = rw (set-getD (p .channels) channel noChannel) (none (eqb-true ready 0 e))
       go false e = some
 
@@ -65,7 +65,7 @@ module _ (s : Settings) (channel : ℕ) (p : Peer)
 
     -- c is the channel as the code read it, d what it made of it
     pub dispatch-done : (c : Channel) (d : Dispatched) → c ≡ getD (p .channels) channel noChannel
-        → d ≡ dispatchedBy (p .incoming) c (p .lists) (p .groups) → Came answerOf (dispatches s channel p) Done (withDispatch channel d p)
+        → d ≡ dispatchedBy (p .incoming) c (p .lists) (p .unsequenced) → Came answerOf (dispatches s channel p) Done (withDispatch channel d p)
     dispatch-done c d q z =
         came-open g p (dispatchesSound channel p) answerOf Done (withDispatch channel d p) opens
         (rw (lt-ltb channel (p .standing .channels) h) (record { answer = refl; after = rw (z, q) }))

@@ -22,7 +22,7 @@ use Rattle.record.specs.Fresh.{noChannel, noIncoming}
 use Rattle.record.specs.Updates.{withFlags, withHeld, withLast}
 use Rattle.record.specs.declared.groups.Channel.{Channel}
 use Rattle.record.specs.declared.groups.Incoming.{Incoming}
-use Rattle.peer.specs.Updates.{withGroups, withChannels}
+use Rattle.peer.specs.Updates.{withUnsequenced, withChannels}
 use Rattle.peer.specs.declared.Peer.{Peer}
 use Rattle.places.specs.Updates.{channelAt}
 use Rattle.queues.specs.Queues.{heldOf, putHeld, putDispatched}
@@ -54,8 +54,8 @@ set-again (x ∷ xs) zero a d f = refl
 set-again {A} (x ∷ xs) (suc i) a d f = ap (λ (ys : List A). x ∷ ys) (set-again xs i a d f)
 
 -- the flag
-pub flag-put : (p q : Peer) (f s : ℕ) → f ≡ p .groups .flags → s ≡ flagSet f → q ≡ withGroups p (withFlags (p .groups) s) → q ≡ withGroups p (flagged (p .groups))
-flag-put p q f s e is z = z ∙ ap (λ (x : ℕ). withGroups p (withFlags (p .groups) x)) (is ∙ ap flagSet e)
+pub flag-put : (p q : Peer) (f s : ℕ) → f ≡ p .unsequenced .flags → s ≡ flagSet f → q ≡ withUnsequenced p (withFlags (p .unsequenced) s) → q ≡ withUnsequenced p (flagged (p .unsequenced))
+flag-put p q f s e is z = z ∙ ap (λ (x : ℕ). withUnsequenced p (withFlags (p .unsequenced) x)) (is ∙ ap flagSet e)
 
 -- the first k of a list of cells are the first k that it names
 first-named : (l : InList) (k : ℕ) → k ≤ length (inItems l) → take k (l .slots) ≡ take k (inItems l)
@@ -104,19 +104,19 @@ module _ (p : Peer) (i k : ℕ) (count : k ≡ readyCount (p .incoming) (inItems
   final = readyLast (p .incoming) (inItems (heldOf p i)) (channelAt p i .«incoming_reliable» .0)
 
   abbrev gone : ℕ → ℕ → Dispatched
-  gone k n = movedOn k n (channelAt p i) (p .lists) (p .groups)
+  gone k n = movedOn k n (channelAt p i) (p .lists) (p .unsequenced)
 
   abbrev by : Bool → Peer
-  by b = withDispatch i (pick b (record { channel = channelAt p i; lists = p .lists; groups = p .groups }) (gone ready final)) p
+  by b = withDispatch i (pick b (record { channel = channelAt p i; lists = p .lists; unsequenced = p .unsequenced }) (gone ready final)) p
 
   pub dispatched-none : k ≡ 0 → p ≡ dispatchedOn i p
   dispatched-none z = ap (withChannels p) (sym (set-getD (p .channels) i noChannel)) ∙ ap by (sym (eq-eqb ready 0 (sym count ∙ z)))
 
   pub dispatched-some : (last : Reliable) (q r s : Peer) → (k ≡ 0 → ⊥) → last .0 ≡ final → q ≡ shiftedOn i k p
-      → r ≡ withChannels q (set (q .channels) i (withLast (channelAt q i) last (record { 0 = 0 }))) → s ≡ withGroups r (flagged (r .groups)) → s ≡ dispatchedOn i p
+      → r ≡ withChannels q (set (q .channels) i (withLast (channelAt q i) last (record { 0 = 0 }))) → s ≡ withUnsequenced r (flagged (r .unsequenced)) → s ≡ dispatchedOn i p
   dispatched-some last q r s z e lists numbers flags =
       flags
-      ∙ ap (λ (x : Peer). withGroups x (flagged (x .groups)))
+      ∙ ap (λ (x : Peer). withUnsequenced x (flagged (x .unsequenced)))
       (numbers ∙ ap (λ (x : Peer). withChannels x (set (x .channels) i (withLast (channelAt x i) last (record { 0 = 0 })))) lists)
       ∙ ap (λ (cs : List Channel). withChannels (withDispatch i (gone k (last .0)) p) cs)
       (set-again (p .channels) i (withHeld (channelAt p i) (inKeep (heldOf p i) (movedFrom incoming k (inItems (heldOf p i)) (inItems (p .lists .dispatched))))) noChannel

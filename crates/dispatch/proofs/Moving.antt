@@ -43,9 +43,9 @@ module _ (channel : ℕ) (p : Peer) where
     pub incoming : after .incoming ≡ p .incoming
     pub outgoing : after .outgoing ≡ p .outgoing
     pub waiting : after .waiting ≡ p .waiting
-    pub base : after .groups .incoming ≡ p .groups .incoming
-    pub group : after .groups .outgoing ≡ p .groups .outgoing
-    pub words : after .groups .words ≡ p .groups .words
+    pub base : after .unsequenced .incoming ≡ p .unsequenced .incoming
+    pub group : after .unsequenced .outgoing ≡ p .unsequenced .outgoing
+    pub words : after .unsequenced .words ≡ p .unsequenced .words
     pub others : (i : ℕ) → (i ≡ channel → ⊥) → getD (after .channels) i noChannel ≡ getD (p .channels) i noChannel
 
   pub dispatch-keeps : (s : Settings) → Keeps (dispatches s channel p .after)

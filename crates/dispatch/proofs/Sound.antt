@@ -148,7 +148,7 @@ module _ (channel : ℕ) (p : Peer) (whole : Whole p) (good : sound p ≡ true) 
 
   module _ (k n : ℕ) where
     abbrev moved : Dispatched
-    moved = movedOn k n old (p .lists) (p .groups)
+    moved = movedOn k n old (p .lists) (p .unsequenced)
 
     pub moves : Moves (p .lists) cs channel k (moved .lists) (moved .channel)
     moves =

@@ -22,11 +22,11 @@ dispatchGate channel standing = pick (ltb channel (standing .channels)) Open (Sh
 -- the record with a channel dispatched
 abbrev pub withDispatch : ℕ → Dispatched → Peer → Peer
 withDispatch channel d p =
-    withArrival p (d .lists) (d .groups) (p .waiting) (set (p .channels) channel (d .channel)) (p .incoming)
+    withArrival p (d .lists) (d .unsequenced) (p .waiting) (set (p .channels) channel (d .channel)) (p .incoming)
 
 abbrev pub dispatchedOn : ℕ → Peer → Peer
 dispatchedOn channel p =
-    withDispatch channel (dispatchedBy (p .incoming) (getD (p .channels) channel noChannel) (p .lists) (p .groups)) p
+    withDispatch channel (dispatchedBy (p .incoming) (getD (p .channels) channel noChannel) (p .lists) (p .unsequenced)) p
 
 abbrev pub dispatchesSound : ℕ → Peer → Outcome Peer
 dispatchesSound channel p = behind (dispatchGate channel (p .standing)) p (finished (dispatchedOn channel p))

@@ -17,6 +17,6 @@ shiftedOn i k p =
     (record {
       channel = withHeld c (inKeep (c .held) (movedFrom incoming k held dispatched));
       lists = withDispatched (p .lists) (inKeep (p .lists .dispatched) (movedTo incoming k held dispatched));
-      groups = p .groups;
+      unsequenced = p .unsequenced;
     })
     p

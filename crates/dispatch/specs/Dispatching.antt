@@ -40,7 +40,7 @@ readyLast slots (s ∷ ss) n =
 pub record Dispatched : Type 0 where
   pub channel : Channel
   pub lists : Lists
-  pub groups : Unsequenced
+  pub unsequenced : Unsequenced
 
 -- the first k of a channel's list go, and the number n is its last
 abbrev pub movedOn : ℕ → ℕ → Channel → Lists → Unsequenced → Dispatched
@@ -50,7 +50,7 @@ movedOn k n c l g =
     record {
       channel = withHeld (withLast c (record { 0 = n }) (record { 0 = 0 })) (inKeep (c .held) (movedFrom incoming k held dispatched));
       lists = withDispatched l (inKeep (l .dispatched) (movedTo incoming k held dispatched));
-      groups = flagged g;
+      unsequenced = flagged g;
     }
 
 -- nothing changes where nothing goes
@@ -59,5 +59,5 @@ dispatchedBy slots c l g =
     let held = inItems (c .held) in
     let n = c .«incoming_reliable» .0 in
     pick (eqb (readyCount slots held n) 0)
-    (record { channel = c; lists = l; groups = g })
+    (record { channel = c; lists = l; unsequenced = g })
     (movedOn (readyCount slots held n) (readyLast slots held n) c l g)

@@ -5,7 +5,7 @@ ghost use Prim.Native.Nat.{_≤_, _<_};
 ghost use lib.ListN.{length};
 ghost use Rattle.record.specs.Lists.{inItems};
 ghost use Rattle.record.specs.Sizes.{channels};
-ghost use Rattle.peer.specs.Updates.{withGroups};
+ghost use Rattle.peer.specs.Updates.{withUnsequenced};
 ghost use Rattle.places.specs.Whole.{whole, recordLength};
 ghost use Rattle.queues.specs.Queues.{heldOf};
 ghost use Rattle.record.specs.Flags.{flagged};
@@ -96,7 +96,7 @@ fn shift(words: &mut [u32], i: usize, k: usize)
 // Bit 1 of the flags: what joins dispatched sets it.
 pub fn flag(words: &mut [u32])
     requires { ⌜ length (now words) ≡ recordLength ⌝ }
-    ensures { λ _. ⌜ whole (now (words .exit)) ≡ withGroups (whole (now (words .entry))) (flagged (whole (now (words .entry)) .groups)) ⌝ }
+    ensures { λ _. ⌜ whole (now (words .exit)) ≡ withUnsequenced (whole (now (words .entry))) (flagged (whole (now (words .entry)) .unsequenced)) ⌝ }
 {
     let flags = groups::flags(words);
     groups::put_flags(words, flag_set(flags));

@@ -60,11 +60,11 @@ module _ (g : Unsequenced) (group : Group) (room : Fate) where
 
 module _ (s : Settings) (a : Arrival) (group : Group) (datagram : List ℕ) (x : State) where
   abbrev before : Unsequenced
-  before = x .peer .groups
+  before = x .peer .unsequenced
 
   -- what a judgement comes to
   abbrev comes : Judged → Outcome State
-  comes j = record { answer = answerOf (replyOf (j .fate)); after = unsequencedAfter (j .fate) (j .groups) a datagram x }
+  comes j = record { answer = answerOf (replyOf (j .fate)); after = unsequencedAfter (j .fate) (j .unsequenced) a datagram x }
 
   abbrev lands : Outcome State → Type 0
   lands = Lands before (group .0)

@@ -113,7 +113,7 @@ module _ (a : Arrival) (datagram : List ℕ) (x : State) (n : ℕ)
 
   -- the record that then is dispatched
   abbrev pub between : Peer
-  between = withArrival q (q .lists) (q .groups) (awaiting (q .waiting) (a .length)) (set (q .channels) i new) pool
+  between = withArrival q (q .lists) (q .unsequenced) (awaiting (q .waiting) (a .length)) (set (q .channels) i new) pool
 
   at-all-channels : i < length (q .channels)
   at-all-channels = omega (arith, may .on, count-high q good, whole .channels)

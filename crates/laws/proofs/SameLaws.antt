@@ -198,7 +198,7 @@ pub record Like (p q : Peer) : Type 0 where
   pub limits : p .limits ≡ q .limits
   pub trips : p .trips ≡ q .trips
   pub flow : p .flow ≡ q .flow
-  pub groups : p .groups ≡ q .groups
+  pub unsequenced : p .unsequenced ≡ q .unsequenced
   pub waiting : p .waiting ≡ q .waiting
   pub lists : Lined (p .lists) (q .lists)
   pub channels : Ranked (below (p .channels) (p .standing .channels)) (below (q .channels) (q .standing .channels))
@@ -232,7 +232,7 @@ module _ (p q : Peer) (e : Same p q) where
         limits = a .limits;
         trips = a .trips;
         flow = a .flow;
-        groups = a .groups;
+        unsequenced = a .unsequenced;
         waiting = a .waiting;
         lists = lined;
         channels = ranked;
@@ -346,7 +346,7 @@ module _ (p q : Peer) (k : Like p q) (w : Within p q) where
         limits = k .limits;
         trips = k .trips;
         flow = k .flow;
-        groups = k .groups;
+        unsequenced = k .unsequenced;
         waiting = k .waiting;
         sent =
             out-put (p .outgoing) (q .outgoing) (usedOut (p .lists)) (p .lists .sent) (q .lists .sent) (k .outs) (λ s n. omega (arith, n, adds s)) (k .lists .sent);
@@ -385,6 +385,6 @@ module _ (p q : Peer) (k : Like p q) (w : Within p q) where
         agrees .limits,
         agrees .trips,
         agrees .flow,
-        agrees .groups,
+        agrees .unsequenced,
         agrees .waiting,
       )

@@ -43,14 +43,14 @@ ranked-by p q k =
 -- all the groups that a call may change
 module _ (p q : Peer) (k : Like p q) where
   pub rebuilt-like : {standing standing′ : Standing} {totals totals′ : Totals} {times times′ : Times} {loss loss′ : Loss}
-      {throttling throttling′ : Throttling} {trips trips′ : Trips} {flow flow′ : Flow} {lists lists′ : Lists} {groups groups′ : Unsequenced}
+      {throttling throttling′ : Throttling} {trips trips′ : Trips} {flow flow′ : Flow} {lists lists′ : Lists} {unsequenced unsequenced′ : Unsequenced}
       {waiting waiting′ : Waiting} {channels channels′ : List Channel} {outgoing outgoing′ : List Outgoing} {incoming incoming′ : List Incoming}
       → standing ≡ standing′ → totals ≡ totals′ → times ≡ times′ → loss ≡ loss′ → throttling ≡ throttling′ → trips ≡ trips′ → flow ≡ flow′
-      → Lined lists lists′ → groups ≡ groups′ → waiting ≡ waiting′ → Ranked (below channels (standing .channels)) (below channels′ (standing .channels))
+      → Lined lists lists′ → unsequenced ≡ unsequenced′ → waiting ≡ waiting′ → Ranked (below channels (standing .channels)) (below channels′ (standing .channels))
       → Agree noOutgoing (usedOut lists) outgoing outgoing′
-      → Like (rebuilt p standing totals times loss throttling trips flow lists groups waiting channels outgoing incoming)
-      (rebuilt q standing′ totals′ times′ loss′ throttling′ trips′ flow′ lists′ groups′ waiting′ channels′ outgoing′ incoming′)
-  rebuilt-like {standing = now} {channels = channels} {channels′ = channels′} standing totals times loss throttling trips flow lists groups waiting ranked outs =
+      → Like (rebuilt p standing totals times loss throttling trips flow lists unsequenced waiting channels outgoing incoming)
+      (rebuilt q standing′ totals′ times′ loss′ throttling′ trips′ flow′ lists′ unsequenced′ waiting′ channels′ outgoing′ incoming′)
+  rebuilt-like {standing = now} {channels = channels} {channels′ = channels′} standing totals times loss throttling trips flow lists unsequenced waiting ranked outs =
       record {
         ids = k .ids;
         standing = standing;
@@ -62,7 +62,7 @@ module _ (p q : Peer) (k : Like p q) where
         limits = k .limits;
         trips = trips;
         flow = flow;
-        groups = groups;
+        unsequenced = unsequenced;
         waiting = waiting;
         lists = lists;
         channels = subst (λ (s : Standing). Ranked (below channels (now .channels)) (below channels′ (s .channels))) standing ranked;

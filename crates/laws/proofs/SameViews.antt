@@ -181,7 +181,7 @@ pub record Agrees (p q : Peer) : Type 0 where
   pub limits : p .limits ≡ q .limits
   pub trips : p .trips ≡ q .trips
   pub flow : p .flow ≡ q .flow
-  pub groups : p .groups ≡ q .groups
+  pub unsequenced : p .unsequenced ≡ q .unsequenced
   pub waiting : p .waiting ≡ q .waiting
   pub sent : outView (p .outgoing) (p .lists .sent) ≡ outView (q .outgoing) (q .lists .sent)
   pub reliable : outView (p .outgoing) (p .lists .«send_reliable») ≡ outView (q .outgoing) (q .lists .«send_reliable»)
@@ -205,7 +205,7 @@ same-agrees p q e =
       limits = ap (λ (v : View). v .limits) e;
       trips = ap (λ (v : View). v .trips) e;
       flow = ap (λ (v : View). v .flow) e;
-      groups = ap (λ (v : View). v .groups) e;
+      unsequenced = ap (λ (v : View). v .unsequenced) e;
       waiting = ap (λ (v : View). v .waiting) e;
       sent = ap (λ (v : View). v .sent) e;
       reliable = ap (λ (v : View). v .reliable) e;

@@ -146,7 +146,7 @@ dispatch-steady s channel p =
 untouched-steady : (p q : Peer) → Untouched p q → Steady p q
 untouched-steady p q u =
     record {
-      window = record { base = ap (λ (g : Unsequenced). g .incoming) (u .groups); words = ap (λ (g : Unsequenced). g .words) (u .groups) };
+      window = record { base = ap (λ (g : Unsequenced). g .incoming) (u .unsequenced); words = ap (λ (g : Unsequenced). g .words) (u .unsequenced) };
       total = ap (λ (w : Waiting). w .total) (u .waiting);
     }
 
@@ -164,7 +164,7 @@ throttle-steady s sample p = untouched-steady p (throttles s sample p .after) (t
 pub receive-window : (s : Settings) (p : Peer) → SameWindow p (receives s p .after)
 receive-window s p =
     let k = receive-keeps s p in
-    record { base = ap (λ (g : Unsequenced). g .incoming) (k .groups); words = ap (λ (g : Unsequenced). g .words) (k .groups) }
+    record { base = ap (λ (g : Unsequenced). g .incoming) (k .unsequenced); words = ap (λ (g : Unsequenced). g .words) (k .unsequenced) }
 
 -- the total is as it was, or lower by the length that is replied
 pub receive-lowers : (s : Settings) (p : Peer) → Lowers p (receives s p)
@@ -185,14 +185,14 @@ receive-lowers s p =
 
 -- a dispatch changes the flags of the groups alone
 flag-alone : (slots : List Incoming) (c : Channel) (l : Lists) (g : Unsequenced)
-    → (dispatchedBy slots c l g .groups .incoming ≡ g .incoming) × (dispatchedBy slots c l g .groups .words ≡ g .words)
+    → (dispatchedBy slots c l g .unsequenced .incoming ≡ g .incoming) × (dispatchedBy slots c l g .unsequenced .words ≡ g .words)
 flag-alone slots c l g =
     let n = readyCount slots (inItems (c .held)) (c .«incoming_reliable» .0) in
     go (movedOn n (readyLast slots (inItems (c .held)) (c .«incoming_reliable» .0)) c l g) refl refl (eqb n 0)
   where
-    go : (d : Dispatched) → d .groups .incoming ≡ g .incoming → d .groups .words ≡ g .words → (b : Bool)
-        → (pick b (record { channel = c; lists = l; groups = g }) d .groups .incoming ≡ g .incoming)
-        × (pick b (record { channel = c; lists = l; groups = g }) d .groups .words ≡ g .words)
+    go : (d : Dispatched) → d .unsequenced .incoming ≡ g .incoming → d .unsequenced .words ≡ g .words → (b : Bool)
+        → (pick b (record { channel = c; lists = l; unsequenced = g }) d .unsequenced .incoming ≡ g .incoming)
+        × (pick b (record { channel = c; lists = l; unsequenced = g }) d .unsequenced .words ≡ g .words)
     go d base words true = (refl, refl)
     go d base words false = (base, words)
 
@@ -205,5 +205,5 @@ reliable-window s a datagram x =
     dispatched : (n : ℕ) → SameWindow (x .peer) (reliableAfter (fate.Stored n) a datagram x .peer)
     dispatched n =
         let d = flag-alone (set (x .peer .incoming) n (arrivedSlot a)) (heldWith (x .peer .incoming) (channelOf a (x .peer)) (a .number .0) n)
-        (x .peer .lists) (x .peer .groups) in
+        (x .peer .lists) (x .peer .unsequenced) in
         record { base = d .0; words = d .1 }

@@ -89,7 +89,7 @@ module _ (s : Settings) (a : Arrival) (group : Group) (datagram : List ℕ) (x :
       (λ n good long may e.
       record {
         joined = n ∷ [];
-        is = joins a datagram x (judgedOn s group (x .peer) .groups) n whole good may (stored-free s a group datagram x n e);
+        is = joins a datagram x (judgedOn s group (x .peer) .unsequenced) n whole good may (stored-free s a group datagram x n e);
       })
 
 module _ (s : Settings) (a : Arrival) (datagram : List ℕ) (x : State) (whole : Whole (x .peer)) where

@@ -28,7 +28,7 @@ use Rattle.peer.specs.Damage.{sound}
 use Rattle.peer.specs.Gate.{fits, gateOf}
 use Rattle.peer.specs.Outcome.{State, Outcome, unchanged, onPeer}
 use Rattle.peer.specs.Sounds.{Whole, Sounds}
-use Rattle.peer.specs.Updates.{withGroups}
+use Rattle.peer.specs.Updates.{withUnsequenced}
 use Rattle.peer.specs.declared.settings.Settings.{Settings}
 use Rattle.peer.specs.declared.Peer.{Peer}
 use Rattle.peer.specs.declared.gate.Lent.the-variants.{Store}
@@ -51,16 +51,16 @@ module _ (s : Settings) (a : Arrival) (group : Group) (datagram : List ℕ) (x :
   abbrev p : Peer
   p = x .peer
 
-  abbrev groups : Unsequenced
-  groups = judgedOn s group p .groups
+  abbrev unsequenced : Unsequenced
+  unsequenced = judgedOn s group p .unsequenced
 
   -- a property that refusals and each fate have
   pub unsequenced-has : (P : Outcome State → Type 0)
       → ((why : Refusal) → P (unchanged why x))
-      → (sound p ≡ true → judgedOn s group p .fate ≡ fate.Passed → P (record { answer = passedOver; after = regrouped x groups }))
-      → (sound p ≡ true → judgedOn s group p .fate ≡ fate.NoRoom → P (record { answer = refused NotStored; after = regrouped x groups }))
+      → (sound p ≡ true → judgedOn s group p .fate ≡ fate.Passed → P (record { answer = passedOver; after = regrouped x unsequenced }))
+      → (sound p ≡ true → judgedOn s group p .fate ≡ fate.NoRoom → P (record { answer = refused NotStored; after = regrouped x unsequenced }))
       → ((n : ℕ) → sound p ≡ true → length (x .store) ≡ storeLength → Admitted a (p .standing) (length datagram) → judgedOn s group p .fate ≡ fate.Stored n
-      → P (record { answer = stored; after = storedAt n a datagram x (delivered (p .lists) n) groups (p .channels) }))
+      → P (record { answer = stored; after = storedAt n a datagram x (delivered (p .lists) n) unsequenced (p .channels) }))
       → P (arrivesUnsequenced s a group datagram x)
   unsequenced-has P shut passed full kept =
       behind-has (gateOf (fits s (Store (length (x .store)))) (sound p)) x (unsequencedSound s a group datagram x) P shut
@@ -70,17 +70,17 @@ module _ (s : Settings) (a : Arrival) (group : Group) (datagram : List ℕ) (x :
       (judgedOn s group p .fate) refl))
     where
       by-fate : sound p ≡ true → length (x .store) ≡ storeLength → Admitted a (p .standing) (length datagram) → (f : Fate) → judgedOn s group p .fate ≡ f
-          → P (record { answer = answerOf (replyOf f); after = unsequencedAfter f groups a datagram x })
+          → P (record { answer = answerOf (replyOf f); after = unsequencedAfter f unsequenced a datagram x })
       by-fate good long may fate.Passed e = passed good e
       by-fate good long may fate.NoRoom e = full good e
       by-fate good long may (fate.Stored n) e = kept n good long may e
 
   -- a packet that is stored: its slot was free
   pub stored-free : (n : ℕ) → judgedOn s group p .fate ≡ fate.Stored n → freeSlot (p .lists) (p .channels) (p .standing .channels) ≡ Lowest n
-  stored-free n e = room-stored s (p .standing .state) (p .waiting .total) _ n (judged-stored (p .groups) group (roomOf s p) n e)
+  stored-free n e = room-stored s (p .standing .state) (p .waiting .total) _ n (judged-stored (p .unsequenced) group (roomOf s p) n e)
 
 -- soundness does not look at the groups
-pub regrouped-sound : (p : Peer) (g : Unsequenced) → sound p ≡ true → sound (withGroups p g) ≡ true
+pub regrouped-sound : (p : Peer) (g : Unsequenced) → sound p ≡ true → sound (withUnsequenced p g) ≡ true
 unfolding sound
 regrouped-sound p g h = h
 
@@ -176,18 +176,18 @@ module _ (s : Settings) (a : Arrival) (group : Group) (datagram store : List ℕ
       (λ own. by-fate (admitted sendUnsequenced a s (p .standing) (length datagram) own) (judgedOn s group p .fate) refl)
     where
       by-fate : Admitted a (p .standing) (length datagram) → (f : Fate) → judgedOn s group p .fate ≡ f
-          → sound (unsequencedAfter f (judgedOn s group p .groups) a datagram (on p) .peer) ≡ true
-      by-fate may fate.Passed e = regrouped-sound p (judgedOn s group p .groups) good
-      by-fate may fate.NoRoom e = regrouped-sound p (judgedOn s group p .groups) good
+          → sound (unsequencedAfter f (judgedOn s group p .unsequenced) a datagram (on p) .peer) ≡ true
+      by-fate may fate.Passed e = regrouped-sound p (judgedOn s group p .unsequenced) good
+      by-fate may fate.NoRoom e = regrouped-sound p (judgedOn s group p .unsequenced) good
       by-fate may (fate.Stored n) e =
-          delivered-sound a datagram (on p) (judgedOn s group p .groups) n whole good may (stored-free s a group datagram (on p) n e)
+          delivered-sound a datagram (on p) (judgedOn s group p .unsequenced) n whole good may (stored-free s a group datagram (on p) n e)
 
   stays-whole : (p : Peer) → Whole p → Whole (unsequencedSound s a group datagram (on p) .after .peer)
   stays-whole p l =
       behind-has (arrivalGate sendUnsequenced a s (p .standing) (length datagram)) (on p) _ (λ (o : Outcome State). Whole (o .after .peer))
       (λ why. l) (λ own. by-fate (judgedOn s group p .fate))
     where
-      by-fate : (f : Fate) → Whole (unsequencedAfter f (judgedOn s group p .groups) a datagram (on p) .peer)
+      by-fate : (f : Fate) → Whole (unsequencedAfter f (judgedOn s group p .unsequenced) a datagram (on p) .peer)
       by-fate fate.Passed = record { channels = l .channels; outgoing = l .outgoing; incoming = l .incoming }
       by-fate fate.NoRoom = record { channels = l .channels; outgoing = l .outgoing; incoming = l .incoming }
       by-fate (fate.Stored n) =

@@ -19,7 +19,7 @@ use Rattle.laws.specs.Untouched.{Untouched}
 use Rattle.laws.proofs.Acknowledged.{same-dispatched}
 
 untouched : (p : Peer) → Untouched p p
-untouched p = record { groups = refl; dispatched = refl; waiting = refl; channels = refl; incoming = refl }
+untouched p = record { unsequenced = refl; dispatched = refl; waiting = refl; channels = refl; incoming = refl }
 
 behind-untouched : (s : Settings) (p : Peer) (rest : Outcome Peer) → Untouched p (rest .after) → Untouched p (onRecord s p rest .after)
 behind-untouched s p rest u =
@@ -28,13 +28,13 @@ behind-untouched s p rest u =
 pub throttle-untouched : (s : Settings) (sample : ℕ) (p : Peer) → Untouched p (throttles s sample p .after)
 throttle-untouched s sample p =
     behind-untouched s p (throttlesSound sample p)
-    (record { groups = refl; dispatched = refl; waiting = refl; channels = refl; incoming = refl })
+    (record { unsequenced = refl; dispatched = refl; waiting = refl; channels = refl; incoming = refl })
 
 by-untouched : (t : Trip) (channel number clock : ℕ) (p : Peer) → Untouched p (acknowledgesBy t channel number clock p .after)
 by-untouched PassedOver channel number clock p = untouched p
 by-untouched (Taken sample) channel number clock p =
     record {
-      groups = refl;
+      unsequenced = refl;
       dispatched = same-dispatched (spotOf (p .outgoing) number channel (p .lists)) (p .lists);
       waiting = refl;
       channels = refl;
@@ -50,4 +50,4 @@ acknowledge-untouched s channel number sent clock p =
 pub check-untouched : (s : Settings) (clock : ℕ) (p : Peer) → Untouched p (checks s clock p .after)
 check-untouched s clock p =
     behind-untouched s p (checksSound clock p)
-    (record { groups = refl; dispatched = refl; waiting = refl; channels = refl; incoming = refl })
+    (record { unsequenced = refl; dispatched = refl; waiting = refl; channels = refl; incoming = refl })

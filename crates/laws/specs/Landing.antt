@@ -19,7 +19,7 @@ pub record Took (before after : Unsequenced) (g : ℕ) (marks : Bool) : Type 0 w
       ≡ let moved = wordsAfter (before .incoming .0) (before .words) g in pick marks (marking moved g) moved
 
 pub data Lands (before : Unsequenced) (g : ℕ) (o : Outcome State) : Type 0 where
-  stays : o .after .peer .groups .incoming ≡ before .incoming → o .after .peer .groups .words ≡ before .words
+  stays : o .after .peer .unsequenced .incoming ≡ before .incoming → o .after .peer .unsequenced .words ≡ before .words
       → (o .answer ≡ stored → ⊥) → Lands before g o
-  takes : (marks : Bool) → Took before (o .after .peer .groups) g marks → (o .answer ≡ stored → ⊥) → Lands before g o
-  delivers : Took before (o .after .peer .groups) g true → o .answer ≡ stored → Lands before g o
+  takes : (marks : Bool) → Took before (o .after .peer .unsequenced) g marks → (o .answer ≡ stored → ⊥) → Lands before g o
+  delivers : Took before (o .after .peer .unsequenced) g true → o .answer ≡ stored → Lands before g o

@@ -56,7 +56,7 @@ pub record View : Type 0 where
   pub reliable : ListView Outgoing
   pub outgoing : ListView Outgoing
   pub dispatched : ListView Incoming
-  pub groups : Unsequenced
+  pub unsequenced : Unsequenced
   pub waiting : Waiting
   pub channels : List ChannelView
 
@@ -95,7 +95,7 @@ view p =
       reliable = outView (p .outgoing) (p .lists .«send_reliable»);
       outgoing = outView (p .outgoing) (p .lists .outgoing);
       dispatched = inView (p .incoming) (p .lists .dispatched);
-      groups = p .groups;
+      unsequenced = p .unsequenced;
       waiting = p .waiting;
       channels = map (channelView (p .incoming)) (below (p .channels) (p .standing .channels));
     }

@@ -7,8 +7,8 @@ use Rattle.peer.specs.declared.Peer.{Peer}
 use Rattle.receive.specs.Calls.{packet}
 
 pub record SameWindow (before after : Peer) : Type 0 where
-  pub base : after .groups .incoming ≡ before .groups .incoming
-  pub words : after .groups .words ≡ before .groups .words
+  pub base : after .unsequenced .incoming ≡ before .unsequenced .incoming
+  pub words : after .unsequenced .words ≡ before .unsequenced .words
 
 pub record Steady (before after : Peer) : Type 0 where
   pub window : SameWindow before after

@@ -4,7 +4,7 @@ use mathlib.Core.Path.{_≡_}
 use Rattle.peer.specs.declared.Peer.{Peer}
 
 pub record Untouched (before after : Peer) : Type 0 where
-  pub groups : after .groups ≡ before .groups
+  pub unsequenced : after .unsequenced ≡ before .unsequenced
   pub dispatched : after .lists .dispatched ≡ before .lists .dispatched
   pub waiting : after .waiting ≡ before .waiting
   pub channels : after .channels ≡ before .channels

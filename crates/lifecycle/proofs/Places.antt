@@ -15,7 +15,7 @@ use Rattle.pool.specs.Rows.{rowsFrom}
 use Rattle.pool.specs.Slots.{slotFrom, inSlotFrom}
 use Rattle.pool.proofs.Copies.{paste-over}
 use Rattle.peer.specs.Fresh.{freshIds, freshPeer}
-use Rattle.peer.specs.Updates.{withStanding, withThrottling, withFlow, withGroups, withWaiting, withChannels}
+use Rattle.peer.specs.Updates.{withStanding, withThrottling, withFlow, withUnsequenced, withWaiting, withChannels}
 use Rattle.peer.specs.declared.Peer.{Peer}
 use Rattle.peer.specs.declared.defaults.Kept.{Kept}
 use Rattle.places.specs.Whole.{sizes, numbers, parts, made, whole, channelFrom, channelsFrom}
@@ -67,7 +67,7 @@ module _ (ws : List ℕ) (l : length ws ≡ 1234) where
   unfolding made parts numbers sizes place
   put-limits x = numbers-put ws 0 43 29 29 (x .ping ∷ x .timeout ∷ x .minimum ∷ x .maximum ∷ []) l (omega arith) refl refl (omega arith) (omega arith)
 
-  pub put-reserved : (x r : ℕ) → r ≡ x → x < 65536 → whole (sets ws 156 (r ∷ [])) ≡ withGroups (whole ws) (withReserved (whole ws .groups) x)
+  pub put-reserved : (x r : ℕ) → r ≡ x → x < 65536 → whole (sets ws 156 (r ∷ [])) ≡ withUnsequenced (whole ws) (withReserved (whole ws .unsequenced) x)
   unfolding made parts numbers sizes place
   put-reserved x r e h = numbers-put ws 5 4 1 156 (r ∷ []) l (omega arith) refl refl (omega arith) (omega arith) ∙ rw (low 65536 r x e h)
 
@@ -80,20 +80,20 @@ module _ (mtu : ℕ) (k : Kept) where
   abbrev refreshed : Peer → Peer
   refreshed p =
       let q = withFlow (withTrips (withLimits (withThrottling (withIds p (freshIds k)) (fresh .throttling)) (fresh .limits)) (fresh .trips)) (fresh .flow) in
-      withWaiting (withGroups q (withReserved (q .groups) (k .reserved))) (fresh .waiting)
+      withWaiting (withUnsequenced q (withReserved (q .unsequenced) (k .reserved))) (fresh .waiting)
 
   of-zeros : refreshed (whole (replicate 1234 0)) ≡ fresh
   unfolding made parts numbers sizes rowsFrom slotFrom inSlotFrom channelFrom decoded noLists noChannel noOutgoing noIncoming freshPeer
   of-zeros = refl
 
   pub refreshes : (ws : List ℕ) (t u v w x y z : Peer) → ws ≡ replicate 1234 0 → t ≡ withIds (whole ws) (freshIds k) → u ≡ withThrottling t (fresh .throttling)
-      → v ≡ withLimits u (fresh .limits) → w ≡ withTrips v (fresh .trips) → x ≡ withFlow w (fresh .flow) → y ≡ withGroups x (withReserved (x .groups) (k .reserved))
+      → v ≡ withLimits u (fresh .limits) → w ≡ withTrips v (fresh .trips) → x ≡ withFlow w (fresh .flow) → y ≡ withUnsequenced x (withReserved (x .unsequenced) (k .reserved))
       → z ≡ withWaiting y (fresh .waiting) → z ≡ fresh
   refreshes ws t u v w x y z o a b c d e f g =
       g
       ∙ ap (λ (p : Peer). withWaiting p (fresh .waiting))
       (f
-      ∙ ap (λ (p : Peer). withGroups p (withReserved (p .groups) (k .reserved)))
+      ∙ ap (λ (p : Peer). withUnsequenced p (withReserved (p .unsequenced) (k .reserved)))
       (e
       ∙ ap (λ (p : Peer). withFlow p (fresh .flow))
       (d ∙ ap (λ (p : Peer). withTrips p (fresh .trips)) (c ∙ ap (λ (p : Peer). withLimits p (fresh .limits)) (b ∙ ap (λ (p : Peer). withThrottling p (fresh .throttling)) a)))))

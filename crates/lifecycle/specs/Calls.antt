@@ -25,7 +25,7 @@ kept p =
       «incoming_peer» = p .ids .«incoming_peer»;
       «outgoing_session» = p .ids .«outgoing_session»;
       «incoming_session» = p .ids .«incoming_session»;
-      reserved = p .groups .reserved;
+      reserved = p .unsequenced .reserved;
       queued = p .waiting .queued;
     }
 

@@ -7,7 +7,7 @@ ghost use lib.Seq.{paste};
 ghost use Rattle.peer.specs.Outcome.{Came};
 ghost use Rattle.peer.specs.Calls.{answerOf};
 ghost use Rattle.peer.specs.Fresh.{freshIds, freshPeer};
-ghost use Rattle.peer.specs.Updates.{withGroups};
+ghost use Rattle.peer.specs.Updates.{withUnsequenced};
 ghost use Rattle.places.specs.Whole.{whole, recordLength};
 ghost use Rattle.lifecycle.specs.Updates.{withIds, withLimits, withReserved};
 use numbers::counters::Reliable;
@@ -179,7 +179,7 @@ fn put_limits(words: &mut [u32], x: Limits)
 
 fn put_reserved(words: &mut [u32], x: u16)
     requires { ⌜ length (now words) ≡ recordLength ⌝ }
-    ensures { λ _. ⌜ whole (now (words .exit)) ≡ withGroups (whole (now (words .entry))) (withReserved (whole (now (words .entry)) .groups) x) ⌝ }
+    ensures { λ _. ⌜ whole (now (words .exit)) ≡ withUnsequenced (whole (now (words .entry))) (withReserved (whole (now (words .entry)) .unsequenced) x) ⌝ }
 {
     words[156] = wide16(x);
 }

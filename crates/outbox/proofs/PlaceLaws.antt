@@ -24,7 +24,7 @@ use Rattle.record.specs.declared.groups.Waiting.{Waiting}
 use Rattle.record.specs.declared.groups.Outgoing.{Outgoing}
 use Rattle.peer.specs.Damage.{sound}
 use Rattle.peer.specs.Sounds.{Whole}
-use Rattle.peer.specs.Updates.{withTotals, withWaiting, withFlow, withLists, withGroups, withChannels, withOutgoing}
+use Rattle.peer.specs.Updates.{withTotals, withWaiting, withFlow, withLists, withUnsequenced, withChannels, withOutgoing}
 use Rattle.peer.specs.declared.Peer.{Peer}
 use Rattle.peer.proofs.Clauses.{sound-clauses}
 use Rattle.outbox.specs.Counting.{channelAt, numbered, stamped}
@@ -47,12 +47,12 @@ module _ (p : Peer) (w : Whole p) (channel : ℕ) (past : channels ≤ channel) 
 
 -- f is the flow as the code read it; v and w are the record with the own number back, then with the group
 module _ (p v w : Peer) (f : Flow) (k : Counters) (fe : f ≡ p .flow) (ve : v ≡ withFlow p (withReliable f (k .own)))
-    (we : w ≡ withGroups v (withOutgoingGroup (v .groups) (k .group))) where
+    (we : w ≡ withUnsequenced v (withOutgoingGroup (v .unsequenced) (k .group))) where
   abbrev both : Peer
-  both = withGroups (withFlow p (withReliable (p .flow) (k .own))) (withOutgoingGroup (p .groups) (k .group))
+  both = withUnsequenced (withFlow p (withReliable (p .flow) (k .own))) (withOutgoingGroup (p .unsequenced) (k .group))
 
   two-back : w ≡ both
-  two-back = we ∙ ap (λ (y : Peer). withGroups y (withOutgoingGroup (y .groups) (k .group))) (ve ∙ ap (λ (f : Flow). withFlow p (withReliable f (k .own))) fe)
+  two-back = we ∙ ap (λ (y : Peer). withUnsequenced y (withOutgoingGroup (y .unsequenced) (k .group))) (ve ∙ ap (λ (f : Flow). withFlow p (withReliable f (k .own))) fe)
 
   pub recounted-past : Whole p → (channel : ℕ) → channels ≤ channel → w ≡ recounted p channel k
   recounted-past s channel past = two-back ∙ ap (withChannels both) (sym (numbered-past p s channel past k))

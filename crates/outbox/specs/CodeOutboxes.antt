@@ -61,11 +61,11 @@ queueing o x = queueingIn (firstFrom (isMarked (o .marks)) outgoing 0) o x
 
 -- off the groups of a record, with a mark for each slot that the lists name
 abbrev pub outboxOf : Totals → Waiting → Flow → Unsequenced → List Channel → ℕ → Lists → Outbox
-outboxOf totals waiting flow groups cs channel lists =
+outboxOf totals waiting flow unsequenced cs channel lists =
     record {
       total = totals .outgoing;
       queued = waiting .queued;
-      counters = countersAt (flow .«own_number») cs channel (groups .outgoing);
+      counters = countersAt (flow .«own_number») cs channel (unsequenced .outgoing);
       lists = lists;
       marks = markedAll (replicate outgoing 0) (usedOut lists);
     }

@@ -5,7 +5,7 @@ use lib.ListN.{set}
 use Rattle.numbers.specs.Modulo.{sum}
 use Rattle.record.specs.Updates.{withOutgoingTotal, withQueued, withReliable, withOutgoingGroup}
 use Rattle.record.specs.declared.groups.Lists.{Lists}
-use Rattle.peer.specs.Updates.{withTotals, withWaiting, withFlow, withLists, withGroups, withChannels, withOutgoing}
+use Rattle.peer.specs.Updates.{withTotals, withWaiting, withFlow, withLists, withUnsequenced, withChannels, withOutgoing}
 use Rattle.peer.specs.declared.Peer.{Peer}
 use Rattle.outbox.specs.Counting.{numbered}
 use Rattle.outbox.specs.Pieces.{grown}
@@ -31,7 +31,7 @@ queuedBy p q = withOutgoing (withLists p (q .outbox .lists)) (set (p .outgoing) 
 abbrev pub recounted : Peer → ℕ → Counters → Peer
 recounted p channel k =
     withChannels
-    (withGroups (withFlow p (withReliable (p .flow) (k .own))) (withOutgoingGroup (p .groups) (k .group)))
+    (withUnsequenced (withFlow p (withReliable (p .flow) (k .own))) (withOutgoingGroup (p .unsequenced) (k .group)))
     (numbered (p .channels) channel k)
 
 -- the record with an outbox's numbers

@@ -40,7 +40,7 @@ pub struct Outbox {
 // The counters that a command on this channel may step; 0 for a channel that is not there.
 fn counters_at(words: &[u32], channel: u8) -> Counters
     requires { ⌜ length (now words) ≡ recordLength ⌝ }
-    ensures { λ r. ⌜ r ≡ countersAt (whole (now (words .entry)) .flow .«own_number») (whole (now (words .entry)) .channels) channel (whole (now (words .entry)) .groups .outgoing) ⌝ }
+    ensures { λ r. ⌜ r ≡ countersAt (whole (now (words .entry)) .flow .«own_number») (whole (now (words .entry)) .channels) channel (whole (now (words .entry)) .unsequenced .outgoing) ⌝ }
 {
     let flow = groups::flow(words);
     let own = flow.own_number;
@@ -68,7 +68,7 @@ fn counters_at(words: &[u32], channel: u8) -> Counters
 pub fn open(words: &[u32], channel: u8, marks: &mut [u8]) -> Outbox
     requires { ⌜ length (now words) ≡ recordLength ⌝ }
     requires { ⌜ now marks ≡ replicate outgoing 0 ⌝ }
-    ensures { λ r. ⌜ inLists r (now (marks .exit)) (whole (now (words .entry)) .lists) ≡ outboxOf (whole (now (words .entry)) .totals) (whole (now (words .entry)) .waiting) (whole (now (words .entry)) .flow) (whole (now (words .entry)) .groups) (whole (now (words .entry)) .channels) channel (whole (now (words .entry)) .lists) ⌝ }
+    ensures { λ r. ⌜ inLists r (now (marks .exit)) (whole (now (words .entry)) .lists) ≡ outboxOf (whole (now (words .entry)) .totals) (whole (now (words .entry)) .waiting) (whole (now (words .entry)) .flow) (whole (now (words .entry)) .unsequenced) (whole (now (words .entry)) .channels) channel (whole (now (words .entry)) .lists) ⌝ }
 {
     let totals = groups::totals(words);
     let waiting = groups::waiting(words);

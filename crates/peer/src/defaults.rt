@@ -164,7 +164,7 @@ impl Peer {
             outgoing: fresh::NO_OUT,
             dispatched: fresh::NO_IN,
         },
-        groups: Unsequenced {
+        unsequenced: Unsequenced {
             flags: 0,
             reserved: 0,
             incoming: Group(0),
@@ -190,7 +190,7 @@ impl Peer {
         p.ids.outgoing_session = kept.outgoing_session;
         p.ids.incoming_session = kept.incoming_session;
         p.flow.mtu = mtu;
-        p.groups.reserved = kept.reserved;
+        p.unsequenced.reserved = kept.reserved;
         p.waiting.queued = kept.queued;
         p
     }

@@ -17,7 +17,7 @@ use Rattle.record.specs.declared.groups.Totals.{Totals}
 use Rattle.record.specs.declared.groups.Trips.{Trips}
 use Rattle.record.specs.declared.groups.Waiting.{Waiting}
 use Rattle.record.specs.Updates.{withFlags, withOutgoingGroup}
-use Rattle.peer.specs.Updates.{withStanding, withTotals, withTimes, withLoss, withThrottling, withFlow, withGroups, withWaiting}
+use Rattle.peer.specs.Updates.{withStanding, withTotals, withTimes, withLoss, withThrottling, withFlow, withUnsequenced, withWaiting}
 use Rattle.places.specs.Whole.{sizes, numbers, parts, made, whole}
 use Rattle.places.specs.Updates.{withTrips}
 use Rattle.places.proofs.Written.{place, numbers-put}
@@ -63,18 +63,18 @@ module _ (ws : List ℕ) where
   unfolding made parts numbers sizes
   flow-is r e = rw e
 
-  pub flags-is : whole ws .groups .flags ≡ getD ws 155 0 % 65536
+  pub flags-is : whole ws .unsequenced .flags ≡ getD ws 155 0 % 65536
   unfolding made parts numbers sizes
   flags-is = refl
 
-  pub outgoing-group-is : (r : ℕ) → r ≡ getD ws 158 0 % 65536 → whole ws .groups .outgoing ≡ record { 0 = r }
+  pub outgoing-group-is : (r : ℕ) → r ≡ getD ws 158 0 % 65536 → whole ws .unsequenced .outgoing ≡ record { 0 = r }
   unfolding made parts numbers sizes
   outgoing-group-is r e = rw e
 
-  pub groups-is : (f v i o : ℕ) (w : List ℕ) → f ≡ getD ws 155 0 % 65536 → v ≡ getD ws 156 0 % 65536 → i ≡ getD ws 157 0 % 65536 → o ≡ getD ws 158 0 % 65536 → w ≡ section 159 32 ws
-      → whole ws .groups ≡ record { flags = f; reserved = v; incoming = record { 0 = i }; outgoing = record { 0 = o }; words = w }
+  pub unsequenced-is : (f v i o : ℕ) (w : List ℕ) → f ≡ getD ws 155 0 % 65536 → v ≡ getD ws 156 0 % 65536 → i ≡ getD ws 157 0 % 65536 → o ≡ getD ws 158 0 % 65536 → w ≡ section 159 32 ws
+      → whole ws .unsequenced ≡ record { flags = f; reserved = v; incoming = record { 0 = i }; outgoing = record { 0 = o }; words = w }
   unfolding made parts numbers sizes
-  groups-is f v i o w ef ev ei eo ew = rw (ef, ev, ei, eo, ew)
+  unsequenced-is f v i o w ef ev ei eo ew = rw (ef, ev, ei, eo, ew)
 
   module _ (l : length ws ≡ 1234) where
     pub put-standing : (x : Standing) → whole (sets ws 5 (x .state ∷ x .channels ∷ [])) ≡ withStanding (whole ws) x
@@ -109,10 +109,10 @@ module _ (ws : List ℕ) where
     unfolding made parts numbers sizes place
     put-flow x r e h = numbers-put ws 0 43 39 39 (x .mtu ∷ x .window ∷ x .transit ∷ r ∷ []) l (omega arith) refl refl (omega arith) (omega arith) ∙ rw (low r (x .«own_number» .0) e h)
 
-    pub put-flags : (x r : ℕ) → r ≡ x → x < 65536 → whole (sets ws 155 (r ∷ [])) ≡ withGroups (whole ws) (withFlags (whole ws .groups) x)
+    pub put-flags : (x r : ℕ) → r ≡ x → x < 65536 → whole (sets ws 155 (r ∷ [])) ≡ withUnsequenced (whole ws) (withFlags (whole ws .unsequenced) x)
     unfolding made parts numbers sizes place
     put-flags x r e h = numbers-put ws 5 4 0 155 (r ∷ []) l (omega arith) refl refl (omega arith) (omega arith) ∙ rw (low r x e h)
 
-    pub put-outgoing-group : (x : Group) (r : ℕ) → r ≡ x .0 → x .0 < 65536 → whole (sets ws 158 (r ∷ [])) ≡ withGroups (whole ws) (withOutgoingGroup (whole ws .groups) x)
+    pub put-outgoing-group : (x : Group) (r : ℕ) → r ≡ x .0 → x .0 < 65536 → whole (sets ws 158 (r ∷ [])) ≡ withUnsequenced (whole ws) (withOutgoingGroup (whole ws .unsequenced) x)
     unfolding made parts numbers sizes place
     put-outgoing-group x r e h = numbers-put ws 5 4 3 158 (r ∷ []) l (omega arith) refl refl (omega arith) (omega arith) ∙ rw (low r (x .0) e h)

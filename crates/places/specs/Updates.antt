@@ -17,7 +17,7 @@ abbrev pub withTrips : Peer → Trips → Peer
 withTrips p x = withHeard p (p .times) (p .throttling) x (p .flow) (p .lists)
 
 abbrev pub withIncoming : Peer → List Incoming → Peer
-withIncoming p x = withArrival p (p .lists) (p .groups) (p .waiting) (p .channels) x
+withIncoming p x = withArrival p (p .lists) (p .unsequenced) (p .waiting) (p .channels) x
 
 abbrev pub channelAt : Peer → ℕ → Channel
 channelAt p i = getD (p .channels) i noChannel
@@ -47,7 +47,7 @@ withFixed p ids bandwidth limits =
       trips = p .trips;
       flow = p .flow;
       lists = p .lists;
-      groups = p .groups;
+      unsequenced = p .unsequenced;
       waiting = p .waiting;
       channels = p .channels;
       outgoing = p .outgoing;

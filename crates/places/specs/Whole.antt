@@ -115,7 +115,7 @@ made s =
             outgoing = outListFrom (getD s 3 []);
             dispatched = inListFrom (getD s 4 []);
           };
-      groups =
+      unsequenced =
           record {
             flags = at s 5 0 % 65536;
             reserved = at s 5 1 % 65536;

@@ -2,7 +2,7 @@
 ghost use mathlib.Core.Path.{_≡_};
 ghost use lib.ListN.{length};
 ghost use Rattle.record.specs.Updates.{withFlags, withOutgoingGroup};
-ghost use Rattle.peer.specs.Updates.{withStanding, withTotals, withTimes, withLoss, withThrottling, withFlow, withGroups, withWaiting};
+ghost use Rattle.peer.specs.Updates.{withStanding, withTotals, withTimes, withLoss, withThrottling, withFlow, withUnsequenced, withWaiting};
 ghost use Rattle.places.specs.Whole.{whole, recordLength};
 ghost use Rattle.places.specs.Updates.{withTrips};
 use numbers::counters::Group;
@@ -215,14 +215,14 @@ pub fn put_flow(words: &mut [u32], x: Flow)
 // The peer's flags.
 pub fn flags(words: &[u32]) -> u16
     requires { ⌜ length (now words) ≡ recordLength ⌝ }
-    ensures { λ r. ⌜ r ≡ whole (now (words .entry)) .groups .flags ⌝ }
+    ensures { λ r. ⌜ r ≡ whole (now (words .entry)) .unsequenced .flags ⌝ }
 {
     low16(words[155])
 }
 
 pub fn put_flags(words: &mut [u32], x: u16)
     requires { ⌜ length (now words) ≡ recordLength ⌝ }
-    ensures { λ _. ⌜ whole (now (words .exit)) ≡ withGroups (whole (now (words .entry))) (withFlags (whole (now (words .entry)) .groups) x) ⌝ }
+    ensures { λ _. ⌜ whole (now (words .exit)) ≡ withUnsequenced (whole (now (words .entry))) (withFlags (whole (now (words .entry)) .unsequenced) x) ⌝ }
 {
     words[155] = wide16(x);
 }
@@ -230,14 +230,14 @@ pub fn put_flags(words: &mut [u32], x: u16)
 // The last unsequenced group that went out.
 pub fn outgoing_group(words: &[u32]) -> Group
     requires { ⌜ length (now words) ≡ recordLength ⌝ }
-    ensures { λ r. ⌜ r ≡ whole (now (words .entry)) .groups .outgoing ⌝ }
+    ensures { λ r. ⌜ r ≡ whole (now (words .entry)) .unsequenced .outgoing ⌝ }
 {
     Group(low16(words[158]))
 }
 
 pub fn put_outgoing_group(words: &mut [u32], x: Group)
     requires { ⌜ length (now words) ≡ recordLength ⌝ }
-    ensures { λ _. ⌜ whole (now (words .exit)) ≡ withGroups (whole (now (words .entry))) (withOutgoingGroup (whole (now (words .entry)) .groups) x) ⌝ }
+    ensures { λ _. ⌜ whole (now (words .exit)) ≡ withUnsequenced (whole (now (words .entry))) (withOutgoingGroup (whole (now (words .entry)) .unsequenced) x) ⌝ }
 {
     words[158] = wide16(x.0);
 }

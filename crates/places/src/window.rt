@@ -2,7 +2,7 @@
 ghost use mathlib.Core.Path.{_≡_};
 ghost use lib.ListN.{length};
 ghost use Rattle.record.specs.Updates.{withWindow};
-ghost use Rattle.peer.specs.Updates.{withGroups};
+ghost use Rattle.peer.specs.Updates.{withUnsequenced};
 ghost use Rattle.places.specs.Whole.{whole, recordLength};
 use crate::WORDS;
 use numbers::consts::UNSEQUENCED_WORDS;
@@ -12,9 +12,9 @@ use numbers::widths::wide16;
 use record::groups::Unsequenced;
 
 // "The 32 words go in and come back as one array": the window's words with the flags and groups beside them.
-pub fn groups(words: &[u32]) -> Unsequenced
+pub fn unsequenced(words: &[u32]) -> Unsequenced
     requires { ⌜ length (now words) ≡ recordLength ⌝ }
-    ensures { λ r. ⌜ r ≡ whole (now (words .entry)) .groups ⌝ }
+    ensures { λ r. ⌜ r ≡ whole (now (words .entry)) .unsequenced ⌝ }
 {
     let mut window = [0u32; UNSEQUENCED_WORDS];
     pool::copy(&mut window, 0, words, WORDS, UNSEQUENCED_WORDS);
@@ -31,14 +31,14 @@ pub fn groups(words: &[u32]) -> Unsequenced
 
 fn put_words(words: &mut [u32], window: [u32; UNSEQUENCED_WORDS])
     requires { ⌜ length (now words) ≡ recordLength ⌝ }
-    ensures { λ _. ⌜ whole (now (words .exit)) ≡ withGroups (whole (now (words .entry))) (withWindow (whole (now (words .entry)) .groups) (whole (now (words .entry)) .groups .incoming) window) ⌝ }
+    ensures { λ _. ⌜ whole (now (words .exit)) ≡ withUnsequenced (whole (now (words .entry))) (withWindow (whole (now (words .entry)) .unsequenced) (whole (now (words .entry)) .unsequenced .incoming) window) ⌝ }
 {
     pool::copy(words, WORDS, &window, 0, UNSEQUENCED_WORDS);
 }
 
-pub fn put_groups(words: &mut [u32], x: Unsequenced)
+pub fn put_unsequenced(words: &mut [u32], x: Unsequenced)
     requires { ⌜ length (now words) ≡ recordLength ⌝ }
-    ensures { λ _. ⌜ whole (now (words .exit)) ≡ withGroups (whole (now (words .entry))) x ⌝ }
+    ensures { λ _. ⌜ whole (now (words .exit)) ≡ withUnsequenced (whole (now (words .entry))) x ⌝ }
 {
     let a = x.incoming;
     let b = x.outgoing;

@@ -88,7 +88,7 @@ module _ (s : Settings) (datagram store : List ℕ) (p q : Peer) (whole : Whole 
           (beside (record { peer = q; store = store }) (pick b (finished (freshPeer (s .mtu) (kept q))) (unchanged OutOfRange q)))
       go true =
           beside-alike (finished (freshPeer (s .mtu) (kept p))) (finished (freshPeer (s .mtu) (kept q))) refl
-          (ap (λ (c : Kept). view (freshPeer (s .mtu) c)) (ap₃ keptOf (k .ids) (k .groups) (k .waiting)))
+          (ap (λ (c : Kept). view (freshPeer (s .mtu) c)) (ap₃ keptOf (k .ids) (k .unsequenced) (k .waiting)))
       go false = beside-alike (unchanged OutOfRange p) (unchanged OutOfRange q) refl e
 
   outward-twin : (c : Outward) → Twin (callsOut s c p) (callsOut s c q)

@@ -32,7 +32,7 @@ use Rattle.peer.specs.Damage.{sound}
 use Rattle.peer.specs.Sounds.{Whole}
 use Rattle.peer.specs.Outcome.{State, Outcome, finished}
 use Rattle.peer.specs.Gate.{fits, gateOf, behind, onRecord}
-use Rattle.peer.specs.Updates.{withGroups}
+use Rattle.peer.specs.Updates.{withUnsequenced}
 use Rattle.peer.specs.declared.settings.Settings.{Settings}
 use Rattle.peer.specs.declared.Peer.{Peer}
 use Rattle.peer.specs.declared.gate.Lent.the-variants as lent
@@ -114,7 +114,7 @@ module _ (a b : List Incoming) where
 record Gone (d e : Dispatched) : Type 0 where
   channel : channelShape (d .channel) ≡ channelShape (e .channel)
   lists : Lined (d .lists) (e .lists)
-  groups : d .groups ≡ e .groups
+  unsequenced : d .unsequenced ≡ e .unsequenced
 
 abbrev readyIn : List Incoming → Channel → ℕ
 readyIn slots c = readyCount slots (inItems (c .held)) (c .«incoming_reliable» .0)
@@ -170,18 +170,18 @@ module _ (c d : Channel) (e : channelShape c ≡ channelShape d) where
                     in-kept (l .dispatched) (m .dispatched) (movedTo incoming k (inItems (c .held)) (inItems (l .dispatched)))
                     (movedTo incoming k (inItems (d .held)) (inItems (m .dispatched))) (ap₂ (movedTo incoming k) items-same joined);
               };
-          groups = ap flagged same;
+          unsequenced = ap flagged same;
         }
 
     either-gone : (z : Bool) (k n : ℕ)
-        → Gone (pick z (record { channel = c; lists = l; groups = g }) (movedOn k n c l g)) (pick z (record { channel = d; lists = m; groups = h }) (movedOn k n d m h))
-    either-gone true k n = record { channel = e; lists = lined; groups = same }
+        → Gone (pick z (record { channel = c; lists = l; unsequenced = g }) (movedOn k n c l g)) (pick z (record { channel = d; lists = m; unsequenced = h }) (movedOn k n d m h))
+    either-gone true k n = record { channel = e; lists = lined; unsequenced = same }
     either-gone false k n = moved-gone k n
 
     dispatched-gone : (a b : List Incoming) → Agree noIncoming (inItems (c .held)) a b → Gone (dispatchedBy a c l g) (dispatchedBy b d m h)
     dispatched-gone a b agree =
-        subst (λ (k : ℕ). Gone (dispatchedBy a c l g) (pick (eqb k 0) (record { channel = d; lists = m; groups = h }) (movedOn k (lastIn b d) d m h))) counts
-        (subst (λ (n : ℕ). Gone (dispatchedBy a c l g) (pick (eqb (readyIn a c) 0) (record { channel = d; lists = m; groups = h }) (movedOn (readyIn a c) n d m h)))
+        subst (λ (k : ℕ). Gone (dispatchedBy a c l g) (pick (eqb k 0) (record { channel = d; lists = m; unsequenced = h }) (movedOn k (lastIn b d) d m h))) counts
+        (subst (λ (n : ℕ). Gone (dispatchedBy a c l g) (pick (eqb (readyIn a c) 0) (record { channel = d; lists = m; unsequenced = h }) (movedOn (readyIn a c) n d m h)))
         lasts (either-gone (eqb (readyIn a c) 0) (readyIn a c) (lastIn a c)))
       where
         counts : readyIn a c ≡ readyIn b d
@@ -196,7 +196,7 @@ module _ (a : List Incoming) (c : Channel) (l : Lists) (g : Unsequenced) where
       ≡ times (inItems (c .held)) s + times (inItems (l .dispatched)) s
   gone-names s = go (eqb (readyIn a c) 0) (readyIn a c) (lastIn a c)
     where
-      go : (z : Bool) (k n : ℕ) → let d = pick z (record { channel = c; lists = l; groups = g }) (movedOn k n c l g) in
+      go : (z : Bool) (k n : ℕ) → let d = pick z (record { channel = c; lists = l; unsequenced = g }) (movedOn k n c l g) in
           times (inItems (d .channel .held)) s + times (inItems (d .lists .dispatched)) s ≡ times (inItems (c .held)) s + times (inItems (l .dispatched)) s
       go true k n = refl
       go false k n =
@@ -209,7 +209,7 @@ module _ (a : List Incoming) (c : Channel) (l : Lists) (g : Unsequenced) where
   gone-used : usedOut (dispatchedBy a c l g .lists) ≡ usedOut l
   gone-used = go (eqb (readyIn a c) 0) (readyIn a c) (lastIn a c)
     where
-      go : (z : Bool) (k n : ℕ) → usedOut (pick z (record { channel = c; lists = l; groups = g }) (movedOn k n c l g) .lists) ≡ usedOut l
+      go : (z : Bool) (k n : ℕ) → usedOut (pick z (record { channel = c; lists = l; unsequenced = g }) (movedOn k n c l g) .lists) ≡ usedOut l
       go true k n = refl
       go false k n = refl
 
@@ -264,7 +264,7 @@ module _ (p q : Peer) (k : Like p q) (w : Within p q) where
               in-kept (p .lists .dispatched) (q .lists .dispatched) (without (inItems (p .lists .dispatched)) 0) (without (inItems (q .lists .dispatched)) 0)
               (ap (λ (xs : List ℕ). without xs 0) (in-items (p .lists .dispatched) (q .lists .dispatched) (k .lists .dispatched)));
         })
-        (k .groups) (ap₂ (λ (t : Waiting) (i : Incoming). receiving.lowered t (i .length)) (k .waiting) e) (ranked-by p q k) (k .outs)
+        (k .unsequenced) (ap₂ (λ (t : Waiting) (i : Incoming). receiving.lowered t (i .length)) (k .waiting) e) (ranked-by p q k) (k .outs)
 
     taken-within : (n : ℕ) → Within (receiving.taken n p) (receiving.taken n q)
     taken-within n =
@@ -310,26 +310,26 @@ module _ (p q : Peer) (k : Like p q) (w : Within p q) where
             agree-less noIncoming (named p) (p .incoming) (q .incoming) w (inItems (getD (p .channels) i noChannel .held))
             (λ s h. omega (arith, h, held-named p whole good i on s))
 
-        gone : Gone (dispatchedBy (p .incoming) (getD (p .channels) i noChannel) (p .lists) (p .groups))
-            (dispatchedBy (q .incoming) (getD (q .channels) i noChannel) (q .lists) (q .groups))
+        gone : Gone (dispatchedBy (p .incoming) (getD (p .channels) i noChannel) (p .lists) (p .unsequenced))
+            (dispatchedBy (q .incoming) (getD (q .channels) i noChannel) (q .lists) (q .unsequenced))
         gone =
-            dispatched-gone (getD (p .channels) i noChannel) (getD (q .channels) i noChannel) shape (p .lists) (q .lists) (k .lists) (p .groups) (q .groups)
-            (k .groups) (p .incoming) (q .incoming) in-list
+            dispatched-gone (getD (p .channels) i noChannel) (getD (q .channels) i noChannel) shape (p .lists) (q .lists) (k .lists) (p .unsequenced) (q .unsequenced)
+            (k .unsequenced) (p .incoming) (q .incoming) in-list
 
         dispatched-like : Like (dispatchedOn i p) (dispatchedOn i q)
         dispatched-like =
-            rebuilt-like p q k (k .standing) (k .totals) (k .times) (k .loss) (k .throttling) (k .trips) (k .flow) (gone .lists) (gone .groups) (k .waiting)
+            rebuilt-like p q k (k .standing) (k .totals) (k .times) (k .loss) (k .throttling) (k .trips) (k .flow) (gone .lists) (gone .unsequenced) (k .waiting)
             (ranked-set (p .channels) (q .channels) (p .standing .channels) i _ _ (ranked-by p q k) (gone .channel))
             (subst (λ (xs : List ℕ). Agree noOutgoing xs (p .outgoing) (q .outgoing))
-            (sym (gone-used (p .incoming) (getD (p .channels) i noChannel) (p .lists) (p .groups))) (k .outs))
+            (sym (gone-used (p .incoming) (getD (p .channels) i noChannel) (p .lists) (p .unsequenced))) (k .outs))
 
         dispatched-within : Within (dispatchedOn i p) (dispatchedOn i q)
         dispatched-within =
-            let d = dispatchedBy (p .incoming) (getD (p .channels) i noChannel) (p .lists) (p .groups) in
+            let d = dispatchedBy (p .incoming) (getD (p .channels) i noChannel) (p .lists) (p .unsequenced) in
             agree-less noIncoming (named p) (p .incoming) (q .incoming) w (named (dispatchedOn i p))
             (λ s h.
             let less = landed-names p whole good i on (d .lists) (d .channel) s 0
-            (omega (arith, gone-names (p .incoming) (getD (p .channels) i noChannel) (p .lists) (p .groups) s)) in
+            (omega (arith, gone-names (p .incoming) (getD (p .channels) i noChannel) (p .lists) (p .unsequenced) s)) in
             omega (arith, h, less))
 
       pub dispatch-twins : (s : Settings) (i : ℕ) → Twins (dispatches s i p) (dispatches s i q)
@@ -414,7 +414,7 @@ module _ (p q : Peer) (k : Like p q) (w : Within p q) where
                   ));
             }
 
-      regrouped-like : (g h : Unsequenced) → g ≡ h → Like (withGroups p g) (withGroups q h)
+      regrouped-like : (g h : Unsequenced) → g ≡ h → Like (withUnsequenced p g) (withUnsequenced q h)
       regrouped-like g h e =
           rebuilt-like p q k (k .standing) (k .totals) (k .times) (k .loss) (k .throttling) (k .trips) (k .flow) (k .lists) e (k .waiting) (ranked-by p q k) (k .outs)
 
@@ -424,17 +424,17 @@ module _ (p q : Peer) (k : Like p q) (w : Within p q) where
         fated f g z = record { answer = answerOf (replyOf f); after = unsequencedAfter f g a datagram z }
 
         judged-same : judgedOn s group p ≡ judgedOn s group q
-        judged-same = ap₂ (λ (g : Unsequenced) (f : Fate). judgeWindow g group f) (k .groups) (room-same s)
+        judged-same = ap₂ (λ (g : Unsequenced) (f : Fate). judgeWindow g group f) (k .unsequenced) (room-same s)
 
         fate-landed : (f : Fate) → judgedOn s group p .fate ≡ f
-            → Landed (fated f (judgedOn s group p .groups) x) (fated f (judgedOn s group q .groups) y)
+            → Landed (fated f (judgedOn s group p .unsequenced) x) (fated f (judgedOn s group q .unsequenced) y)
         fate-landed fate.Passed e =
-            record { answer = refl; store = refl; like = regrouped-like _ _ (ap (λ (j : Judged). j .groups) judged-same); within = w }
+            record { answer = refl; store = refl; like = regrouped-like _ _ (ap (λ (j : Judged). j .unsequenced) judged-same); within = w }
         fate-landed fate.NoRoom e =
-            record { answer = refl; store = refl; like = regrouped-like _ _ (ap (λ (j : Judged). j .groups) judged-same); within = w }
+            record { answer = refl; store = refl; like = regrouped-like _ _ (ap (λ (j : Judged). j .unsequenced) judged-same); within = w }
         fate-landed (fate.Stored n) e =
             delivered-landed a n (stored-free s a group datagram x n e) (answerOf (replyOf (fate.Stored n))) _ _ datagram
-            (ap (λ (j : Judged). j .groups) judged-same)
+            (ap (λ (j : Judged). j .unsequenced) judged-same)
 
         pub unsequenced-landed : Landed (arrivesUnsequenced s a group datagram x) (arrivesUnsequenced s a group datagram y)
         unsequenced-landed =
@@ -442,11 +442,11 @@ module _ (p q : Peer) (k : Like p q) (w : Within p q) where
             (unsequencedSound s a group datagram x) (unsequencedSound s a group datagram y) (ap (gateOf (fits s (lent.Store (length store)))) alike)
             (λ e.
             behind-landed (arrivalGate sendUnsequenced a s (p .standing) (length datagram)) (arrivalGate sendUnsequenced a s (q .standing) (length datagram))
-            (fated (judgedOn s group p .fate) (judgedOn s group p .groups) x)
-            (fated (judgedOn s group q .fate) (judgedOn s group q .groups) y)
+            (fated (judgedOn s group p .fate) (judgedOn s group p .unsequenced) x)
+            (fated (judgedOn s group q .fate) (judgedOn s group q .unsequenced) y)
             (ap (λ (n : Standing). arrivalGate sendUnsequenced a s n (length datagram)) (k .standing))
             (λ own.
-            subst (λ (f : Fate). Landed (fated (judgedOn s group p .fate) (judgedOn s group p .groups) x) (fated f (judgedOn s group q .groups) y))
+            subst (λ (f : Fate). Landed (fated (judgedOn s group p .fate) (judgedOn s group p .unsequenced) x) (fated f (judgedOn s group q .unsequenced) y))
             (ap (λ (j : Judged). j .fate) judged-same) (fate-landed (judgedOn s group p .fate) refl)))
 
       -- a reliable one: by what its channel holds
@@ -506,7 +506,7 @@ module _ (p q : Peer) (k : Like p q) (w : Within p q) where
 
           then-gone : Gone (dispatchedWith n a p) (dispatchedWith n a q)
           then-gone =
-              dispatched-gone now now′ now-shape (p .lists) (q .lists) (k .lists) (p .groups) (q .groups) (k .groups) (set (p .incoming) n (arrivedSlot a))
+              dispatched-gone now now′ now-shape (p .lists) (q .lists) (k .lists) (p .unsequenced) (q .unsequenced) (k .unsequenced) (set (p .incoming) n (arrivedSlot a))
               (set (q .incoming) n (arrivedSlot a))
               (pooled a n free (inItems (now .held)) (λ t. omega (arith, now-names t, held-named p whole good (a .channel) on t)))
 
@@ -517,16 +517,16 @@ module _ (p q : Peer) (k : Like p q) (w : Within p q) where
                 answer = refl;
                 store = refl;
                 like =
-                    rebuilt-like p q k (k .standing) (k .totals) (k .times) (k .loss) (k .throttling) (k .trips) (k .flow) (then-gone .lists) (then-gone .groups)
+                    rebuilt-like p q k (k .standing) (k .totals) (k .times) (k .loss) (k .throttling) (k .trips) (k .flow) (then-gone .lists) (then-gone .unsequenced)
                     (ap (λ (t : Waiting). awaiting t (a .length)) (k .waiting))
                     (ranked-set (p .channels) (q .channels) (p .standing .channels) (a .channel) _ _ (ranked-by p q k) (then-gone .channel))
                     (subst (λ (xs : List ℕ). Agree noOutgoing xs (p .outgoing) (q .outgoing))
-                    (sym (gone-used (set (p .incoming) n (arrivedSlot a)) now (p .lists) (p .groups))) (k .outs));
+                    (sym (gone-used (set (p .incoming) n (arrivedSlot a)) now (p .lists) (p .unsequenced))) (k .outs));
                 within =
                     pooled a n free (named (reliableAfter (fate.Stored n) a datagram x .peer))
                     (λ t.
                     landed-names p whole good (a .channel) on (dispatchedWith n a p .lists) (dispatchedWith n a p .channel) t (one n t)
-                    (omega (arith, gone-names (set (p .incoming) n (arrivedSlot a)) now (p .lists) (p .groups) t, now-names t)));
+                    (omega (arith, gone-names (set (p .incoming) n (arrivedSlot a)) now (p .lists) (p .unsequenced) t, now-names t)));
               }
 
         held-landed : (f : Fate) → fateOn s a p ≡ f → Landed (heldBy a datagram f x) (heldBy a datagram f y)

@@ -233,7 +233,7 @@ module _ (x : Piece) (p q : Peer) (k : Like p q) (wp : Whole p) (wq : Whole q) (
 
   stamp-same : stampOf x p ≡ stampOf x q
   stamp-same =
-      ap (stamped (x .command .byte) (x .command .channel) (x .offset)) (ap₃ countersBy (k .flow) shape-same (k .groups))
+      ap (stamped (x .command .byte) (x .command .channel) (x .offset)) (ap₃ countersBy (k .flow) shape-same (k .unsequenced))
 
   counters-same : stampOf x p .counters ≡ stampOf x q .counters
   counters-same = ap (λ (t : Stamped). t .counters) stamp-same
@@ -246,7 +246,7 @@ module _ (x : Piece) (p q : Peer) (k : Like p q) (wp : Whole p) (wq : Whole q) (
   queued-at-like n low =
       rebuilt-like p q k (k .standing) (ap (λ (t : Totals). withOutgoingTotal t (grown (t .outgoing) x)) (k .totals)) (k .times) (k .loss) (k .throttling)
       (k .trips) (ap₂ (λ (f : Flow) (c : Counters). withReliable f (c .own)) (k .flow) counters-same) (with-lined (p .lists) (q .lists) (k .lists) x n)
-      (ap₂ (λ (g : Unsequenced) (c : Counters). withOutgoingGroup g (c .group)) (k .groups) counters-same)
+      (ap₂ (λ (g : Unsequenced) (c : Counters). withOutgoingGroup g (c .group)) (k .unsequenced) counters-same)
       (ap (λ (w : Waiting). withQueued w (sum 32 (w .queued) 1)) (k .waiting))
       (ranked-set (p .channels) (q .channels) (p .standing .channels) (x .command .channel) _ _ (ranked-by p q k) (ap₂ renumbered shape-same counters-same))
       (agree-less noOutgoing (n ∷ usedOut (p .lists)) (set (p .outgoing) n (made x p)) (set (q .outgoing) n (made x q))
@@ -299,7 +299,7 @@ module _ (p q : Peer) (k : Like p q) where
         begun-like : Like (begun mtu count p) (begun mtu count q)
         begun-like =
             rebuilt-like p q k (ap (λ (n : Standing). withCount n count) (k .standing)) (k .totals) (k .times) (k .loss) (k .throttling) (k .trips)
-            (ap (λ (f : Flow). withMtu f mtu) (k .flow)) (k .lists) (k .groups) (k .waiting) refl (k .outs)
+            (ap (λ (f : Flow). withMtu f mtu) (k .flow)) (k .lists) (k .unsequenced) (k .waiting) refl (k .outs)
 
         go : (b : Bool) → Twin (pick b (finished (begun mtu count p)) (unchanged OutOfRange p)) (pick b (finished (begun mtu count q)) (unchanged OutOfRange q))
         go true = record { answer = refl; like = begun-like }
@@ -314,7 +314,7 @@ module _ (p q : Peer) (k : Like p q) where
               answer = refl;
               like =
                   rebuilt-like p q k (ap (λ (n : Standing). withState n state) (k .standing)) (k .totals) (k .times) (k .loss) (k .throttling) (k .trips)
-                  (k .flow) (k .lists) (k .groups) (k .waiting) (ranked-by p q k) (k .outs);
+                  (k .flow) (k .lists) (k .unsequenced) (k .waiting) (ranked-by p q k) (k .outs);
             }
         go false = record { answer = refl; like = k }
 
@@ -328,7 +328,7 @@ module _ (p q : Peer) (k : Like p q) where
               (k .throttling) (k .trips);
           like =
               rebuilt-like p q k (k .standing) (k .totals) (k .times) (k .loss)
-              (ap₂ (λ (t : Throttling) (u : Trips). throttled sample t u) (k .throttling) (k .trips)) (k .trips) (k .flow) (k .lists) (k .groups)
+              (ap₂ (λ (t : Throttling) (u : Trips). throttled sample t u) (k .throttling) (k .trips)) (k .trips) (k .flow) (k .lists) (k .unsequenced)
               (k .waiting) (ranked-by p q k) (k .outs);
         })
 
@@ -340,7 +340,7 @@ module _ (p q : Peer) (k : Like p q) where
           rebuilt-like p q k (k .standing) (k .totals)
           (ap₂ (λ (t : Times) (xs : List ℕ). timesSent t xs o) (k .times) (out-items (p .lists .sent) (q .lists .sent) (k .lists .sent)))
           (ap packetSent (k .loss)) (k .throttling) (k .trips) (ap (λ (f : Flow). flowSent f o) (k .flow)) (sent-lined (p .lists) (q .lists) (k .lists) r n o)
-          (k .groups) (k .waiting) (ranked-by p q k)
+          (k .unsequenced) (k .waiting) (ranked-by p q k)
           (agree-less noOutgoing (usedOut (p .lists)) (set (p .outgoing) n o) (set (q .outgoing) n o)
           (agree-set noOutgoing (usedOut (p .lists)) (p .outgoing) (q .outgoing) (k .outs) n o o long refl)
           (usedOut (listsSent r (p .lists) n o))

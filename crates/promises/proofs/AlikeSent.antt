@@ -202,7 +202,7 @@ module _ (p q : Peer) (k : Like p q) where
               (ap₂ (λ (f g : First). timesWithout (isSome f) (isSome g) (heldBy (p .outgoing) head) (acknowledging.received clock (p .times))) slots heads
               ∙ ap₂ (λ (o : Outgoing) (t : Times). timesWithout (isSome (slotAt w (q .lists))) (isSome head′) o (acknowledging.received clock t)) next (k .times))
               (k .loss) (ap (λ (m : Measured). m .throttling) now) (ap (λ (m : Measured). m .trips) now) (ap₂ (flowWithout w) removed (k .flow)) lined
-              (k .groups) (k .waiting) (ranked-by p q k)
+              (k .unsequenced) (k .waiting) (ranked-by p q k)
               (agree-less noOutgoing (usedOut (p .lists)) (p .outgoing) (q .outgoing) (k .outs) (usedOut left)
               (λ s n. omega (arith, n, without-names (p .lists) w s)));
         }
@@ -292,7 +292,7 @@ module _ (p q : Peer) (k : Like p q) (long : length (p .outgoing) ≡ length (q 
       (ap₂ (λ (f : Flow) (w : Walk). withTransit f (w .transit)) (k .flow) (walks .walk))
       (subst (λ (ms : List ℕ). Lined (listsBy (checking.walkOf clock p .marks) (p .lists)) (listsBy ms (q .lists))) (walks .marks)
       (by-lined (checking.walkOf clock p .marks) (p .lists) (q .lists) (k .lists)))
-      (k .groups) (k .waiting) (ranked-by p q k)
+      (k .unsequenced) (k .waiting) (ranked-by p q k)
       (agree-less noOutgoing (usedOut (p .lists)) (checking.walkOf clock p .slots) (checking.walkOf clock q .slots) (walks .slots)
       (usedOut (listsBy (checking.walkOf clock p .marks) (p .lists))) (by-names (checking.walkOf clock p .marks) (p .lists)))
 

@@ -77,7 +77,7 @@ gate-spares n a b false good = a
 -- ---- 8 of an unsequenced arrival
 module _ (s : Settings) (a : Arrival) (g : Group) (datagram : List ℕ) (x : State) where
   abbrev gs : Unsequenced
-  gs = x .peer .groups
+  gs = x .peer .unsequenced
 
   arrival-spares : Spares 8 (arrivalGate sendUnsequenced a s (x .peer .standing) (length datagram))
   arrival-spares = go (names (a .byte) sendUnsequenced) (isReceiving (a .channel) (x .peer .standing)) (isWhole a s (length datagram))
@@ -91,7 +91,7 @@ module _ (s : Settings) (a : Arrival) (g : Group) (datagram : List ℕ) (x : Sta
 
   -- what becomes of the group, where that answers 8
   abbrev Moves : Judged → Type 0
-  Moves j = answerOf (replyOf (j .fate)) .number ≡ 8 → unsequencedAfter (j .fate) (j .groups) a datagram x ≡ movedFor g x
+  Moves j = answerOf (replyOf (j .fate)) .number ≡ 8 → unsequencedAfter (j .fate) (j .unsequenced) a datagram x ≡ movedFor g x
 
   taken-moves : (room : Fate) (base : Group) (words : List ℕ) → regrouped x (withWindow gs base words) ≡ movedFor g x
       → Moves (takenAt room gs g base words)
@@ -111,7 +111,7 @@ module _ (s : Settings) (a : Arrival) (g : Group) (datagram : List ℕ) (x : Sta
   by-window =
       let j = judgedOn s g (x .peer) in
       behind-answers 8 x (λ (y : State). y ≡ movedFor g x)
-      (record { answer = answerOf (replyOf (j .fate)); after = unsequencedAfter (j .fate) (j .groups) a datagram x })
+      (record { answer = answerOf (replyOf (j .fate)); after = unsequencedAfter (j .fate) (j .unsequenced) a datagram x })
       (arrivalGate sendUnsequenced a s (x .peer .standing) (length datagram)) arrival-spares
       (tested (gs .incoming .0) (gs .words) (g .0) Moves (passedBy gs) (takenAt (roomOf s (x .peer)) gs g (record { 0 = first (g .0) }) cleared)
       (passedBy gs) (takenAt (roomOf s (x .peer)) gs g (gs .incoming) (gs .words))

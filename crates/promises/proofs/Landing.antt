@@ -35,11 +35,11 @@ module _ (s : Settings) (a : Arrival) (group : Group) (datagram : List ℕ) (x :
   pub arrival-lands : group .0 < 65536 → Lands
   arrival-lands small = go (unsequenced-lands s a group datagram x)
     where
-      took : (marks : Bool) → landing.Took (x .peer .groups) (comes .after .peer .groups) (group .0) marks
+      took : (marks : Bool) → landing.Took (x .peer .unsequenced) (comes .after .peer .unsequenced) (group .0) marks
           → Took (windowOf x) (windowOf (comes .after)) (group .0) marks
       took marks t = record { fits = small; taken = t .taken; base = t .base; words = t .words }
 
-      go : landing.Lands (x .peer .groups) (group .0) comes → Lands
+      go : landing.Lands (x .peer .unsequenced) (group .0) comes → Lands
       go (landing.stays base words not) =
           stays (ap₂ (λ (b : Group) (ws : List ℕ). record { base = b .0; words = ws }) base words) (one-not (comes .answer) says not)
       go (landing.takes marks t not) = takes marks (took marks t) (one-not (comes .answer) says not)
@@ -48,7 +48,7 @@ module _ (s : Settings) (a : Arrival) (group : Group) (datagram : List ℕ) (x :
   -- a repeat changes nothing
   pub repeat-quiet : (m : ℕ) → Known (windowOf x) (group .0) m → m ≤ 32 → comes .after ≡ x
   repeat-quiet m k few =
-      let g = x .peer .groups in
+      let g = x .peer .unsequenced in
       unsequenced-quiet s a group datagram x
       (passes k (passedBy g) (takenAt (roomOf s (x .peer)) g group (record { 0 = first (group .0) }) cleared)
       (takenAt (roomOf s (x .peer)) g group (g .incoming) (g .words)) few)

@@ -88,7 +88,7 @@ near-stored s a g datagram x good f near free =
     let p = x .peer in
     let room = fits-room sendUnsequenced s a datagram x f in
     let fated : judgedOn s g p .fate ≡ fate.Stored (room .0) =
-    ap (λ (r : Fate). judgeWindow (p .groups) g r .fate) (room .1) ∙ near-taken (p .groups) g (room .0) near free in
+    ap (λ (r : Fate). judgeWindow (p .unsequenced) g r .fate) (room .1) ∙ near-taken (p .unsequenced) g (room .0) near free in
     ap (λ (o : Outcome State). o .answer)
     (behind-open (gateOf (fits s (Store (length (x .store)))) (sound p)) x (unsequencedSound s a g datagram x)
     (fits-open sendUnsequenced s a datagram x f good)
@@ -135,7 +135,7 @@ run-aside (a ∷ rest) x i = run-aside rest (comesTo a x .after) (i .1) ∙ asid
 
 -- what a judgement comes to
 abbrev comes : Arrival → List ℕ → State → Judged → Outcome State
-comes a datagram x j = record { answer = answerOf (replyOf (j .fate)); after = unsequencedAfter (j .fate) (j .groups) a datagram x }
+comes a datagram x j = record { answer = answerOf (replyOf (j .fate)); after = unsequencedAfter (j .fate) (j .unsequenced) a datagram x }
 
 -- ---- what an 8 leaves: the base at the first group of g's window, and g not marked
 record Unmarked (w : Window) (g : ℕ) : Type 0 where
@@ -163,7 +163,7 @@ module _ (s : Settings) (a : Arrival) (g : Group) (datagram : List ℕ) (x : Sta
   eight-behind false good named on whole rest h = λ e. absurd (omega (arith, e))
 
   eight-taken : (base : Group) (words : List ℕ) → first (g .0) ≡ base .0 → marked words (g .0) ≡ false → (room : Fate)
-      → Eight (comes a datagram x (takenAt room (x .peer .groups) g base words))
+      → Eight (comes a datagram x (takenAt room (x .peer .unsequenced) g base words))
   eight-taken base words home not fate.Passed e = absurd (omega (arith, e))
   eight-taken base words home not fate.NoRoom e = record { home = home; unmarked = not }
   eight-taken base words home not (fate.Stored n) e = absurd (omega (arith, e))
@@ -173,11 +173,11 @@ module _ (s : Settings) (a : Arrival) (g : Group) (datagram : List ℕ) (x : Sta
       let p = x .peer in
       eight-behind (fits s (Store (length (x .store)))) (sound p) (names (a .byte) sendUnsequenced) (isReceiving (a .channel) (p .standing))
       (isWhole a s (length datagram)) (comes a datagram x (judgedOn s g p))
-      (judged-has (p .groups) g (roomOf s p) (λ (j : Judged). Eight (comes a datagram x j))
+      (judged-has (p .unsequenced) g (roomOf s p) (λ (j : Judged). Eight (comes a datagram x j))
       (λ f e. absurd (omega (arith, e)))
       (λ f h. eight-taken (record { 0 = first (g .0) }) cleared refl (marked-cleared (g .0)) (roomOf s p))
       (λ f h m e. absurd (omega (arith, e)))
-      (λ f h m. eight-taken (p .groups .incoming) (p .groups .words) (eqb-true (first (g .0)) (baseOf x) h) m (roomOf s p)))
+      (λ f h m. eight-taken (p .unsequenced .incoming) (p .unsequenced .words) (eqb-true (first (g .0)) (baseOf x) h) m (roomOf s p)))
 
 pub stored-after-eight : StoredAfterEight
 stored-after-eight s t a g datagram x calls eight aside good f =
@@ -243,22 +243,22 @@ module _ (s : Settings) (a : Arrival) (g : Group) (datagram : List ℕ) (x : Sta
 
   -- taken, at a base and with words that hold the log since
   taken-marks : (base : Group) (words since : List ℕ) → pick (eqb (base .0) (baseOf x)) log [] ≡ since → Marks (at (base .0) words) since
-      → first (g .0) ≡ base .0 → (room : Fate) → roomOf s (x .peer) ≡ room → Then (comes a datagram x (takenAt room (x .peer .groups) g base words))
+      → first (g .0) ≡ base .0 → (room : Fate) → roomOf s (x .peer) ≡ room → Then (comes a datagram x (takenAt room (x .peer .unsequenced) g base words))
   taken-marks base words since from k home fate.Passed e =
       rw (room-passed s (x .peer) e, eq-eqb (first (g .0)) (base .0) home, from) (join-marks (base .0) words since (g .0) home k)
   taken-marks base words since from k home fate.NoRoom e = rw from k
   taken-marks base words since from k home (fate.Stored n) e = rw from (join-marks (base .0) words since (g .0) home k)
 
   -- too far: not in the base's window
-  far-marks : distant (baseOf x) (g .0) ≡ true → Then (comes a datagram x (passedBy (x .peer .groups)))
+  far-marks : distant (baseOf x) (g .0) ≡ true → Then (comes a datagram x (passedBy (x .peer .unsequenced)))
   far-marks far =
       let away = ne-eqb (first (g .0)) (baseOf x) (λ home.
       let near = home-near (baseOf x) (g .0) home in let z : _≡_ {A = ℕ} 0 1 = cc in omega arith) in
-      still-marks (comes a datagram x (passedBy (x .peer .groups))) refl
+      still-marks (comes a datagram x (passedBy (x .peer .unsequenced))) refl
       (both-false (eqb (x .peer .standing .state) disconnectLater) (eqb (first (g .0)) (baseOf x)) away)
 
   -- marked already: in the log, so nothing changes if it is told once more, as in state 6
-  marked-marks : marked (x .peer .groups .words) (g .0) ≡ true → Then (comes a datagram x (passedBy (x .peer .groups)))
+  marked-marks : marked (x .peer .unsequenced .words) (g .0) ≡ true → Then (comes a datagram x (passedBy (x .peer .unsequenced)))
   marked-marks again =
       rw (eq-eqb (baseOf x) (baseOf x) refl)
       (picked (Marks (windowOf x)) (both (eqb (x .peer .standing .state) disconnectLater) (eqb (first (g .0)) (baseOf x))) (g .0 ∷ log) log
@@ -269,11 +269,11 @@ module _ (s : Settings) (a : Arrival) (g : Group) (datagram : List ℕ) (x : Sta
       let p = x .peer in
       behind-has (gateOf (fits s (Store (length (x .store)))) (sound p)) x (unsequencedSound s a g datagram x) Then shut-marks
       (λ e. behind-has (arrivalGate sendUnsequenced a s (p .standing) (length datagram)) x _ Then shut-marks
-      (λ own. judged-has (p .groups) g (roomOf s p) (λ (j : Judged). Then (comes a datagram x j))
+      (λ own. judged-has (p .unsequenced) g (roomOf s p) (λ (j : Judged). Then (comes a datagram x j))
       far-marks
       (λ f h. taken-marks (record { 0 = first (g .0) }) cleared [] (rw h) (cleared-marks (first (g .0))) refl (roomOf s p) refl)
       (λ f h k. marked-marks k)
-      (λ f h k. taken-marks (p .groups .incoming) (p .groups .words) log (rw (eq-eqb (baseOf x) (baseOf x) refl)) m
+      (λ f h k. taken-marks (p .unsequenced .incoming) (p .unsequenced .words) log (rw (eq-eqb (baseOf x) (baseOf x) refl)) m
       (eqb-true (first (g .0)) (baseOf x) h) (roomOf s p) refl)))
 
 -- ---- along a run

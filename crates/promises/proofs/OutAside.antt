@@ -122,13 +122,13 @@ by-dispatch slots c l g =
     let d = movedOn n (readyLast slots (inItems (c .held)) (c .«incoming_reliable» .0)) c l g in
     go d (record { names = refl; given = refl }) (eqb n 0)
   where
-    go : (d : Dispatched) → Inward c l d → (b : Bool) → Inward c l (pick b (record { channel = c; lists = l; groups = g }) d)
+    go : (d : Dispatched) → Inward c l d → (b : Bool) → Inward c l (pick b (record { channel = c; lists = l; unsequenced = g }) d)
     go d k true = record { names = refl; given = refl }
     go d k false = k
 
 pub dispatch-aside : (s : Settings) (channel : ℕ) (p : Peer) → Aside p (dispatches s channel p .after)
 dispatch-aside s channel p =
-    let k = by-dispatch (p .incoming) (getD (p .channels) channel noChannel) (p .lists) (p .groups) in
+    let k = by-dispatch (p .incoming) (getD (p .channels) channel noChannel) (p .lists) (p .unsequenced) in
     behind-aside p (gate s p) (dispatchesSound channel p)
     (behind-aside p (dispatchGate channel (p .standing)) (finished (dispatchedOn channel p))
     (record {
@@ -154,7 +154,7 @@ module _ (s : Settings) (a : Arrival) (datagram : List ℕ) (x : State) where
       held : (n : ℕ) → Aside (x .peer) (reliableAfter (fate.Stored n) a datagram x .peer)
       held n =
           let k = by-dispatch (set (x .peer .incoming) n (arrivedSlot a)) (heldWith (x .peer .incoming) (channelOf a (x .peer)) (a .number .0) n)
-          (x .peer .lists) (x .peer .groups) in
+          (x .peer .lists) (x .peer .unsequenced) in
           record {
             slots = refl;
             names = k .names;

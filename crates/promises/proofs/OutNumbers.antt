@@ -178,7 +178,7 @@ module _ (x : Piece) (p : Peer) (whole : Whole p) (most : p .standing .channels 
   channel = x .command .channel
 
   abbrev k : Counters
-  k = countersAt (p .flow .«own_number») (p .channels) channel (p .groups .outgoing)
+  k = countersAt (p .flow .«own_number») (p .channels) channel (p .unsequenced .outgoing)
 
   abbrev after : Counters
   after = stampOf x p .counters

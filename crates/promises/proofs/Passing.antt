@@ -20,7 +20,7 @@ use Rattle.peer.specs.Damage.{sound}
 use Rattle.peer.specs.Gate.{fits, gateOf}
 use Rattle.peer.specs.Outcome.{State, Outcome, finished, unchanged}
 use Rattle.peer.specs.Sounds.{Whole}
-use Rattle.peer.specs.Updates.{withGroups}
+use Rattle.peer.specs.Updates.{withUnsequenced}
 use Rattle.peer.specs.declared.settings.Settings.{Settings}
 use Rattle.peer.specs.declared.Peer.{Peer}
 use Rattle.peer.specs.declared.gate.Lent.the-variants as lent
@@ -131,8 +131,8 @@ module _ (a : Arrival) (datagram : List ℕ) (x : State) where
 pub unsequenced-passes : (s : Settings) (a : Arrival) (group : Group) (datagram : List ℕ) (x : State) → Whole (x .peer)
     → let o = arrivesUnsequenced s a group datagram x in Passes x (o .after) (pick (saysOne (o .answer)) (payload a datagram ∷ []) []) []
 unsequenced-passes s a group datagram x whole =
-    let gs = judgedOn s group (x .peer) .groups in
-    let same : Passes x (regrouped x gs) [] [] = still-passes x (withGroups (x .peer) gs) (record { slots = refl; items = refl; names = refl }) in
+    let gs = judgedOn s group (x .peer) .unsequenced in
+    let same : Passes x (regrouped x gs) [] [] = still-passes x (withUnsequenced (x .peer) gs) (record { slots = refl; items = refl; names = refl }) in
     unsequenced-has s a group datagram x (Comes a datagram x) (refused-comes a datagram x) (λ good e k js. same) (λ good e k js. same)
     (λ n good long may e.
     let free = stored-free s a group datagram x n e in

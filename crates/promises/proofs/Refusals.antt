@@ -282,7 +282,7 @@ module _ (s : Settings) (a : Arrival) (datagram : List ℕ) (x : State) where
       k = call.Inward (inw.UnsequencedArrival a group)
 
       by-fate : (f : Fate)
-          → Fair k (sound p) x (record { answer = answerOf (replyOf f); after = unsequencedAfter f (judgedOn s group p .groups) a datagram x })
+          → Fair k (sound p) x (record { answer = answerOf (replyOf f); after = unsequencedAfter f (judgedOn s group p .unsequenced) a datagram x })
       by-fate fate.Passed = done k x _ refl
       by-fate fate.NoRoom = late k x NotStored _ refl (λ e t. e refl)
       by-fate (fate.Stored n) = done k x _ refl

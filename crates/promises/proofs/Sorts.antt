@@ -402,7 +402,7 @@ pub record Enters (a : Arrival) (datagram : List ℕ) (x : State) (o : Outcome S
 
 module _ (s : Settings) (a : Arrival) (group : Group) (datagram : List ℕ) (x : State) (whole : Whole (x .peer)) where
   abbrev left : Unsequenced
-  left = judgedOn s group (x .peer) .groups
+  left = judgedOn s group (x .peer) .unsequenced
 
   stored-enters : (n : ℕ) → sound (x .peer) ≡ true → Admitted a (x .peer .standing) (length datagram) → judgedOn s group (x .peer) .fate ≡ fate.Stored n
       → let o : Outcome State = record { answer = stored; after = storedAt n a datagram x (delivered (x .peer .lists) n) left (x .peer .channels) } in

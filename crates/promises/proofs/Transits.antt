@@ -65,7 +65,7 @@ dispatched-sent slots c l g =
     let n = c .«incoming_reliable» .0 in
     go (movedOn (readyCount slots (inItems (c .held)) n) (readyLast slots (inItems (c .held)) n) c l g) refl (eqb (readyCount slots (inItems (c .held)) n) 0)
   where
-    go : (d : Dispatched) → d .lists .sent ≡ l .sent → (b : Bool) → pick b (record { channel = c; lists = l; groups = g }) d .lists .sent ≡ l .sent
+    go : (d : Dispatched) → d .lists .sent ≡ l .sent → (b : Bool) → pick b (record { channel = c; lists = l; unsequenced = g }) d .lists .sent ≡ l .sent
     go d e true = refl
     go d e false = e
 
@@ -80,7 +80,7 @@ dispatch-carries s channel p c =
     (λ own.
     record {
       low = c .low;
-      is = same-carries p _ (dispatched-sent (p .incoming) (getD (p .channels) channel noChannel) (p .lists) (p .groups)) c;
+      is = same-carries p _ (dispatched-sent (p .incoming) (getD (p .channels) channel noChannel) (p .lists) (p .unsequenced)) c;
     }))
 
 receive-carries : (s : Settings) (p : Peer) → Carries p → Carries (receives s p .after)
@@ -106,7 +106,7 @@ module _ (s : Settings) (a : Arrival) (datagram : List ℕ) (x : State) (c : Car
         low = c .low;
         is =
             same-carries p _
-            (dispatched-sent (set (p .incoming) n (arrivedSlot a)) (heldWith (p .incoming) (channelOf a p) (a .number .0) n) (p .lists) (p .groups)) c;
+            (dispatched-sent (set (p .incoming) n (arrivedSlot a)) (heldWith (p .incoming) (channelOf a p) (a .number .0) n) (p .lists) (p .unsequenced)) c;
       }
 
   reliable-carries : Carries (arrivesReliable s a datagram x .after .peer)

@@ -25,7 +25,7 @@ pub record Window : Type 0 where
   pub words : List ℕ
 
 abbrev pub windowIn : Peer → Window
-windowIn p = record { base = p .groups .incoming .0; words = p .groups .words }
+windowIn p = record { base = p .unsequenced .incoming .0; words = p .unsequenced .words }
 
 abbrev pub windowOf : State → Window
 windowOf x = windowIn (x .peer)

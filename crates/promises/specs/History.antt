@@ -59,7 +59,7 @@ AllInRange (a ∷ rest) = InRange (concern (a .call)) × AllInRange rest
 
 -- how far a call moved the base: read off the record, whatever the call is and whatever it answers
 abbrev pub baseOf : State → ℕ
-baseOf x = x .peer .groups .incoming .0
+baseOf x = x .peer .unsequenced .incoming .0
 
 abbrev pub movedBy : Asked → State → ℕ
 movedBy a x = windowsMoved (baseOf x) (baseOf (comesTo a x .after))

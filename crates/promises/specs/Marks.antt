@@ -43,7 +43,7 @@ abbrev pub MarkedExactly : Type 0
 MarkedExactly =
     (mtu : ℕ) (kept : Kept) (store : List ℕ) (calls : List Asked) (g : ℕ) → let x = resetState mtu kept store in
     let y = run calls x .end in
-    first g ≡ baseOf y → marked (y .peer .groups .words) g ≡ has (took calls x []) g
+    first g ≡ baseOf y → marked (y .peer .unsequenced .words) g ≡ has (took calls x []) g
 
 -- calls that have nothing to do with the window
 abbrev pub Aside : List Asked → Type 0

@@ -68,5 +68,5 @@ NearStored =
     (s : Settings) (a : Arrival) (g : Group) (datagram : List ℕ) (x : State) → sound (x .peer) ≡ true
     → Fits sendUnsequenced s a datagram x
     → distant (baseOf x) (g .0) ≡ false
-    → (first (g .0) ≡ baseOf x → ⊥) ⊎ (marked (x .peer .groups .words) (g .0) ≡ false)
+    → (first (g .0) ≡ baseOf x → ⊥) ⊎ (marked (x .peer .unsequenced .words) (g .0) ≡ false)
     → comesTo (unsequencedly s a g datagram) x .answer ≡ stored

@@ -72,7 +72,7 @@ EightLeaves =
 -- 8 of an unsequenced one: "unchanged, but for the unsequenced move": the base is the first group of g's window, and the words are cleared if it was not
 abbrev pub movedFor : Group → State → State
 movedFor g x =
-    let gs = x .peer .groups in
+    let gs = x .peer .unsequenced in
     let home = first (g .0) in
     regrouped x (withWindow gs (record { 0 = home }) (pick (eqb home (gs .incoming .0)) (gs .words) cleared))
 

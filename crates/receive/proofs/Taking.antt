@@ -75,7 +75,7 @@ module _ (s : Settings) (p : Peer) (n : ℕ) (others : List ℕ) (e : inItems (p
 pub record Keeps (p after : Peer) : Type 0 where
   pub incoming : after .incoming ≡ p .incoming
   pub channels : after .channels ≡ p .channels
-  pub groups : after .groups ≡ p .groups
+  pub unsequenced : after .unsequenced ≡ p .unsequenced
   pub outgoing : after .outgoing ≡ p .outgoing
 
 pub receive-keeps : (s : Settings) (p : Peer) → Keeps p (receives s p .after)
@@ -84,8 +84,8 @@ receive-keeps s p =
     (λ e. goes (first (inItems (p .lists .dispatched))))
   where
     same : Keeps p p
-    same = record { incoming = refl; channels = refl; groups = refl; outgoing = refl }
+    same = record { incoming = refl; channels = refl; unsequenced = refl; outgoing = refl }
 
     goes : (f : First) → Keeps p (receivesFrom f p .after)
     goes Empty = same
-    goes (Slot n) = record { incoming = refl; channels = refl; groups = refl; outgoing = refl }
+    goes (Slot n) = record { incoming = refl; channels = refl; unsequenced = refl; outgoing = refl }

@@ -12,11 +12,11 @@ pub fn flag_set(flags: u16) -> u16
     low16(bits::set(flags as u32, 0))
 }
 
-pub fn flagged(groups: Unsequenced) -> Unsequenced
-    ensures { λ r. ⌜ r ≡ flagged groups ⌝ }
+pub fn flagged(unsequenced: Unsequenced) -> Unsequenced
+    ensures { λ r. ⌜ r ≡ flagged unsequenced ⌝ }
 {
-    let flags = flag_set(groups.flags);
-    let mut g = groups;
+    let flags = flag_set(unsequenced.flags);
+    let mut g = unsequenced;
     g.flags = flags;
     g
 }

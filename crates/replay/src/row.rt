@@ -12,7 +12,7 @@ pub(crate) fn hash(is_shown: bool, p: Peer) -> u32 {
     let row = script_record::standing(row, p.ids, p.standing, p.bandwidth, p.totals, p.times);
     let row = script_record::pace(row, p.loss, p.throttling, p.limits, p.trips, p.flow);
     let row = script_record::lists(row, p.lists);
-    let row = script_record::groups(row, p.groups, p.waiting);
+    let row = script_record::unsequenced(row, p.unsequenced, p.waiting);
     let row = script_record::channels(row, all, count);
     let row = script_record::outgoing(row, out_pool, p.lists);
     let row = script_record::incoming(row, in_pool, p.lists, all, count);

@@ -22,7 +22,7 @@ pub(crate) fn number(which: u32, x: u32, mut p: Peer) -> Peer {
     p.limits = values::limits(which, x, p.limits);
     p.trips = values::trips(which, x, p.trips);
     p.flow = values::flow(which, x, p.flow);
-    p.groups = values::groups(which, x, p.groups);
+    p.unsequenced = values::unsequenced(which, x, p.unsequenced);
     p.waiting = values::waiting(which, x, p.waiting);
     p
 }

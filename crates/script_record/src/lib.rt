@@ -105,7 +105,7 @@ pub fn lists(row: Row, l: Lists) -> Row
     put_in(row, l.dispatched)
 }
 
-pub fn groups(row: Row, g: Unsequenced, w: Waiting) -> Row
+pub fn unsequenced(row: Row, g: Unsequenced, w: Waiting) -> Row
     ensures { λ r. ⌜ r ≡ told row (groupsRow g w) ⌝ }
 {
     let a = g.incoming;

@@ -187,7 +187,7 @@ pub fn flow(which: u32, x: u32, g: Flow) -> Flow
     }
 }
 
-pub fn groups(which: u32, x: u32, g: Unsequenced) -> Unsequenced
+pub fn unsequenced(which: u32, x: u32, g: Unsequenced) -> Unsequenced
     ensures { λ r. ⌜ r .flags ≡ at which 43 (x % 65536) (g .flags) ⌝ }
     ensures { λ r. ⌜ r .reserved ≡ at which 44 (x % 65536) (g .reserved) ⌝ }
     ensures { λ r. ⌜ r .incoming .0 ≡ at which 45 (x % 65536) (g .incoming .0) ⌝ }

@@ -163,7 +163,7 @@ then-second (Shut why) h e = absurd (omega (arith, ap openness e))
 
 -- ---- the send: ws, g, o, size, x, count and k are what the code answered
 module _ (s : Settings) (channel n flags : ℕ) (p : Peer) (g : AtGate s Nothing p)
-    (passed : g .gate ≡ Open) (o : Outbox) (oe : o ≡ outboxOf (p .totals) (p .waiting) (p .flow) (p .groups) (p .channels) channel (p .lists)) (size : ℕ)
+    (passed : g .gate ≡ Open) (o : Outbox) (oe : o ≡ outboxOf (p .totals) (p .waiting) (p .flow) (p .unsequenced) (p .channels) channel (p .lists)) (size : ℕ)
     (se : size ≡ fragment s p) (x : Packet) (xe : x ≡ packetOf flags (o .counters .reliable) (o .counters .unreliable) channel n size) (count : ℕ)
     (ce : count ≡ countOf x) (k : Gate) (ke : k ≡ then (sendGate s channel n (p .standing)) (queueGate count (room p))) where
   good : sound p ≡ true
@@ -251,7 +251,7 @@ module _ (s : Settings) (channel n flags : ℕ) (p : Peer) (g : AtGate s Nothing
         → (own c : Channel) → own ≡ channelAt (r .channels) channel → c ≡ withNumbers own (o′ .counters .reliable) (o′ .counters .unreliable)
         → Came answerOf (sends s channel n flags p) Done
         (renewed r (r .standing) (withOutgoingTotal (r .totals) (o′ .total)) (r .times) (r .loss) (withReliable (r .flow) (o′ .counters .own)) (o′ .lists)
-        (withOutgoingGroup (r .groups) (o′ .counters .group)) (withQueued (r .waiting) (o′ .queued)) (set (r .channels) channel c) (r .outgoing))
+        (withOutgoingGroup (r .unsequenced) (o′ .counters .group)) (withQueued (r .waiting) (o′ .queued)) (set (r .channels) channel c) (r .outgoing))
     send-left r o′ j offset t h own c oe′ ke′ =
         came-open g p (sendsSound s channel n flags p) answerOf Done _ passed
         (rw (send-is, behind-open gates p (finished (queuedAll xs p)) opened)

@@ -53,7 +53,7 @@ module _ (x : Packet) (count channel : ℕ) (p₀ : Peer) where
 
 -- ---- the send: g, o with its marks, x, count and k are what the code answered
 module _ (s : Settings) (channel n flags : ℕ) (p : Peer) (g : AtGate s Nothing p) (passed : g .gate ≡ Open) (o : lent.Outbox) (marks : List ℕ)
-    (oe : inLists o marks (p .lists) ≡ outboxOf (p .totals) (p .waiting) (p .flow) (p .groups) (p .channels) channel (p .lists)) (x : Packet)
+    (oe : inLists o marks (p .lists) ≡ outboxOf (p .totals) (p .waiting) (p .flow) (p .unsequenced) (p .channels) channel (p .lists)) (x : Packet)
     (xe : x ≡ packetOf flags (o .counters .reliable) (o .counters .unreliable) channel n (fragment s p)) (count : ℕ) (ce : count ≡ countOf x) (k : Gate)
     (ke : k ≡ then (sendGate s channel n (p .standing)) (queueGate count (room p))) where
   pub lent-shut : (why : Refusal) → k ≡ Shut why → Came answerOf (sends s channel n flags p) (Refused why) p

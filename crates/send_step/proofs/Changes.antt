@@ -114,7 +114,7 @@ module _ (p : Peer) where
 pub stepped : (p v w x y z : Peer) (q : Queue) (s : ℕ) (o : Outgoing) → v ≡ withOutgoing p (set (p .outgoing) s o) → w ≡ withLoss v (packetSent (v .loss))
     → x ≡ withTimes w (timesSent (w .times) (outItems (w .lists .sent)) o) → y ≡ withFlow x (flowSent (x .flow) o) → z ≡ withLists y (listsSent q (y .lists) s o)
     → z ≡ renewed p (p .standing) (p .totals) (timesSent (p .times) (outItems (p .lists .sent)) o) (packetSent (p .loss)) (flowSent (p .flow) o)
-    (listsSent q (p .lists) s o) (p .groups) (p .waiting) (p .channels) (set (p .outgoing) s o)
+    (listsSent q (p .lists) s o) (p .unsequenced) (p .waiting) (p .channels) (set (p .outgoing) s o)
 stepped p v w x y z q s o a b c d e =
     e
     ∙ ap (λ (k : Peer). withLists k (listsSent q (k .lists) s o))

@@ -97,7 +97,7 @@ module _ (slots : List Outgoing) (s : ℕ) (o : Outgoing) where
 module _ (p : Peer) (w : Clauses p) (t : Times) (f : Flow) (l : Lists) (s : ℕ) (o : Outgoing) where
   abbrev changed : Peer
   changed =
-      renewed p (p .standing) (p .totals) t (packetSent (p .loss)) f l (p .groups) (p .waiting) (p .channels) (set (p .outgoing) s o)
+      renewed p (p .standing) (p .totals) t (packetSent (p .loss)) f l (p .unsequenced) (p .waiting) (p .channels) (set (p .outgoing) s o)
 
   sent-sound : f .mtu ≡ p .flow .mtu → l .dispatched ≡ p .lists .dispatched → listsFit l ≡ true
       → ((k : ℕ) → times (usedOut l) k ≤ times (usedOut (p .lists)) k) → o .command ≡ getD (p .outgoing) s noOutgoing .command

@@ -45,6 +45,6 @@ module _ (s : Settings) (q : Queue) (time : ℕ) (p : Peer)
           → times ≡ timesSent (p .times) (outItems (p .lists .sent)) o → loss ≡ packetSent (p .loss) → flow ≡ flowSent (p .flow) o
           → lists ≡ listsSent q (p .lists) n o
           → Came answerOf (steps s q time p) (vr.Head o)
-          (renewed p (p .standing) (p .totals) times loss flow lists (p .groups) (p .waiting) (p .channels) (set (p .outgoing) n o))
+          (renewed p (p .standing) (p .totals) times loss flow lists (p .unsequenced) (p .waiting) (p .channels) (set (p .outgoing) n o))
       unfolding sentAs
       step-slot times loss flow lists t c w l = came (vr.Head o) _ (rw z (record { answer = ap sent a; after = rw (t, c, w, l, a) }))

@@ -36,7 +36,7 @@ left-is p y z channel r after q re ye ze =
 -- z with the numbers back
 pub lent-left : (s : Settings) (x : Piece) (p : Peer) (g : AtGate s Nothing p) → g .gate ≡ Open → (rule may : Gate) → may ≡ rule → (rule ≡ Open → 1 ≤ room p)
     → may ≡ Open → (o : lent.Outbox) (marks : List ℕ)
-    → inLists o marks (p .lists) ≡ outboxOf (p .totals) (p .waiting) (p .flow) (p .groups) (p .channels) (x .command .channel) (p .lists)
+    → inLists o marks (p .lists) ≡ outboxOf (p .totals) (p .waiting) (p .flow) (p .unsequenced) (p .channels) (x .command .channel) (p .lists)
     → (r : lent.Outbox) (after : List ℕ) (y z : Peer) → Sets p o marks x r after y → z ≡ closed y (x .command .channel) r
     → Came answerOf (onRecord s p (behind rule p (finished (queued x p)))) Done z
 lent-left s x p g passed rule may me some opened o marks oe r after y z made ze =

@@ -35,7 +35,7 @@ use Rattle.setup.proofs.Stored.{one-stored}
 abbrev pub leaves : Peer → Outbox → List Channel → ℕ → Outgoing → Peer
 leaves p o cs at slot =
     renewed p (p .standing) (withOutgoingTotal (p .totals) (o .total)) (p .times) (p .loss) (withReliable (p .flow) (o .counters .own)) (o .lists)
-    (withOutgoingGroup (p .groups) (o .counters .group)) (withQueued (p .waiting) (o .queued)) cs (set (p .outgoing) at slot)
+    (withOutgoingGroup (p .unsequenced) (o .counters .group)) (withQueued (p .waiting) (o .queued)) cs (set (p .outgoing) at slot)
 
 -- a call that queues one piece behind a gate of its own: g, may, o and q are what the code answered, in this order
 module _ (s : Settings) (x : Piece) (p : Peer) (g : AtGate s Nothing p) (passed : g .gate ≡ Open) (rule may : Gate) (me : may ≡ rule) where
@@ -48,7 +48,7 @@ module _ (s : Settings) (x : Piece) (p : Peer) (g : AtGate s Nothing p) (passed 
       (rw (behind-shut rule p (finished (queued x p)) why (sym me ∙ q)) (record { answer = refl; after = refl }))
 
   module _ (some : rule ≡ Open → 1 ≤ room p) (opened : may ≡ Open) (o : Outbox)
-      (oe : o ≡ outboxOf (p .totals) (p .waiting) (p .flow) (p .groups) (p .channels) (x .command .channel) (p .lists)) (q : Queued) (qe : q ≡ queueing o x) where
+      (oe : o ≡ outboxOf (p .totals) (p .waiting) (p .flow) (p .unsequenced) (p .channels) (x .command .channel) (p .lists)) (q : Queued) (qe : q ≡ queueing o x) where
     pub one-left : (cs : List Channel) → cs ≡ numbered (p .channels) (x .command .channel) (q .outbox .counters)
         → Came answerOf (onRecord s p rest) Done (leaves p (q .outbox) cs (q .at) (q .slot))
     one-left cs ce =

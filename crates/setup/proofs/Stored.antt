@@ -41,7 +41,7 @@ opened p channel marks =
     record {
       total = p .totals .outgoing;
       queued = p .waiting .queued;
-      counters = countersAt (p .flow .«own_number») (p .channels) channel (p .groups .outgoing);
+      counters = countersAt (p .flow .«own_number») (p .channels) channel (p .unsequenced .outgoing);
       lists = p .lists;
       marks = marks;
     }
@@ -50,7 +50,7 @@ opened p channel marks =
 abbrev pub stored : Peer → ℕ → Outbox → List Outgoing → Peer
 stored p channel o pool =
     renewed p (p .standing) (withOutgoingTotal (p .totals) (o .total)) (p .times) (p .loss) (withReliable (p .flow) (o .counters .own)) (o .lists)
-    (withOutgoingGroup (p .groups) (o .counters .group)) (withQueued (p .waiting) (o .queued)) (numbered (p .channels) channel (o .counters)) pool
+    (withOutgoingGroup (p .unsequenced) (o .counters .group)) (withQueued (p .waiting) (o .queued)) (numbered (p .channels) channel (o .counters)) pool
 
 -- the marks, one a slot, say which slots are named
 pub record Says (marks xs : List ℕ) : Type 0 where
@@ -102,7 +102,7 @@ module _ (x : Piece) (p : Peer) (marks : List ℕ) (says : Says marks (usedOut (
 
 -- from the record itself, where there is room
 module _ (x : Piece) (p : Peer) (h : 1 ≤ room p) (o : Outbox)
-    (oe : o ≡ outboxOf (p .totals) (p .waiting) (p .flow) (p .groups) (p .channels) (x .command .channel) (p .lists)) (q : Queued) (e : q ≡ queueing o x) where
+    (oe : o ≡ outboxOf (p .totals) (p .waiting) (p .flow) (p .unsequenced) (p .channels) (x .command .channel) (p .lists)) (q : Queued) (e : q ≡ queueing o x) where
   abbrev marks₀ : List ℕ
   marks₀ = markedAll (replicate outgoing 0) (usedOut (p .lists))
 

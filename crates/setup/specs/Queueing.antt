@@ -10,7 +10,7 @@ use Rattle.cells.specs.declared.Free.the-variants.{Lowest, Full}
 use Rattle.record.specs.Damage.{usedOut}
 use Rattle.record.specs.Updates.{withOutgoingTotal, withReliable, withOutgoingGroup, withQueued}
 use Rattle.record.specs.declared.groups.Outgoing.{Outgoing}
-use Rattle.peer.specs.Updates.{withTotals, withFlow, withLists, withGroups, withWaiting, withChannels, withOutgoing}
+use Rattle.peer.specs.Updates.{withTotals, withFlow, withLists, withUnsequenced, withWaiting, withChannels, withOutgoing}
 use Rattle.peer.specs.declared.Peer.{Peer}
 use Rattle.outbox.specs.Counting.{stamped, countersAt, numbered}
 use Rattle.outbox.specs.Pieces.{slotOf, grown, listsWith}
@@ -26,7 +26,7 @@ room p = roomIn (p .lists)
 abbrev pub stampOf : Piece → Peer → Stamped
 stampOf x p =
     let channel = x .command .channel in
-    stamped (x .command .byte) channel (x .offset) (countersAt (p .flow .«own_number») (p .channels) channel (p .groups .outgoing))
+    stamped (x .command .byte) channel (x .offset) (countersAt (p .flow .«own_number») (p .channels) channel (p .unsequenced .outgoing))
 
 -- the host count steps before it becomes the queue time
 abbrev pub queueTime : Peer → ℕ
@@ -43,11 +43,11 @@ queuedAt s x p =
     withOutgoing
     (withLists
     (withChannels
-    (withGroups
+    (withUnsequenced
     (withFlow
     (withWaiting (withTotals p (withOutgoingTotal (p .totals) (grown (p .totals .outgoing) x))) (withQueued (p .waiting) (queueTime p)))
     (withReliable (p .flow) (k .own)))
-    (withOutgoingGroup (p .groups) (k .group)))
+    (withOutgoingGroup (p .unsequenced) (k .group)))
     (numbered (p .channels) (x .command .channel) k))
     (listsWith (p .lists) x s))
     (set (p .outgoing) s (made x p))

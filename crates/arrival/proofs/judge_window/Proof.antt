@@ -18,13 +18,13 @@ returns c =
     let v = c .before .before .before in
     let w = v .before .before in
     let a = w .before .before .args in
-    judged-taken (a .groups) (a .group) (a .room) (w .judge .result) (w .judge .ensures) (v .enum-told .given .1) (c .taken-at .result) (c .taken-at .ensures)
+    judged-taken (a .unsequenced) (a .group) (a .room) (w .judge .result) (w .judge .ensures) (v .enum-told .given .1) (c .taken-at .result) (c .taken-at .ensures)
 
 returns-2 : tie.Need-returns-2
 returns-2 c =
     let w = c .before in
     let a = w .before .before .args in
-    judged-passed (a .groups) (a .group) (a .room) (w .judge .result) (w .judge .ensures) (c .match .keys2)
+    judged-passed (a .unsequenced) (a .group) (a .room) (w .judge .result) (w .judge .ensures) (c .match .keys2)
 
 pub judge-window-spec : {M : Type 1} → statement M
 judge-window-spec = tie.close (tie.spec judge-requires enum-told taken-at-requires returns returns-2)

@@ -17,14 +17,14 @@ waiting-requires c κs = search needs
 room-for-requires : tie.Need-room-for-requires
 room-for-requires c κs = search needs
 
-groups-requires : tie.Need-groups-requires
-groups-requires c κs = search needs
+unsequenced-requires : tie.Need-unsequenced-requires
+unsequenced-requires c κs = search needs
 
 judge-window-requires : tie.Need-judge-window-requires
 judge-window-requires c κs = search needs
 
-put-groups-requires : tie.Need-put-groups-requires
-put-groups-requires c κs = search needs
+put-unsequenced-requires : tie.Need-put-unsequenced-requires
+put-unsequenced-requires c κs = search needs
 
 same-length : tie.Need-same-length
 same-length c = search needs
@@ -39,9 +39,9 @@ returns c =
     let t = w .before .before in
     let f = t .before .before in
     let a = f .before .before .before .args in
-    judged-lent (a .settings) (a .group) (whole (a .words .now)) (whole (u .put-groups .last .0))
-    (f .free-slot .result) (t .standing .result) (w .waiting .result) (r .room-for .result) (g .groups .result) (j .judge-window .result)
-    (f .free-slot .ensures) (t .standing .ensures) (w .waiting .ensures) (r .room-for .ensures) (g .groups .ensures) (j .judge-window .ensures) (u .put-groups .ensures)
+    judged-lent (a .settings) (a .group) (whole (a .words .now)) (whole (u .put-unsequenced .last .0))
+    (f .free-slot .result) (t .standing .result) (w .waiting .result) (r .room-for .result) (g .unsequenced .result) (j .judge-window .result)
+    (f .free-slot .ensures) (t .standing .ensures) (w .waiting .ensures) (r .room-for .ensures) (g .unsequenced .ensures) (j .judge-window .ensures) (u .put-unsequenced .ensures)
 
 pub judge-on-spec : {M : Type 1} → statement M
 judge-on-spec =
@@ -51,8 +51,8 @@ judge-on-spec =
     standing-requires
     waiting-requires
     room-for-requires
-    groups-requires
+    unsequenced-requires
     judge-window-requires
-    put-groups-requires
+    put-unsequenced-requires
     same-length
     returns)

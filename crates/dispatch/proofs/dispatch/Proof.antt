@@ -72,7 +72,7 @@ returns-3 c =
     let h : a .channel < p .standing .channels = omega (arith, ap (λ (x : Standing). x .channels) (t .ensures), c .before .before .if1 .left) in
     subst (λ (y : Peer). Came answerOf (dispatches (a .settings) (a .channel) p) Done y) (sym (c .dispatch .ensures))
     (dispatch-done (a .settings) (a .channel) p q (o .enum-told .given .1) h (channelAt p (a .channel))
-    (dispatchedBy (p .incoming) (channelAt p (a .channel)) (p .lists) (p .groups)) refl refl)
+    (dispatchedBy (p .incoming) (channelAt p (a .channel)) (p .lists) (p .unsequenced)) refl refl)
 
 pub dispatch-spec : {M : Type 1} → statement M
 dispatch-spec =

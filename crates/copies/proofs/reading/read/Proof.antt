@@ -38,8 +38,8 @@ flow-requires c κs = search needs
 lists-requires : tie.Need-lists-requires
 lists-requires c κs = c .before .before .before .before .before .before .before .before .before .before .before .pre
 
-groups-requires : tie.Need-groups-requires
-groups-requires c κs = c .before .before .before .before .before .before .before .before .before .before .before .before .pre
+unsequenced-requires : tie.Need-unsequenced-requires
+unsequenced-requires c κs = c .before .before .before .before .before .before .before .before .before .before .before .before .pre
 
 waiting-requires : tie.Need-waiting-requires
 waiting-requires c κs = c .before .before .before .before .before .before .before .before .before .before .before .before .before .pre
@@ -83,7 +83,7 @@ returns c =
     (r .trips .result)
     (f .flow .result)
     (q .lists .result)
-    (g .groups .result)
+    (g .unsequenced .result)
     (w .waiting .result)
     (k .all-channels .result)
     (o .outgoing .result)
@@ -99,7 +99,7 @@ returns c =
     (r .trips .ensures)
     (f .flow .ensures)
     (q .lists .ensures)
-    (g .groups .ensures)
+    (g .unsequenced .ensures)
     (w .waiting .ensures)
     (k .all-channels .ensures)
     (o .outgoing .ensures)
@@ -120,7 +120,7 @@ read-spec =
     trips-requires
     flow-requires
     lists-requires
-    groups-requires
+    unsequenced-requires
     waiting-requires
     all-channels-requires
     outgoing-requires

@@ -14,8 +14,8 @@ put-numbers-requires c κs = search needs
 put-lists-requires : tie.Need-put-lists-requires
 put-lists-requires c κs = search needs
 
-put-groups-requires : tie.Need-put-groups-requires
-put-groups-requires c κs = search needs
+put-unsequenced-requires : tie.Need-put-unsequenced-requires
+put-unsequenced-requires c κs = search needs
 
 put-waiting-requires : tie.Need-put-waiting-requires
 put-waiting-requires c κs = search needs
@@ -49,7 +49,7 @@ returns c =
     (whole (f .put-fixed .last .0))
     (whole (m .put-numbers .last .0))
     (whole (l .put-lists .last .0))
-    (whole (g .put-groups .last .0))
+    (whole (g .put-unsequenced .last .0))
     (whole (w .put-waiting .last .0))
     (whole (h .put-channels .last .0))
     (whole (o .put-outgoing .last .0))
@@ -57,7 +57,7 @@ returns c =
     (f .put-fixed .ensures)
     (m .put-numbers .ensures)
     (l .put-lists .ensures)
-    (g .put-groups .ensures)
+    (g .put-unsequenced .ensures)
     (w .put-waiting .ensures)
     (h .put-channels .ensures)
     (o .put-outgoing .ensures)
@@ -70,7 +70,7 @@ write-spec =
     put-fixed-requires
     put-numbers-requires
     put-lists-requires
-    put-groups-requires
+    put-unsequenced-requires
     put-waiting-requires
     put-channels-requires
     put-outgoing-requires

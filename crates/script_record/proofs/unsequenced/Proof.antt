@@ -2,8 +2,8 @@
 use mathlib.Core.List.{[], _∷_, _++_}
 use borrow.Author.Needs.{needs}
 use Rattle.script.proofs.Laws.{told-then}
-use Rattle.script_record.proofs.groups.Statement.{statement}
-use Rattle.script_record.proofs.groups.Tie as tie
+use Rattle.script_record.proofs.unsequenced.Statement.{statement}
+use Rattle.script_record.proofs.unsequenced.Tie as tie
 
 cast-t11 : tie.Need-cast-t11
 cast-t11 c = search needs
@@ -48,8 +48,8 @@ returns c =
     told-then (a .row) (p .result) (r .result) first (g .words ++ last) (p .ensures)
     (told-then (p .result) (q .result) (r .result) (g .words) last (q .ensures) (r .ensures))
 
-pub groups-spec : {M : Type 1} → statement M
-groups-spec =
+pub unsequenced-spec : {M : Type 1} → statement M
+unsequenced-spec =
     tie.close
     (tie.spec
     cast-t11

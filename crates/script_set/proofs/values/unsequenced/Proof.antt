@@ -1,7 +1,7 @@
 -- `groups`: each number is what `short` made of it, the words what `words_at` did.
 use borrow.Author.Needs.{needs}
-use Rattle.script_set.proofs.values.groups.Statement.{statement}
-use Rattle.script_set.proofs.values.groups.Tie as tie
+use Rattle.script_set.proofs.values.unsequenced.Statement.{statement}
+use Rattle.script_set.proofs.values.unsequenced.Tie as tie
 
 short-requires : tie.Need-short-requires
 short-requires c κs = search needs
@@ -22,8 +22,8 @@ returns : tie.Need-returns
 returns c =
     (c .before .short3 .ensures, (c .short4 .ensures, (c .before .before .before .before .before .before .short .ensures, (c .before .before .before .before .short2 .ensures, c .before .before .words-at .ensures))))
 
-pub groups-spec : {M : Type 1} → statement M
-groups-spec =
+pub unsequenced-spec : {M : Type 1} → statement M
+unsequenced-spec =
     tie.close
     (tie.spec
     short-requires

@@ -3,10 +3,10 @@ use mathlib.Core.Path.{_∙_}
 use mathlib.Core.List.{[], _∷_}
 use lib.Seq.{length-sets}
 use Rattle.places.specs.Whole.{whole}
-use Rattle.places.proofs.WindowLaws.{put-groups}
+use Rattle.places.proofs.WindowLaws.{put-unsequenced}
 use borrow.Author.Needs.{needs}
-use Rattle.places.proofs.window.put_groups.Statement.{statement}
-use Rattle.places.proofs.window.put_groups.Tie as tie
+use Rattle.places.proofs.window.put_unsequenced.Statement.{statement}
+use Rattle.places.proofs.window.put_unsequenced.Tie as tie
 
 wide16-requires : tie.Need-wide16-requires
 wide16-requires c κs = search needs
@@ -52,7 +52,7 @@ returns c =
     let v = i .before in
     let f = v .before in
     let b = f .before .before .before .before .before in
-    put-groups
+    put-unsequenced
     (b .args .words .now)
     (b .pre)
     (b .args .x)
@@ -71,8 +71,8 @@ returns c =
     (whole (w .put-words .last .0))
     (w .put-words .ensures)
 
-pub put-groups-spec : {M : Type 1} → statement M
-put-groups-spec =
+pub put-unsequenced-spec : {M : Type 1} → statement M
+put-unsequenced-spec =
     tie.close
     (tie.spec
     wide16-requires

@@ -1,10 +1,10 @@
 -- The four numbers from their places, each cut to its width, and the words as they stand.
 use mathlib.Core.Path.{sym}
-use Rattle.places.proofs.GroupLaws.{groups-is}
+use Rattle.places.proofs.GroupLaws.{unsequenced-is}
 use Rattle.places.proofs.WindowLaws.{words-are}
 use borrow.Author.Needs.{needs}
-use Rattle.places.proofs.window.groups.Statement.{statement}
-use Rattle.places.proofs.window.groups.Tie as tie
+use Rattle.places.proofs.window.unsequenced.Statement.{statement}
+use Rattle.places.proofs.window.unsequenced.Tie as tie
 
 slice-aggregate-copy : tie.Need-slice-aggregate-copy
 slice-aggregate-copy c = search needs
@@ -45,7 +45,7 @@ returns c =
     let b = w .before .before .before in
     let ws = b .args .words .now in
     sym
-    (groups-is
+    (unsequenced-is
     ws
     (k .low163 .result)
     (c .low164 .result)
@@ -58,8 +58,8 @@ returns c =
     (j .low162 .ensures)
     (words-are ws (w .copy .last .0) (w .copy .ensures)))
 
-pub groups-spec : {M : Type 1} → statement M
-groups-spec =
+pub unsequenced-spec : {M : Type 1} → statement M
+unsequenced-spec =
     tie.close
     (tie.spec
     slice-aggregate-copy
