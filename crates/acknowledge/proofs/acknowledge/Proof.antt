@@ -16,6 +16,16 @@ use borrow.Author.Needs.{needs}
 use Rattle.acknowledge.proofs.acknowledge.Statement.{statement}
 use Rattle.acknowledge.proofs.acknowledge.Tie as tie
 
+-- the places before `heard-in`
+abbrev to-enum-told : tie.After-heard-in → tie.After-enum-told
+to-enum-told c = c .before .before .before .before
+
+abbrev to-ask : tie.After-heard-in → tie.After-ask
+to-ask c = to-enum-told c .before .before
+
+abbrev to-start : tie.After-heard-in → tie.Start
+to-start c = to-ask c .before .before .before
+
 ask-requires : tie.Need-ask-requires
 ask-requires c κs = search needs
 
@@ -24,8 +34,9 @@ enum-known-gate c = search needs
 
 returns : tie.Need-returns
 returns c =
-    let k = c .before .before .before .ask in
-    let a = c .before .before .before .before .before .before .args in
+    let at-ask = c .before .before .before in
+    let k = at-ask .ask in
+    let a = at-ask .before .before .before .args in
     let p = whole (a .words .now) in
     let q : AtGate (a .settings) Nothing p = record { gate = k .result; is = k .ensures } in
     let s = c .before .gate .given in
@@ -48,13 +59,14 @@ enum-told-2 c = search needs
 
 returns-2 : tie.Need-returns-2
 returns-2 c =
-    let k = c .before .before .before .before .before .before .before .before .ask in
-    let a = c .before .before .before .before .before .before .before .before .before .before .before .args in
+    let at-heard-in = c .before .before in
+    let k = to-ask at-heard-in .ask in
+    let a = to-start at-heard-in .args in
     let p = whole (a .words .now) in
     let q : AtGate (a .settings) Nothing p = record { gate = k .result; is = k .ensures } in
-    let s = c .before .before .before .standing in
-    let t = c .before .before .heard-in in
-    passed-over (a .settings) (a .channel) (a .number .0) (a .sent) (a .clock) p q (c .before .before .before .before .before .before .enum-told .given .1)
+    let s = at-heard-in .before .standing in
+    let t = at-heard-in .heard-in in
+    passed-over (a .settings) (a .channel) (a .number .0) (a .sent) (a .clock) p q (to-enum-told at-heard-in .enum-told .given .1)
     (t .result) (trip-is p (s .result) (s .ensures) (a .clock) (a .sent) (t .result) (t .ensures)) (c .enum-told2 .given .1)
 
 heard-requires : tie.Need-heard-requires
@@ -62,16 +74,18 @@ heard-requires c κs = search needs
 
 returns-3 : tie.Need-returns-3
 returns-3 c =
-    let k = c .before .before .before .before .before .before .before .before .before .before .before .ask in
-    let a = c .before .before .before .before .before .before .before .before .before .before .before .before .before .before .args in
+    let at-trip = c .before .before .before in
+    let at-heard-in = at-trip .before .before in
+    let k = to-ask at-heard-in .ask in
+    let a = to-start at-heard-in .args in
     let p = whole (a .words .now) in
     let q : AtGate (a .settings) Nothing p = record { gate = k .result; is = k .ensures } in
-    let s = c .before .before .before .before .before .before .standing in
-    let t = c .before .before .before .before .before .heard-in in
-    let z = c .before .before .before .trip .given in
+    let s = at-heard-in .before .standing in
+    let t = at-heard-in .heard-in in
+    let z = at-trip .trip .given in
     let sent = lookOf true (a .number .0) (a .channel) in
     let queued = lookOf false (a .number .0) (a .channel) in
-    heard-by (a .settings) (a .channel) (a .number .0) (a .sent) (a .clock) p q (c .before .before .before .before .before .before .before .before .before .enum-told .given .1)
+    heard-by (a .settings) (a .channel) (a .number .0) (a .sent) (a .clock) p q (to-enum-told at-heard-in .enum-told .given .1)
     (t .result) (trip-is p (s .result) (s .ensures) (a .clock) (a .sent) (t .result) (t .ensures)) (z .0 .0) (z .1) (map sent (p .outgoing))
     (map queued (p .outgoing)) (length-map (p .outgoing) sent ∙ pool-size (a .words .now)) (spotIn (p .outgoing) (a .number .0) (a .channel) (p .lists)) refl refl refl
     (c .heard .result) (whole (c .heard .last .0)) (c .heard .ensures)

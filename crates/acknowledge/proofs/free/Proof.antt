@@ -31,14 +31,18 @@ same-length c = search needs
 
 returns : tie.Need-returns
 returns c =
-    let a = c .before .before .before .before .before .before .before .before .before .before .before .before .before .before .before .before .args in
+    let at-leave = c .before .before .before .before in
+    let at-put-flow = at-leave .before .before .before .before in
+    let at-flow = at-put-flow .before .before .before in
+    let at-held = at-flow .before .before in
+    let a = at-held .before .before .before .args in
     let p = whole (a .words .now) in
-    let o = c .before .before .before .before .before .before .before .before .before .before .before .before .before .held in
+    let o = at-held .held in
     let b = c .before .is-some in
-    let f = c .before .before .before .before .before .before .before .before .before .before .before .flow in
-    let n = c .before .before .before .before .before .before .before .before .before .before .flow-without in
-    let v = c .before .before .before .before .before .before .before .before .put-flow in
-    let y = c .before .before .before .before .leave in (
+    let f = at-flow .flow in
+    let n = at-put-flow .before .before .flow-without in
+    let v = at-put-flow .put-flow in
+    let y = at-leave .leave in (
       number-is p (a .spot) (a .slot) (o .result) (o .ensures) (b .result) (c .command-at .result) (b .ensures) (c .command-at .ensures),
       freed-is p (a .spot) (a .slot) (o .result) (o .ensures) (whole (v .last .0)) (whole (y .last .0)) (f .result) (n .result) (f .ensures) (n .ensures)
           (v .ensures) (y .ensures),

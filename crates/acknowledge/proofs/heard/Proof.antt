@@ -31,13 +31,18 @@ same-length c = search needs
 
 returns : tie.Need-returns
 returns c =
-    let a = c .before .before .before .before .before .before .before .before .before .before .before .before .before .before .before .before .before .before .before .before .args in
-    let m = c .before .before .before .before .before .before .before .before .before .before .before .before .before .before .before .before .before .measure in
-    let w = c .before .before .before .before .before .before .before .before .before .before .before .before .before .spot-in in
-    let s = c .before .before .before .before .before .before .before .before .before .before .before .slot-at in
-    let f = c .before .before .before .before .before .before .before .before .before .free in
-    let r = c .before .before .before .before .before .is-some in
-    let t = c .before .before .before .before .time in
+    let at-time = c .before .before .before .before in
+    let at-free = at-time .before .before .before .before .before in
+    let at-slot-at = at-free .before .before in
+    let at-spot-in = at-slot-at .before .before in
+    let at-measure = at-spot-in .before .before .before .before in
+    let a = at-measure .before .before .before .args in
+    let m = at-measure .measure in
+    let w = at-spot-in .spot-in in
+    let s = at-slot-at .slot-at in
+    let f = at-free .free in
+    let r = at-time .before .is-some in
+    let t = at-time .time in
     heard-is (a .sample) (a .channel) (a .number .0) (a .clock) (whole (a .words .now)) (whole (m .last .0)) (whole (f .last .0)) (whole (t .last .0)) (w .result)
     (s .result) (f .result) (r .result) (c .event-in .result) (m .ensures) (w .ensures) (s .ensures) (f .ensures .0) (f .ensures .1) (r .ensures) (t .ensures)
     (c .event-in .ensures)

@@ -20,9 +20,10 @@ count-requires-2 c κs = search needs
 
 returns-2 : tie.Need-returns-2
 returns-2 c =
+    let at-count = c .before .before .before in
     let m = c .before .count2 in
-    let n = c .before .before .before .count in
-    let l = whole (c .before .before .before .before .before .args .words .now) .lists in
+    let n = at-count .count in
+    let l = whole (at-count .before .before .args .words .now) .lists in
     some-second (outItems (l .sent)) (outItems (l .«send_reliable»)) (outItems (l .outgoing)) (n .result) (n .ensures) (c .before .before .if1 .left) (m .result) (m .ensures) (c .if2 .taken)
 
 count-requires-3 : tie.Need-count-requires-3
@@ -30,10 +31,11 @@ count-requires-3 c κs = search needs
 
 returns-3 : tie.Need-returns-3
 returns-3 c =
+    let at-if1 = c .before .before .before in
     let m = c .before .before .count2 in
-    let n = c .before .before .before .before .count in
-    let l = whole (c .before .before .before .before .before .before .args .words .now) .lists in
-    by-third (outItems (l .sent)) (outItems (l .«send_reliable»)) (outItems (l .outgoing)) (n .result) (n .ensures) (c .before .before .before .if1 .left) (m .result) (m .ensures) (c .before .if2 .left)
+    let n = at-if1 .before .count in
+    let l = whole (at-if1 .before .before .before .args .words .now) .lists in
+    by-third (outItems (l .sent)) (outItems (l .«send_reliable»)) (outItems (l .outgoing)) (n .result) (n .ensures) (at-if1 .if1 .left) (m .result) (m .ensures) (c .before .if2 .left)
     (c .count3 .result) (c .count3 .ensures)
 
 pub is-empty-spec : {M : Type 1} → statement M

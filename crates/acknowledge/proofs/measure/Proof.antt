@@ -28,13 +28,19 @@ same-length c = search needs
 
 returns : tie.Need-returns
 returns c =
-    let a = c .before .before .before .before .before .before .before .before .before .before .before .before .before .before .before .before .before .args in
-    let t = c .before .before .before .before .before .before .before .before .before .before .before .before .before .before .times in
-    let h = c .before .before .before .before .before .before .before .before .before .before .before .before .throttling in
-    let r = c .before .before .before .before .before .before .before .before .before .before .trips in
-    let m = c .before .before .before .before .before .before .before .before .measure in
-    let v = c .before .before .before .before .before .before .put-throttling in
-    let y = c .before .before .put-trips in
+    let at-put-trips = c .before .before in
+    let at-put-throttling = at-put-trips .before .before .before .before in
+    let at-measure = at-put-throttling .before .before in
+    let at-trips = at-measure .before .before in
+    let at-throttling = at-trips .before .before in
+    let at-times = at-throttling .before .before in
+    let a = at-times .before .before .before .args in
+    let t = at-times .times in
+    let h = at-throttling .throttling in
+    let r = at-trips .trips in
+    let m = at-measure .measure in
+    let v = at-put-throttling .put-throttling in
+    let y = at-put-trips .put-trips in
     measured-is (whole (a .words .now)) (a .sample) (a .clock) (whole (v .last .0)) (whole (y .last .0)) (t .result) (h .result) (r .result) (m .result)
     (t .ensures) (h .ensures) (r .ensures) (m .ensures) (v .ensures) (y .ensures)
 

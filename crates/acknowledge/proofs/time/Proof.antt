@@ -31,14 +31,18 @@ same-length c = search needs
 
 returns : tie.Need-returns
 returns c =
-    let a = c .before .before .before .before .before .before .before .before .before .before .before .before .before .before .args in
-    let f = c .before .before .before .before .before .before .before .before .before .before .before .head in
-    let h = c .before .before .before .before .before .before .before .before .before .held in
-    let l = c .before .before .before .before .before .before .before .before .is-some in
-    let t = c .before .before .before .before .before .before .times in
-    let r = c .before .before .before .before .before .received in
-    let n = c .before .before .before .before .times-without in
-    let y = c .before .before .put-times in
+    let at-put-times = c .before .before in
+    let at-received = at-put-times .before .before .before in
+    let at-is-some = at-received .before .before .before in
+    let at-head = at-is-some .before .before .before in
+    let a = at-head .before .before .before .args in
+    let f = at-head .head in
+    let h = at-is-some .before .held in
+    let l = at-is-some .is-some in
+    let t = at-received .before .times in
+    let r = at-received .received in
+    let n = at-put-times .before .before .times-without in
+    let y = at-put-times .put-times in
     timed-is (whole (a .words .now)) (a .removed) (a .clock) (whole (y .last .0)) (f .result) (h .result) (l .result) (t .result) (r .result) (n .result)
     (f .ensures) (h .ensures) (l .ensures) (t .ensures) (r .ensures) (n .ensures) (y .ensures)
 

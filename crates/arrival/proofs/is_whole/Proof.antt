@@ -20,7 +20,9 @@ add-result : tie.Need-add-result
 add-result c = search needs
 
 returns-3 : tie.Need-returns-3
-returns-3 c = rw (le-leb _ _ (c .before .before .before .before .if1 .left), le-leb _ _ (c .before .before .if2 .left))
+returns-3 c =
+    let at-if2 = c .before .before in
+    rw (le-leb _ _ (at-if2 .before .before .if1 .left), le-leb _ _ (at-if2 .if2 .left))
 
 pub is-whole-spec : {M : Type 1} → statement M
 is-whole-spec =

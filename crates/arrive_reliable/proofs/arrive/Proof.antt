@@ -5,6 +5,42 @@ use Rattle.arrive_reliable.proofs.Placed.{lent-shut, lent-refused, lent
 use Rattle.arrive_reliable.proofs.arrive.Statement.{statement}
 use Rattle.arrive_reliable.proofs.arrive.Tie as tie
 
+-- the places before `ask`
+abbrev to-start : tie.After-ask → tie.Start
+to-start c = c .before .before .before .before .before
+
+-- the places before `fate-on-arg2`
+abbrev to-enum-told2 : tie.After-fate-on-arg2 → tie.After-enum-told2
+to-enum-told2 c = c .before .before
+
+abbrev to-arrival-gate : tie.After-fate-on-arg2 → tie.After-arrival-gate
+to-arrival-gate c = to-enum-told2 c .before .before
+
+abbrev to-standing : tie.After-fate-on-arg2 → tie.After-standing
+to-standing c = to-arrival-gate c .before
+
+abbrev to-enum-told : tie.After-fate-on-arg2 → tie.After-enum-told
+to-enum-told c = to-standing c .before .before .before
+
+abbrev to-ask : tie.After-fate-on-arg2 → tie.After-ask
+to-ask c = to-enum-told c .before .before
+
+-- the places before `struct-known`
+abbrev to-keep : tie.After-struct-known → tie.After-keep
+to-keep c = c .before .before .before .before .before .before
+
+abbrev to-waiting : tie.After-struct-known → tie.After-waiting
+to-waiting c = to-keep c .before .before
+
+abbrev to-fate : tie.After-struct-known → tie.After-fate
+to-fate c = to-waiting c .before .before .before .before
+
+abbrev to-fate-on : tie.After-struct-known → tie.After-fate-on
+to-fate-on c = to-fate c .before .before
+
+abbrev to-fate-on-arg2 : tie.After-struct-known → tie.After-fate-on-arg2
+to-fate-on-arg2 c = to-fate-on c .before
+
 ask-requires : tie.Need-ask-requires
 ask-requires c κs = search needs
 
@@ -13,8 +49,9 @@ enum-known-asked c = search needs
 
 returns : tie.Need-returns
 returns c =
-    let k = c .before .before .before .ask in
-    let a = c .before .before .before .before .before .before .before .before .args in
+    let at-ask = c .before .before .before in
+    let k = at-ask .ask in
+    let a = to-start at-ask .args in
     let x = c .before .asked .given in
     lent-shut (a .settings) (a .a) (a .datagram .now) (whole (a .words .now)) (a .store .now) (record { gate = k .result; is = k .ensures }) (x .0 .0) (x .1)
 
@@ -32,11 +69,14 @@ enum-known-may c = search needs
 
 returns-2 : tie.Need-returns-2
 returns-2 c =
-    let m = c .before .before .before .arrival-gate in
-    let t = c .before .before .before .before .standing in
-    let o = c .before .before .before .before .before .before .before .enum-told .given .1 in
-    let k = c .before .before .before .before .before .before .before .before .before .ask in
-    let a = c .before .before .before .before .before .before .before .before .before .before .before .before .before .before .args in
+    let at-arrival-gate = c .before .before .before in
+    let at-enum-told = at-arrival-gate .before .before .before .before in
+    let at-ask = at-enum-told .before .before in
+    let m = at-arrival-gate .arrival-gate in
+    let t = at-arrival-gate .before .standing in
+    let o = at-enum-told .enum-told .given .1 in
+    let k = at-ask .ask in
+    let a = to-start at-ask .args in
     let x = c .before .may .given in
     lent-refused (a .settings) (a .a) (a .datagram .now) (whole (a .words .now)) (a .store .now) (record { gate = k .result; is = k .ensures }) o (t .result) (t .ensures) (m .result) (m .ensures) (x .0 .0) (x .1)
 
@@ -45,12 +85,13 @@ enum-told-2 c = search needs
 
 fate-on-requires : tie.Need-fate-on-requires
 fate-on-requires c κs =
-    let y = c .before .before .enum-told2 .given .1 in
-    let m = c .before .before .before .before .arrival-gate in
-    let t = c .before .before .before .before .before .standing in
-    let o = c .before .before .before .before .before .before .before .before .enum-told .given .1 in
-    let k = c .before .before .before .before .before .before .before .before .before .before .ask in
-    let a = c .before .before .before .before .before .before .before .before .before .before .before .before .before .before .before .args in
+    let at-ask = to-ask c in
+    let y = to-enum-told2 c .enum-told2 .given .1 in
+    let m = to-arrival-gate c .arrival-gate in
+    let t = to-standing c .standing in
+    let o = to-enum-told c .enum-told .given .1 in
+    let k = to-ask c .ask in
+    let a = to-start at-ask .args in
     (search needs, lent-channel (a .settings) (a .a) (a .datagram .now) (whole (a .words .now)) (a .store .now) (record { gate = k .result; is = k .ensures }) o (t .result) (t .ensures) (m .result) (m .ensures) y)
 
 enum-known-fate : tie.Need-enum-known-fate
@@ -61,13 +102,16 @@ reply-of-requires c κs = search needs
 
 returns-3 : tie.Need-returns-3
 returns-3 c =
-    let f = c .before .before .fate-on in
-    let y = c .before .before .before .before .before .enum-told2 .given .1 in
-    let m = c .before .before .before .before .before .before .before .arrival-gate in
-    let t = c .before .before .before .before .before .before .before .before .standing in
-    let o = c .before .before .before .before .before .before .before .before .before .before .before .enum-told .given .1 in
-    let k = c .before .before .before .before .before .before .before .before .before .before .before .before .before .ask in
-    let a = c .before .before .before .before .before .before .before .before .before .before .before .before .before .before .before .before .before .before .args in
+    let at-fate-on = c .before .before in
+    let at-fate-on-arg2 = at-fate-on .before in
+    let at-ask = to-ask at-fate-on-arg2 in
+    let f = at-fate-on .fate-on in
+    let y = to-enum-told2 at-fate-on-arg2 .enum-told2 .given .1 in
+    let m = to-arrival-gate at-fate-on-arg2 .arrival-gate in
+    let t = to-standing at-fate-on-arg2 .standing in
+    let o = to-enum-told at-fate-on-arg2 .enum-told .given .1 in
+    let k = to-ask at-fate-on-arg2 .ask in
+    let a = to-start at-ask .args in
     lent-left (a .settings) (a .a) (a .datagram .now) (whole (a .words .now)) (a .store .now) (record { gate = k .result; is = k .ensures }) o (t .result) (t .ensures) (m .result) (m .ensures) y (f .result) (f .ensures) (c .before .match3 .keys2)
     (c .reply-of .result) (c .reply-of .ensures)
 
@@ -82,12 +126,14 @@ cast-settle c = search needs
 
 settle-requires : tie.Need-settle-requires
 settle-requires c κs =
-    let y = c .before .before .before .before .before .before .before .before .before .before .before .before .before .before .before .before .before .enum-told2 .given .1 in
-    let m = c .before .before .before .before .before .before .before .before .before .before .before .before .before .before .before .before .before .before .before .arrival-gate in
-    let t = c .before .before .before .before .before .before .before .before .before .before .before .before .before .before .before .before .before .before .before .before .standing in
-    let o = c .before .before .before .before .before .before .before .before .before .before .before .before .before .before .before .before .before .before .before .before .before .before .before .enum-told .given .1 in
-    let k = c .before .before .before .before .before .before .before .before .before .before .before .before .before .before .before .before .before .before .before .before .before .before .before .before .before .ask in
-    let a = c .before .before .before .before .before .before .before .before .before .before .before .before .before .before .before .before .before .before .before .before .before .before .before .before .before .before .before .before .before .before .args in
+    let at-fate-on-arg2 = to-fate-on-arg2 c in
+    let at-ask = to-ask at-fate-on-arg2 in
+    let y = to-enum-told2 at-fate-on-arg2 .enum-told2 .given .1 in
+    let m = to-arrival-gate at-fate-on-arg2 .arrival-gate in
+    let t = to-standing at-fate-on-arg2 .standing in
+    let o = to-enum-told at-fate-on-arg2 .enum-told .given .1 in
+    let k = to-ask at-fate-on-arg2 .ask in
+    let a = to-start at-ask .args in
     (search needs, lent-channel (a .settings) (a .a) (a .datagram .now) (whole (a .words .now)) (a .store .now) (record { gate = k .result; is = k .ensures }) o (t .result) (t .ensures) (m .result) (m .ensures) y)
 
 same-length : tie.Need-same-length
@@ -95,16 +141,19 @@ same-length c = search needs
 
 returns-4 : tie.Need-returns-4
 returns-4 c =
-    let f = c .before .before .before .before .before .before .before .before .before .before .before .before .before .before .before .fate-on in
-    let y = c .before .before .before .before .before .before .before .before .before .before .before .before .before .before .before .before .before .before .enum-told2 .given .1 in
-    let m = c .before .before .before .before .before .before .before .before .before .before .before .before .before .before .before .before .before .before .before .before .arrival-gate in
-    let t = c .before .before .before .before .before .before .before .before .before .before .before .before .before .before .before .before .before .before .before .before .before .standing in
-    let o = c .before .before .before .before .before .before .before .before .before .before .before .before .before .before .before .before .before .before .before .before .before .before .before .before .enum-told .given .1 in
-    let k = c .before .before .before .before .before .before .before .before .before .before .before .before .before .before .before .before .before .before .before .before .before .before .before .before .before .before .ask in
-    let a = c .before .before .before .before .before .before .before .before .before .before .before .before .before .before .before .before .before .before .before .before .before .before .before .before .before .before .before .before .before .before .before .args in
-    let n = c .before .before .before .before .before .before .before .before .before .before .before .before .before .fate .given in
-    let w = c .before .before .before .before .before .before .before .before .before .waiting in
-    let z = c .before .before .before .before .before .before .before .keep in
+    let at-struct-known = c .before in
+    let at-fate-on-arg2 = to-fate-on-arg2 at-struct-known in
+    let at-ask = to-ask at-fate-on-arg2 in
+    let f = to-fate-on at-struct-known .fate-on in
+    let y = to-enum-told2 at-fate-on-arg2 .enum-told2 .given .1 in
+    let m = to-arrival-gate at-fate-on-arg2 .arrival-gate in
+    let t = to-standing at-fate-on-arg2 .standing in
+    let o = to-enum-told at-fate-on-arg2 .enum-told .given .1 in
+    let k = to-ask at-fate-on-arg2 .ask in
+    let a = to-start at-ask .args in
+    let n = to-fate at-struct-known .fate .given in
+    let w = to-waiting at-struct-known .waiting in
+    let z = to-keep at-struct-known .keep in
     lent-stored (a .settings) (a .a) (a .datagram .now) (whole (a .words .now)) (a .store .now) (record { gate = k .result; is = k .ensures }) o (t .result) (t .ensures) (m .result) (m .ensures) y (f .result) (f .ensures) (n .0 .0) (n .1)
     (z .result .slot) (w .result) (z .result .waiting) (z .last .0) (whole (c .settle .last .0)) (z .ensures .0) (w .ensures) (z .ensures .1 .0) (z .ensures .1 .1) (c .settle .ensures)
 

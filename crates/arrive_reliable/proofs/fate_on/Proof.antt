@@ -28,12 +28,14 @@ fate-of-requires c κs = search needs
 
 returns : tie.Need-returns
 returns c =
-    let r = c .before .before .before .room-for in
-    let f = c .before .before .before .before .free-slot in
-    let w = c .before .before .before .before .before .waiting in
-    let t = c .before .before .before .before .before .before .standing in
+    let at-room-for = c .before .before .before in
+    let at-standing = at-room-for .before .before .before in
+    let r = at-room-for .room-for in
+    let f = at-room-for .before .free-slot in
+    let w = at-room-for .before .before .waiting in
+    let t = at-standing .standing in
     let k = c .before .is-passed in
-    let a = c .before .before .before .before .before .before .before .before .args in
+    let a = at-standing .before .before .args in
     fate-read (a .settings) (a .a) (whole (a .words .now)) (t .result) (w .result) (f .result) (r .result) (k .result) (c .fate-of .result) (t .ensures) (w .ensures) (f .ensures) (r .ensures)
     (k .ensures) (c .fate-of .ensures)
 

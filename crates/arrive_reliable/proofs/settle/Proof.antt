@@ -24,11 +24,15 @@ same-length c = search needs
 
 returns : tie.Need-returns
 returns c =
-    let d = c .before .before .dispatch in
-    let w = c .before .before .before .before .before .before .put-waiting in
-    let i = c .before .before .before .before .before .before .before .before .before .before .put-incoming in
-    let h = c .before .before .before .before .before .before .before .before .before .before .before .before .before .before .hold in
-    let b = c .before .before .before .before .before .before .before .before .before .before .before .before .before .before .before .before .before in
+    let at-dispatch = c .before .before in
+    let at-put-waiting = at-dispatch .before .before .before .before in
+    let at-put-incoming = at-put-waiting .before .before .before .before in
+    let at-hold = at-put-incoming .before .before .before .before in
+    let d = at-dispatch .dispatch in
+    let w = at-put-waiting .put-waiting in
+    let i = at-put-incoming .put-incoming in
+    let h = at-hold .hold in
+    let b = at-hold .before .before .before in
     let a = b .args in
     let ws = a .words .now in
     settled (whole ws) (whole (h .last .0)) (whole (i .last .0)) (whole (w .last .0)) (whole (d .last .0)) (a .i) (a .number .0) (a .s) (a .slot) (a .waiting)

@@ -9,6 +9,17 @@ use Rattle.arrive_unsequenced.proofs.Placed.{lent-refused, lent-left, l
 use Rattle.arrive_unsequenced.proofs.arrive.Statement.{statement}
 use Rattle.arrive_unsequenced.proofs.arrive.Tie as tie
 
+-- the places before `ask`
+abbrev to-start : tie.After-ask → tie.Start
+to-start c = c .before .before .before .before .before
+
+-- the places before `judge-on`
+abbrev to-enum-told : tie.After-judge-on → tie.After-enum-told
+to-enum-told c = c .before .before .before .before .before .before .before .before
+
+abbrev to-ask : tie.After-judge-on → tie.After-ask
+to-ask c = to-enum-told c .before .before
+
 ask-requires : tie.Need-ask-requires
 ask-requires c κs = search needs
 
@@ -17,11 +28,11 @@ enum-known-asked c = search needs
 
 returns : tie.Need-returns
 returns c =
-    let g = c .before .before .before in
-    let b = g .before .before .before .before .before in
+    let at-ask = c .before .before .before in
+    let b = to-start at-ask in
     let a = b .args in
     let p = whole (a .words .now) in
-    let q : AtGate (a .settings) (Store (length (a .store .now))) p = record { gate = g .ask .result; is = g .ask .ensures } in
+    let q : AtGate (a .settings) (Store (length (a .store .now))) p = record { gate = at-ask .ask .result; is = at-ask .ask .ensures } in
     let k = c .before .asked .given in
     arrive-shut (a .settings) (a .a) (a .group) (a .datagram .now) p (a .store .now) q (k .0 .0) (k .1)
 
@@ -39,17 +50,18 @@ enum-known-may c = search needs
 
 returns-2 : tie.Need-returns-2
 returns-2 c =
-    let m = c .before .before .before in
-    let t = m .before in
-    let o = t .before .before .before in
-    let g = o .before .before in
-    let b = g .before .before .before .before .before in
+    let at-arrival-gate = c .before .before .before in
+    let at-enum-told = at-arrival-gate .before .before .before .before in
+    let at-ask = at-enum-told .before .before in
+    let t = at-arrival-gate .before in
+    let g = at-enum-told .before .before in
+    let b = to-start at-ask in
     let a = b .args in
     let p = whole (a .words .now) in
     let q : AtGate (a .settings) (Store (length (a .store .now))) p = record { gate = g .ask .result; is = g .ask .ensures } in
     let k = c .before .may .given in
-    lent-refused (a .settings) (a .a) (a .group) (a .datagram .now) p (a .store .now) q (o .enum-told .given .1)
-    (t .standing .result) (t .standing .ensures) (m .arrival-gate .result) (m .arrival-gate .ensures) (k .0 .0) (k .1)
+    lent-refused (a .settings) (a .a) (a .group) (a .datagram .now) p (a .store .now) q (at-enum-told .enum-told .given .1)
+    (t .standing .result) (t .standing .ensures) (at-arrival-gate .arrival-gate .result) (at-arrival-gate .arrival-gate .ensures) (k .0 .0) (k .1)
 
 enum-told-2 : tie.Need-enum-told-2
 enum-told-2 c = search needs
@@ -65,19 +77,20 @@ reply-of-requires c κs = search needs
 
 returns-3 : tie.Need-returns-3
 returns-3 c =
-    let j = c .before .before in
-    let n = j .before .before in
+    let at-judge-on = c .before .before in
+    let at-ask = to-ask at-judge-on in
+    let n = at-judge-on .before .before in
     let m = n .before .before in
     let t = m .before in
-    let o = t .before .before .before in
+    let o = to-enum-told at-judge-on in
     let g = o .before .before in
-    let b = g .before .before .before .before .before in
+    let b = to-start at-ask in
     let a = b .args in
     let p = whole (a .words .now) in
     let q : AtGate (a .settings) (Store (length (a .store .now))) p = record { gate = g .ask .result; is = g .ask .ensures } in
     lent-left (a .settings) (a .a) (a .group) (a .datagram .now) p (a .store .now) q (o .enum-told .given .1)
     (t .standing .result) (t .standing .ensures) (m .arrival-gate .result) (m .arrival-gate .ensures) (n .enum-told2 .given .1)
-    (j .judge-on .result) (whole (j .judge-on .last .0)) (j .judge-on .ensures .0) (j .judge-on .ensures .1) (c .before .match3 .keys2) (c .reply-of .result) (c .reply-of .ensures)
+    (at-judge-on .judge-on .result) (whole (at-judge-on .judge-on .last .0)) (at-judge-on .judge-on .ensures .0) (at-judge-on .judge-on .ensures .1) (c .before .match3 .keys2) (c .reply-of .result) (c .reply-of .ensures)
 
 deliver-requires : tie.Need-deliver-requires
 deliver-requires c κs = search needs
@@ -87,22 +100,24 @@ same-length c = search needs
 
 returns-4 : tie.Need-returns-4
 returns-4 c =
-    let d = c .before .before in
-    let f = d .before .before .before .before in
-    let j = f .before .before in
+    let at-deliver = c .before .before in
+    let at-fate = at-deliver .before .before .before .before in
+    let at-judge-on = at-fate .before .before in
+    let at-ask = to-ask at-judge-on in
+    let j = at-fate .before .before in
     let n = j .before .before in
     let m = n .before .before in
     let t = m .before in
-    let o = t .before .before .before in
+    let o = to-enum-told at-judge-on in
     let g = o .before .before in
-    let b = g .before .before .before .before .before in
+    let b = to-start at-ask in
     let a = b .args in
     let p = whole (a .words .now) in
     let q : AtGate (a .settings) (Store (length (a .store .now))) p = record { gate = g .ask .result; is = g .ask .ensures } in
     lent-stored (a .settings) (a .a) (a .group) (a .datagram .now) p (a .store .now) q (o .enum-told .given .1)
     (t .standing .result) (t .standing .ensures) (m .arrival-gate .result) (m .arrival-gate .ensures) (n .enum-told2 .given .1)
-    (j .judge-on .result) (whole (j .judge-on .last .0)) (j .judge-on .ensures .0) (j .judge-on .ensures .1) (f .fate .given .0 .0) (f .fate .given .1)
-    (whole (d .deliver .last .0)) (d .deliver .last .1 .0) (d .deliver .ensures .0) (d .deliver .ensures .1)
+    (j .judge-on .result) (whole (j .judge-on .last .0)) (j .judge-on .ensures .0) (j .judge-on .ensures .1) (at-fate .fate .given .0 .0) (at-fate .fate .given .1)
+    (whole (at-deliver .deliver .last .0)) (at-deliver .deliver .last .1 .0) (at-deliver .deliver .ensures .0) (at-deliver .deliver .ensures .1)
 
 pub arrive-spec : {M : Type 1} → statement M
 arrive-spec =

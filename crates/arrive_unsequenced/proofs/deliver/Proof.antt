@@ -28,16 +28,17 @@ same-length-2 c = search needs
 
 returns : tie.Need-returns
 returns c =
-    let z = c .before .before in
-    let v = z .before .before .before .before in
-    let u = v .before .before .before .before in
-    let k = u .before .before .before .before .before .before in
-    let w = k .before .before in
-    let a = w .before .before .before .before .before .args in (
-      delivered-lent (whole (a .words .now)) (whole (u .push .last .0)) (whole (v .put-incoming .last .0)) (whole (z .put-waiting .last .0)) (a .a) (a .s)
-          (w .waiting .result) (k .keep .result .waiting) (k .keep .result .slot)
-          (w .waiting .ensures) (k .keep .ensures .0) (k .keep .ensures .1 .0) (u .push .ensures) (v .put-incoming .ensures) (z .put-waiting .ensures),
-      k .keep .ensures .1 .1,
+    let at-put-waiting = c .before .before in
+    let at-put-incoming = at-put-waiting .before .before .before .before in
+    let at-push = at-put-incoming .before .before .before .before in
+    let at-keep = at-push .before .before .before .before .before .before in
+    let at-start = at-keep .before .before .before .before .before .before .before in
+    let w = at-keep .before .before in
+    let a = at-start .args in (
+      delivered-lent (whole (a .words .now)) (whole (at-push .push .last .0)) (whole (at-put-incoming .put-incoming .last .0)) (whole (at-put-waiting .put-waiting .last .0)) (a .a) (a .s)
+          (w .waiting .result) (at-keep .keep .result .waiting) (at-keep .keep .result .slot)
+          (w .waiting .ensures) (at-keep .keep .ensures .0) (at-keep .keep .ensures .1 .0) (at-push .push .ensures) (at-put-incoming .put-incoming .ensures) (at-put-waiting .put-waiting .ensures),
+      at-keep .keep .ensures .1 .1,
     )
 
 pub deliver-spec : {M : Type 1} → statement M

@@ -31,17 +31,18 @@ same-length c = search needs
 
 returns : tie.Need-returns
 returns c =
-    let u = c .before .before in
-    let j = u .before .before .before in
-    let g = j .before in
+    let at-put-groups = c .before .before in
+    let at-judge-window = at-put-groups .before .before .before in
+    let at-start = at-judge-window .before .before .before .before .before .before .before .before .before .before .before in
+    let g = at-judge-window .before in
     let r = g .before .before in
     let w = r .before in
     let t = w .before .before in
     let f = t .before .before in
-    let a = f .before .before .before .args in
-    judged-lent (a .settings) (a .group) (whole (a .words .now)) (whole (u .put-unsequenced .last .0))
-    (f .free-slot .result) (t .standing .result) (w .waiting .result) (r .room-for .result) (g .unsequenced .result) (j .judge-window .result)
-    (f .free-slot .ensures) (t .standing .ensures) (w .waiting .ensures) (r .room-for .ensures) (g .unsequenced .ensures) (j .judge-window .ensures) (u .put-unsequenced .ensures)
+    let a = at-start .args in
+    judged-lent (a .settings) (a .group) (whole (a .words .now)) (whole (at-put-groups .put-unsequenced .last .0))
+    (f .free-slot .result) (t .standing .result) (w .waiting .result) (r .room-for .result) (g .unsequenced .result) (at-judge-window .judge-window .result)
+    (f .free-slot .ensures) (t .standing .ensures) (w .waiting .ensures) (r .room-for .ensures) (g .unsequenced .ensures) (at-judge-window .judge-window .ensures) (at-put-groups .put-unsequenced .ensures)
 
 pub judge-on-spec : {M : Type 1} → statement M
 judge-on-spec =

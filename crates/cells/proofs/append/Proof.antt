@@ -20,8 +20,9 @@ sub-if1 c = search needs
 
 returns : tie.Need-returns
 returns c =
-    let a = c .before .before .before .before .before .before .args in
-    let m = c .before .before .before .least in
+    let at-least = c .before .before .before in
+    let a = at-least .before .before .before .args in
+    let m = at-least .least in
     let p = c .before .before .least2 in
     let h = c .before .least3 in
     rw (clip (a .cells .now) (a .n) (m .result) (m .ensures), clip-take (a .run .now) (a .p) (p .result) (p .ensures) (a .k) (h .result) (h .ensures))
@@ -38,11 +39,14 @@ same-length c = search needs
 
 returns-2 : tie.Need-returns-2
 returns-2 c =
-    let a = c .before .before .before .before .before .before .before .before .before .before .args in
-    let m = c .before .before .before .before .before .before .before .least in
-    let p = c .before .before .before .before .before .before .least2 in
-    let h = c .before .before .before .before .before .least3 in
-    let laid = c .before .before .lay in
+    let at-lay = c .before .before in
+    let at-least3 = at-lay .before .before .before in
+    let at-least = at-least3 .before .before in
+    let a = at-least .before .before .before .args in
+    let m = at-least .least in
+    let p = at-least3 .before .least2 in
+    let h = at-least3 .least3 in
+    let laid = at-lay .lay in
     rw (clip (a .cells .now) (a .n) (m .result) (m .ensures), clip-take (a .run .now) (a .p) (p .result) (p .ensures) (a .k) (h .result) (h .ensures))
     (append-room (a .cells .now) (m .result) (omega arith)
     (a .run .now) (laid .last .0) (h .result) (omega arith) (omega arith) (laid .ensures))

@@ -23,10 +23,12 @@ same-length c = search needs
 
 returns : tie.Need-returns
 returns c =
-    let a = c .before .before .before .before .before .before .before .args in
-    let m = c .before .before .before .before .before .least in
-    let h = c .before .before .before .before .least2 in
-    let down = c .before .before .lower in
+    let at-lower = c .before .before in
+    let at-least = at-lower .before .before .before in
+    let a = at-least .before .before .args in
+    let m = at-least .least in
+    let h = at-lower .before .before .least2 in
+    let down = at-lower .lower in
     rw (clip-drop (a .cells .now) (a .n) (m .result) (m .ensures) (a .k) (h .result) (h .ensures))
     (cut-makes (a .cells .now) (m .result) (omega arith) (down .last .0) (h .result) (omega arith) (down .ensures))
 

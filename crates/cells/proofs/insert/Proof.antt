@@ -18,9 +18,11 @@ same-length c = search needs
 
 returns-2 : tie.Need-returns-2
 returns-2 c =
-    let a = c .before .before .before .before .before .before .before .args in
+    let at-push = c .before .before in
+    let at-start = at-push .before .before .before .before .before in
+    let a = at-start .args in
     insert-end (a .cells .now) (a .n) (omega arith)
-    (c .before .before .push .last .0) (a .i) (a .s) (c .before .before .push .result) (omega arith) (c .before .before .push .ensures)
+    (at-push .push .last .0) (a .i) (a .s) (at-push .push .result) (omega arith) (at-push .push .ensures)
 
 raise-requires : tie.Need-raise-requires
 raise-requires c κs = search needs
@@ -39,9 +41,11 @@ same-length-2 c = search needs
 
 returns-3 : tie.Need-returns-3
 returns-3 c =
-    let a = c .before .before .before .before .before .before .before .args in
+    let at-raise = c .before .before in
+    let at-start = at-raise .before .before .before .before .before in
+    let a = at-start .args in
     insert-room (a .cells .now) (a .n) (omega arith)
-    (c .before .before .raise .last .0) (a .i) (a .s) (omega arith) (omega arith) (c .before .before .raise .ensures)
+    (at-raise .raise .last .0) (a .i) (a .s) (omega arith) (omega arith) (at-raise .raise .ensures)
 
 pub insert-spec : {M : Type 1} → statement M
 insert-spec =

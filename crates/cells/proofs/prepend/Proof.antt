@@ -17,8 +17,9 @@ sub-if1 c = search needs
 
 returns : tie.Need-returns
 returns c =
-    let a = c .before .before .before .before .before .args in
-    let m = c .before .before .least in
+    let at-least = c .before .before in
+    let a = at-least .before .before .before .args in
+    let m = at-least .least in
     let h = c .before .least2 in
     rw (clip (a .cells .now) (a .n) (m .result) (m .ensures), clip (a .run .now) (a .k) (h .result) (h .ensures))
     (prepend-full (a .cells .now) (m .result) (omega arith) (a .run .now) (h .result) (omega arith) (omega arith))
@@ -37,11 +38,15 @@ same-length c = search needs
 
 returns-2 : tie.Need-returns-2
 returns-2 c =
-    let a = c .before .before .before .before .before .before .before .before .before .before .before .before .before .args in
-    let m = c .before .before .before .before .before .before .before .before .before .before .least in
-    let h = c .before .before .before .before .before .before .before .before .before .least2 in
-    let up = c .before .before .before .before .before .before .raise in
-    let laid = c .before .before .lay in
+    let at-lay = c .before .before in
+    let at-raise = at-lay .before .before .before .before in
+    let at-least2 = at-raise .before .before .before in
+    let at-start = at-least2 .before .before .before .before in
+    let a = at-start .args in
+    let m = at-least2 .before .least in
+    let h = at-least2 .least2 in
+    let up = at-raise .raise in
+    let laid = at-lay .lay in
     rw (clip (a .cells .now) (a .n) (m .result) (m .ensures), clip (a .run .now) (a .k) (h .result) (h .ensures))
     (prepend-room (a .cells .now) (m .result) (omega arith) (a .run .now)
     (up .last .0) (laid .last .0) (h .result) (omega arith) (omega arith) (up .ensures) (laid .ensures))

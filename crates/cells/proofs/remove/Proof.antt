@@ -30,10 +30,12 @@ same-length c = search needs
 
 returns-2 : tie.Need-returns-2
 returns-2 c =
-    let a = c .before .before .before .before .before .before .before .args in
-    let m = c .before .before .before .before .before .least in
+    let at-lower = c .before .before in
+    let at-least = at-lower .before .before .before in
+    let a = at-least .before .before .args in
+    let m = at-least .least in
     rw (clip (a .cells .now) (a .n) (m .result) (m .ensures))
-    (remove-in (a .cells .now) (m .result) (omega arith) (c .before .before .lower .last .0) (a .i) (omega arith) (c .before .before .lower .ensures))
+    (remove-in (a .cells .now) (m .result) (omega arith) (at-lower .lower .last .0) (a .i) (omega arith) (at-lower .lower .ensures))
 
 pub remove-spec : {M : Type 1} → statement M
 remove-spec =

@@ -18,6 +18,13 @@ use Rattle.dispatch.proofs.Calling.{dispatch-refused, channel-exists, d
 use Rattle.dispatch.proofs.dispatch.Statement.{statement}
 use Rattle.dispatch.proofs.dispatch.Tie as tie
 
+-- the places before `struct-known`
+abbrev to-enum-told : tie.After-struct-known → tie.After-enum-told
+to-enum-told c = c .before .before .before .before
+
+abbrev to-start : tie.After-struct-known → tie.Start
+to-start c = to-enum-told c .before .before .before .before .before
+
 ask-requires : tie.Need-ask-requires
 ask-requires c κs = search needs
 
@@ -26,8 +33,9 @@ enum-known-asked c = search needs
 
 returns : tie.Need-returns
 returns c =
-    let k = c .before .before .before .ask in
-    let a = c .before .before .before .before .before .before .args in
+    let at-ask = c .before .before .before in
+    let k = at-ask .ask in
+    let a = at-ask .before .before .before .args in
     let p = whole (a .words .now) in
     let q : AtGate (a .settings) Nothing p = record { gate = k .result; is = k .ensures } in
     let s = c .before .asked .given in
@@ -41,10 +49,11 @@ standing-requires c κs = search needs
 
 returns-2 : tie.Need-returns-2
 returns-2 c =
-    let t = c .before .before .standing in
-    let o = c .before .before .before .before .before in
+    let at-struct-known = c .before in
+    let t = at-struct-known .before .standing in
+    let o = to-enum-told at-struct-known in
     let k = o .before .before .ask in
-    let a = o .before .before .before .before .before .args in
+    let a = to-start at-struct-known .args in
     let p = whole (a .words .now) in
     let q : AtGate (a .settings) Nothing p = record { gate = k .result; is = k .ensures } in
     let h : p .standing .channels ≤ a .channel = omega (arith, ap (λ (x : Standing). x .channels) (t .ensures), c .if1 .taken) in
@@ -52,10 +61,11 @@ returns-2 c =
 
 dispatch-requires : tie.Need-dispatch-requires
 dispatch-requires c κs =
-    let t = c .before .before .before .standing in
-    let o = c .before .before .before .before .before .before in
+    let at-struct-known = c .before .before in
+    let t = at-struct-known .before .standing in
+    let o = to-enum-told at-struct-known in
     let k = o .before .before .ask in
-    let a = o .before .before .before .before .before .args in
+    let a = to-start at-struct-known .args in
     let p = whole (a .words .now) in
     let q : AtGate (a .settings) Nothing p = record { gate = k .result; is = k .ensures } in
     let h : a .channel < p .standing .channels = omega (arith, ap (λ (x : Standing). x .channels) (t .ensures), c .before .if1 .left) in
@@ -63,13 +73,15 @@ dispatch-requires c κs =
 
 returns-3 : tie.Need-returns-3
 returns-3 c =
-    let t = c .before .before .before .before .standing in
-    let o = c .before .before .before .before .before .before .before in
+    let at-if1 = c .before .before in
+    let at-struct-known = at-if1 .before in
+    let t = at-struct-known .before .standing in
+    let o = to-enum-told at-struct-known in
     let k = o .before .before .ask in
-    let a = o .before .before .before .before .before .args in
+    let a = to-start at-struct-known .args in
     let p = whole (a .words .now) in
     let q : AtGate (a .settings) Nothing p = record { gate = k .result; is = k .ensures } in
-    let h : a .channel < p .standing .channels = omega (arith, ap (λ (x : Standing). x .channels) (t .ensures), c .before .before .if1 .left) in
+    let h : a .channel < p .standing .channels = omega (arith, ap (λ (x : Standing). x .channels) (t .ensures), at-if1 .if1 .left) in
     subst (λ (y : Peer). Came answerOf (dispatches (a .settings) (a .channel) p) Done y) (sym (c .dispatch .ensures))
     (dispatch-done (a .settings) (a .channel) p q (o .enum-told .given .1) h (channelAt p (a .channel))
     (dispatchedBy (p .incoming) (channelAt p (a .channel)) (p .lists) (p .unsequenced)) refl refl)

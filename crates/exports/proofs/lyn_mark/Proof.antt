@@ -25,12 +25,15 @@ same-length c = search needs
 
 returns : tie.Need-returns
 returns c =
-    let full = eq-eqb _ _ (c .before .before .before .before .before .before .before .before .if1 .taken) in
-    let marked = c .before .before .before .before .before .marking in
+    let at-write-words = c .before .before in
+    let at-marking = at-write-words .before .before .before in
+    let at-if1 = at-marking .before .before .before in
+    let full = eq-eqb _ _ (at-if1 .if1 .taken) in
+    let marked = at-marking .marking in
     let long : length (marked .result) ≡ windowWords = search needs in
-    let write = c .before .before .write-words in
-    let wrote = put-all 0 windowWords (c .before .before .before .before .before .before .before .before .before .before .args .words .now) (marked .result) (write .last .0) long (write .ensures) in
-    record { reply = simp full; buffer = wrote ∙ simp (full, marked .ensures, c .before .before .before .before .before .before .read-words .ensures) }
+    let write = at-write-words .write-words in
+    let wrote = put-all 0 windowWords (at-if1 .before .before .args .words .now) (marked .result) (write .last .0) long (write .ensures) in
+    record { reply = simp full; buffer = wrote ∙ simp (full, marked .ensures, at-marking .before .read-words .ensures) }
 
 number-requires : tie.Need-number-requires
 number-requires c κs = search needs

@@ -31,9 +31,10 @@ add-result c =
 
 returns : tie.Need-returns
 returns c =
-    let a = c .before .before .before .before .args in
+    let at-roll = c .before .before .before in
+    let a = at-roll .before .args in
     let t = throttleOf (a .value) (a .limit) (a .acceleration) (a .deceleration) (a .last) (a .variance) in
-    let roll = c .before .before .before .roll in
+    let roll = at-roll .roll in
     let value : roll .result .throttle .value ≡ valueAfter t (a .sample) = ap (λ (u : Throttle). u .value) (roll .ensures .throttle) in
     let code : c .turn-code .result ≡ byTests t (a .sample) 0 1 2 0 =
     c .turn-code .ensures ∙ turn-code t (a .sample) (roll .result .turn) (roll .ensures .answer)

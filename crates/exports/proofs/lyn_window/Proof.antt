@@ -11,6 +11,10 @@ use Rattle.exports.proofs.Codes.{verdict-code, verdict-small}
 use Rattle.exports.proofs.lyn_window.Statement.{statement}
 use Rattle.exports.proofs.lyn_window.Tie as tie
 
+-- the places before `verdict-code`
+abbrev to-judge : tie.After-verdict-code → tie.After-judge
+to-judge c = c .before .before .before .before .before .before .before .before .before
+
 number-requires : tie.Need-number-requires
 number-requires c κs = search needs
 
@@ -42,12 +46,12 @@ verdict-code-requires c κs = search needs
 
 mul-result-2 : tie.Need-mul-result-2
 mul-result-2 c =
-    let judge = c .before .before .before .before .before .before .before .before .before .judge in
+    let judge = to-judge c .judge in
     omega (arith, c .verdict-code .ensures, verdict-small (judge .result .verdict))
 
 add-result : tie.Need-add-result
 add-result c =
-    let judge = c .before .before .before .before .before .before .before .before .before .judge in
+    let judge = to-judge c .judge in
     omega (arith, c .verdict-code .ensures, verdict-small (judge .result .verdict))
 
 same-length : tie.Need-same-length
@@ -55,16 +59,19 @@ same-length c = search needs
 
 returns-2 : tie.Need-returns-2
 returns-2 c =
-    let args = c .before .before .before .before .before .before .before .before .before .before .before .before .before .before .args in
-    let full = eq-eqb _ _ (c .before .before .before .before .before .before .before .before .before .before .before .before .if1 .left) in
-    let before = c .before .before .before .before .before .before .before .before .before .before .read-words in
-    let judge = c .before .before .before .before .before .before .before .before .before .judge in
+    let at-write-words = c .before .before .before .before .before in
+    let at-judge = at-write-words .before .before .before .before in
+    let at-if1 = at-judge .before .before .before in
+    let args = at-if1 .before .before .args in
+    let full = eq-eqb _ _ (at-if1 .if1 .left) in
+    let before = at-judge .before .read-words in
+    let judge = at-judge .judge in
     let moved : judge .result .base .0 ≡ baseAfter (args .base) (before .result) (args .group) = judge .ensures .base in
     let code : c .verdict-code .result ≡ byTests (args .base) (before .result) (args .group) 0 2 1 2 =
     c .verdict-code .ensures ∙ verdict-code (args .base) (before .result) (args .group) (judge .result .verdict) (judge .ensures .answer)
     in
     let long : length (judge .result .words) ≡ windowWords = search needs in
-    let write = c .before .before .before .before .before .write-words in
+    let write = at-write-words .write-words in
     let wrote = put-all 0 windowWords (args .words .now) (judge .result .words) (write .last .0) long (write .ensures) in
     record { reply = rw (moved, code, before .ensures, full); buffer = wrote ∙ simp (full, judge .ensures .words, before .ensures) }
 

@@ -37,10 +37,14 @@ same-length c = search needs
 returns : tie.Need-returns
 unfolding putRow
 returns c =
-    let row = c .before .before .before .before .before .of .result in
+    let at-write-words = c .before .before in
+    let at-of = at-write-words .before .before .before in
+    let at-put-word2 = at-of .before .before .before in
+    let at-put-word = at-put-word2 .before .before .before .before .before in
+    let row = at-of .of .result in
     let long : length row ≡ 16 = search needs in
-    put-all 8 16 _ row (c .before .before .write-words .last .0) long (c .before .before .write-words .ensures)
-    ∙ rw (c .before .before .before .before .before .before .before .before .put-word2 .ensures, c .before .before .before .before .before .before .before .before .before .before .before .before .before .put-word .ensures, c .before .before .before .before .before .before .before .before .before .kind-of .ensures, c .before .before .before .before .before .of .ensures)
+    put-all 8 16 _ row (at-write-words .write-words .last .0) long (at-write-words .write-words .ensures)
+    ∙ rw (at-put-word2 .put-word2 .ensures, at-put-word .put-word .ensures, at-put-word2 .before .kind-of .ensures, at-of .of .ensures)
 
 pub put-command-spec : {M : Type 1} → statement M
 put-command-spec =

@@ -39,12 +39,13 @@ loop-less : tie.Need-loop-less Inv-loop μ-loop
 loop-less c = search needs
 
 loop-again : tie.Need-loop-again Inv-loop μ-loop
-loop-again c = (
-  search needs,
-  simp length-set (c .before .before .loop .inv .1),
-  read-step (c .before .before .before .before .args .s .now) windowWords (c .before .before .loop .words) (c .before .before .loop .i) (c .word-at .result) (omega arith) (omega arith) (c .word-at .ensures)
-      ∙ c .before .before .loop .inv .2,
-)
+loop-again c =
+    let at-loop = c .before .before in (
+      search needs,
+      simp length-set (at-loop .loop .inv .1),
+      read-step (at-loop .before .before .args .s .now) windowWords (at-loop .loop .words) (at-loop .loop .i) (c .word-at .result) (omega arith) (omega arith) (c .word-at .ensures)
+          ∙ at-loop .loop .inv .2,
+    )
 
 returns : tie.Need-returns Inv-loop μ-loop
 returns c = sym (read-done (c .before .before .before .args .s .now) windowWords (c .before .loop .words) (c .before .loop .i) (omega arith) (omega arith)) ∙ c .before .loop .inv .2

@@ -43,14 +43,17 @@ loop-less c = search needs
 
 loop-again : tie.Need-loop-again Inv-loop μ-loop
 loop-again c =
-    let e = c .before .before .put-word .ensures in
-    let i = c .before .before .before .before .before .before .loop .i in
-    let out = c .before .before .before .before .before .before .loop .out in
-    let at = c .before .before .before .before .before .before .before .before .before .args .at in
-    let words = c .before .before .before .before .before .before .before .before .before .args .words .now in (
+    let at-put-word = c .before .before in
+    let at-loop = at-put-word .before .before .before .before in
+    let at-start = at-loop .before .before .before in
+    let e = at-put-word .put-word .ensures in
+    let i = at-loop .loop .i in
+    let out = at-loop .loop .out in
+    let at = at-start .args .at in
+    let words = at-start .args .words .now in (
       search needs,
-      ap length e ∙ put-length out (at + 4 * i) 4 (getD words i 0) ∙ c .before .before .before .before .before .before .loop .inv .1,
-      ap (λ (l : List ℕ). rest at words l (i + 1)) e ∙ put-step at words out i (omega arith) ∙ c .before .before .before .before .before .before .loop .inv .2,
+      ap length e ∙ put-length out (at + 4 * i) 4 (getD words i 0) ∙ at-loop .loop .inv .1,
+      ap (λ (l : List ℕ). rest at words l (i + 1)) e ∙ put-step at words out i (omega arith) ∙ at-loop .loop .inv .2,
     )
 
 same-length : tie.Need-same-length Inv-loop μ-loop

@@ -12,6 +12,13 @@ use borrow.Author.Needs.{needs}
 use Rattle.gate.proofs.sound.Statement.{statement}
 use Rattle.gate.proofs.sound.Tie as tie
 
+-- the places before `out-side`
+abbrev to-ranged : tie.After-out-side → tie.After-ranged
+to-ranged c = c .before .before
+
+abbrev to-start : tie.After-out-side → tie.Start
+to-start c = to-ranged c .before .before .before .before
+
 shared-slice-read-count : tie.Need-shared-slice-read-count
 shared-slice-read-count c = search needs
 
@@ -23,7 +30,8 @@ ranged-requires c κs = search needs
 
 returns : tie.Need-returns
 returns c =
-    let ws = c .before .before .before .before .before .args .words .now in
+    let at-start = c .before .before .before .before .before in
+    let ws = at-start .args .words .now in
     first-no (ranged (getD ws 39 0) (getD ws 6 0)) (outSide (getD ws 6 0) (whole ws)) (inSide (getD ws 6 0) (whole ws)) (sound (whole ws)) (sound-at ws) (sym (c .before .ranged .ensures) ∙ not-true _ (c .if1 .taken))
 
 out-side-requires : tie.Need-out-side-requires
@@ -31,19 +39,22 @@ out-side-requires c κs = search needs
 
 returns-2 : tie.Need-returns-2
 returns-2 c =
-    let ws = c .before .before .before .before .before .before .before .args .words .now in
-    second-no (ranged (getD ws 39 0) (getD ws 6 0)) (outSide (getD ws 6 0) (whole ws)) (inSide (getD ws 6 0) (whole ws)) (sound (whole ws)) (sound-at ws) (sym (c .before .before .before .ranged .ensures) ∙ not-false _ (c .before .before .if1 .left)) (sym (c .before .out-side .ensures) ∙ not-true _ (c .if2 .taken))
+    let at-out-side = c .before in
+    let ws = to-start at-out-side .args .words .now in
+    second-no (ranged (getD ws 39 0) (getD ws 6 0)) (outSide (getD ws 6 0) (whole ws)) (inSide (getD ws 6 0) (whole ws)) (sound (whole ws)) (sound-at ws) (sym (to-ranged at-out-side .ranged .ensures) ∙ not-false _ (at-out-side .before .if1 .left)) (sym (at-out-side .out-side .ensures) ∙ not-true _ (c .if2 .taken))
 
 in-side-requires : tie.Need-in-side-requires
 in-side-requires c κs =
-    let b = c .before .before .before .before .before .before .before in
+    let at-out-side = c .before in
+    let b = to-start at-out-side in
     let ws = b .args .words .now in
-    (b .pre, count-low (getD ws 39 0) (getD ws 6 0) (sym (c .before .before .before .ranged .ensures) ∙ not-false _ (c .before .before .if1 .left)))
+    (b .pre, count-low (getD ws 39 0) (getD ws 6 0) (sym (to-ranged at-out-side .ranged .ensures) ∙ not-false _ (at-out-side .before .if1 .left)))
 
 returns-3 : tie.Need-returns-3
 returns-3 c =
-    let ws = c .before .before .before .before .before .before .before .before .args .words .now in
-    c .in-side .ensures ∙ third-says (ranged (getD ws 39 0) (getD ws 6 0)) (outSide (getD ws 6 0) (whole ws)) (inSide (getD ws 6 0) (whole ws)) (sound (whole ws)) (sound-at ws) (sym (c .before .before .before .before .ranged .ensures) ∙ not-false _ (c .before .before .before .if1 .left)) (sym (c .before .before .out-side .ensures) ∙ not-false _ (c .before .if2 .left))
+    let at-out-side = c .before .before in
+    let ws = to-start at-out-side .args .words .now in
+    c .in-side .ensures ∙ third-says (ranged (getD ws 39 0) (getD ws 6 0)) (outSide (getD ws 6 0) (whole ws)) (inSide (getD ws 6 0) (whole ws)) (sound (whole ws)) (sound-at ws) (sym (to-ranged at-out-side .ranged .ensures) ∙ not-false _ (at-out-side .before .if1 .left)) (sym (at-out-side .out-side .ensures) ∙ not-false _ (c .before .if2 .left))
 
 pub sound-spec : {M : Type 1} → statement M
 sound-spec =

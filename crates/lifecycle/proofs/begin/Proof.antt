@@ -24,9 +24,10 @@ enum-known-asked c = search needs
 
 returns : tie.Need-returns
 returns c =
-    let a = c .before .before .before .before .before .before .args in
+    let at-ask = c .before .before .before in
+    let a = at-ask .before .before .before .args in
     let p = whole (a .words .now) in
-    let g = c .before .before .before .ask in
+    let g = at-ask .ask in
     let asked : AtGate (a .settings) Nothing p = record { gate = g .result; is = g .ensures } in
     let k = c .before .asked .given in
     came-shut asked p (beginsSound (a .mtu) (a .count) p) answerOf _ (k .0 .0) refl (k .1)
@@ -42,15 +43,16 @@ begin-fits-requires c κs = search needs
 
 returns-2 : tie.Need-returns-2
 returns-2 c =
-    let s = c .before .before in
-    let o = s .before .before .before in
-    let g = o .before .before in
-    let a = g .before .before .before .args in
+    let at-standing = c .before .before in
+    let at-enum-told = at-standing .before .before .before in
+    let at-start = at-enum-told .before .before .before .before .before in
+    let g = at-enum-told .before .before in
+    let a = at-start .args in
     let p = whole (a .words .now) in
     let asked : AtGate (a .settings) Nothing p = record { gate = g .ask .result; is = g .ask .ensures } in
-    let n : s .standing .result .channels ≡ p .standing .channels = ap (λ (s : Standing). s .channels) (s .standing .ensures) in
+    let n : at-standing .standing .result .channels ≡ p .standing .channels = ap (λ (s : Standing). at-standing .channels) (at-standing .standing .ensures) in
     let may = ap (beginFits (a .mtu) (a .count)) (sym n) ∙ sym (c .before .begin-fits .ensures) ∙ not-true _ (c .if1 .taken) in
-    came-open asked p (beginsSound (a .mtu) (a .count) p) answerOf _ p (o .enum-told .given .1) (record { answer = rw may; after = rw may })
+    came-open asked p (beginsSound (a .mtu) (a .count) p) answerOf _ p (at-enum-told .enum-told .given .1) (record { answer = rw may; after = rw may })
 
 put-standing-requires : tie.Need-put-standing-requires
 put-standing-requires c κs = search needs
@@ -69,24 +71,25 @@ clear-requires c κs = search needs
 
 returns-3 : tie.Need-returns-3
 returns-3 c =
-    let w = c .before .before in
-    let f = w .before .before in
-    let v = f .before .before .before in
-    let m = v .before .before .before in
-    let s = m .before in
-    let o = s .before .before .before in
-    let g = o .before .before in
-    let a = g .before .before .before .args in
+    let at-put-flow = c .before .before in
+    let at-put-standing = at-put-flow .before .before .before .before .before in
+    let at-begin-fits = at-put-standing .before .before .before in
+    let at-enum-told = at-begin-fits .before .before .before .before in
+    let at-start = at-enum-told .before .before .before .before .before in
+    let f = at-put-flow .before .before in
+    let s = at-begin-fits .before in
+    let g = at-enum-told .before .before in
+    let a = at-start .args in
     let p = whole (a .words .now) in
     let asked : AtGate (a .settings) Nothing p = record { gate = g .ask .result; is = g .ask .ensures } in
-    let l : length (w .put-flow .last .0) ≡ 1234 = search needs in
+    let l : length (at-put-flow .put-flow .last .0) ≡ 1234 = search needs in
     let n : s .standing .result .channels ≡ p .standing .channels = ap (λ (s : Standing). s .channels) (s .standing .ensures) in
-    let may = ap (beginFits (a .mtu) (a .count)) (sym n) ∙ sym (m .begin-fits .ensures) ∙ not-false _ (v .before .before .if1 .left) in
-    let done = begins-by (a .mtu) (a .count) p (whole (v .put-standing .last .0)) (whole (w .put-flow .last .0)) (whole (c .clear .last .0))
-    (v .put-standing .ensures ∙ ap (λ (s : Standing). withStanding p (withCount s (a .count))) (s .standing .ensures))
-    (w .put-flow .ensures ∙ ap (λ (f : Flow). withFlow (whole (v .put-standing .last .0)) (withMtu f (a .mtu))) (f .flow .ensures))
-    (ap whole (c .clear .ensures) ∙ cleared-channels (w .put-flow .last .0) l) in
-    came-open asked p (beginsSound (a .mtu) (a .count) p) answerOf _ _ (o .enum-told .given .1) (record { answer = rw may; after = rw may done })
+    let may = ap (beginFits (a .mtu) (a .count)) (sym n) ∙ sym (at-begin-fits .begin-fits .ensures) ∙ not-false _ (at-put-standing .before .before .if1 .left) in
+    let done = begins-by (a .mtu) (a .count) p (whole (at-put-standing .put-standing .last .0)) (whole (at-put-flow .put-flow .last .0)) (whole (c .clear .last .0))
+    (at-put-standing .put-standing .ensures ∙ ap (λ (s : Standing). withStanding p (withCount s (a .count))) (s .standing .ensures))
+    (at-put-flow .put-flow .ensures ∙ ap (λ (f : Flow). withFlow (whole (at-put-standing .put-standing .last .0)) (withMtu f (a .mtu))) (f .flow .ensures))
+    (ap whole (c .clear .ensures) ∙ cleared-channels (at-put-flow .put-flow .last .0) l) in
+    came-open asked p (beginsSound (a .mtu) (a .count) p) answerOf _ _ (at-enum-told .enum-told .given .1) (record { answer = rw may; after = rw may done })
 
 pub begin-spec : {M : Type 1} → statement M
 begin-spec =

@@ -34,11 +34,12 @@ shared-slice-read-t7 c = search needs
 
 returns : tie.Need-returns
 returns c =
+    let at-start = c .before .before .before .before .before .before .before .before .before .before in
     let d = c .before in
     let b = d .before .before in
     let o = b .before .before in
     let a = o .before .before in
-    sym (kept-is (a .before .before .before .args .words .now) (a .low16 .result) (o .low8 .result) (b .low82 .result) (d .low162 .result)
+    sym (kept-is (at-start .args .words .now) (a .low16 .result) (o .low8 .result) (b .low82 .result) (d .low162 .result)
     (a .low16 .ensures) (o .low8 .ensures) (b .low82 .ensures) (d .low162 .ensures))
 
 pub kept-spec : {M : Type 1} → statement M

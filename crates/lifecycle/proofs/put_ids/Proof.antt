@@ -36,11 +36,12 @@ same-length c = search needs
 
 returns : tie.Need-returns
 returns c =
-    let b = c .before .before .before .before .before in
+    let at-wide16 = c .before .before .before in
+    let b = at-wide16 .before .before in
     let o = c .before .wide8 in
     let f = c .before .before .wide162 in
-    put-ids (b .args .words .now) (b .pre) (b .args .keep) (c .before .before .before .wide16 .result) (f .result) (o .result) (c .wide82 .result)
-    (c .before .before .before .wide16 .ensures .0) (f .ensures .0) (f .ensures .1) (o .ensures .0) (o .ensures .1) (c .wide82 .ensures .0) (c .wide82 .ensures .1)
+    put-ids (b .args .words .now) (b .pre) (b .args .keep) (at-wide16 .wide16 .result) (f .result) (o .result) (c .wide82 .result)
+    (at-wide16 .wide16 .ensures .0) (f .ensures .0) (f .ensures .1) (o .ensures .0) (o .ensures .1) (c .wide82 .ensures .0) (c .wide82 .ensures .1)
 
 pub put-ids-spec : {M : Type 1} → statement M
 put-ids-spec =

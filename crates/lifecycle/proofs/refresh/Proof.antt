@@ -33,17 +33,17 @@ same-length c = search needs
 returns : tie.Need-returns
 unfolding freshPeer
 returns c =
-    let z = c .before .before in
-    let y = z .before .before .before .before in
-    let x = y .before .before .before .before in
-    let w = x .before .before .before .before in
-    let v = w .before .before .before .before in
-    let u = v .before .before .before .before in
-    let t = u .before .before .before .before in
-    let b = t .before .before .before in
-    refreshes (b .args .mtu) (b .args .keep) (b .args .words .now) (whole (t .put-ids .last .0)) (whole (u .put-throttling .last .0)) (whole (v .put-limits .last .0))
-    (whole (w .put-trips .last .0)) (whole (x .put-flow .last .0)) (whole (y .put-reserved .last .0)) (whole (z .put-waiting .last .0))
-    (b .pre .1) (t .put-ids .ensures) (u .put-throttling .ensures) (v .put-limits .ensures) (w .put-trips .ensures) (x .put-flow .ensures) (y .put-reserved .ensures) (z .put-waiting .ensures)
+    let at-put-waiting = c .before .before in
+    let at-put-reserved = at-put-waiting .before .before .before .before in
+    let at-put-flow = at-put-reserved .before .before .before .before in
+    let at-put-trips = at-put-flow .before .before .before .before in
+    let at-put-limits = at-put-trips .before .before .before .before in
+    let at-put-throttling = at-put-limits .before .before .before .before in
+    let at-put-ids = at-put-throttling .before .before .before .before in
+    let b = at-put-ids .before .before .before in
+    refreshes (b .args .mtu) (b .args .keep) (b .args .words .now) (whole (at-put-ids .put-ids .last .0)) (whole (at-put-throttling .put-throttling .last .0)) (whole (at-put-limits .put-limits .last .0))
+    (whole (at-put-trips .put-trips .last .0)) (whole (at-put-flow .put-flow .last .0)) (whole (at-put-reserved .put-reserved .last .0)) (whole (at-put-waiting .put-waiting .last .0))
+    (b .pre .1) (at-put-ids .put-ids .ensures) (at-put-throttling .put-throttling .ensures) (at-put-limits .put-limits .ensures) (at-put-trips .put-trips .ensures) (at-put-flow .put-flow .ensures) (at-put-reserved .put-reserved .ensures) (at-put-waiting .put-waiting .ensures)
 
 pub refresh-spec : {M : Type 1} → statement M
 refresh-spec =

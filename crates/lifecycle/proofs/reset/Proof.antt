@@ -24,16 +24,18 @@ clear-requires c κs = search needs
 
 refresh-requires : tie.Need-refresh-requires
 refresh-requires c κs =
-    let k = c .before .before .before in
-    let l : length (k .before .before .before .before .before .args .words .now) ≡ 1234 = search needs in
-    (search needs, c .before .clear .ensures ∙ cleared (k .before .before .before .before .before .args .words .now) 1234 l)
+    let at-kept = c .before .before .before in
+    let at-start = at-kept .before .before .before .before .before in
+    let l : length (at-start .args .words .now) ≡ 1234 = search needs in
+    (search needs, c .before .clear .ensures ∙ cleared (at-start .args .words .now) 1234 l)
 
 returns-2 : tie.Need-returns-2
 returns-2 c =
-    let k = c .before .before .before .before in
-    let a = k .before .before .before .before .before .args in
-    let fit = sym (k .before .before .before .before .is-fit .ensures) ∙ not-false _ (k .before .before .before .if1 .left) in
-    record { answer = simp fit; after = simp fit (c .refresh .ensures ∙ ap (freshPeer (a .settings .mtu)) (k .kept .ensures)) }
+    let at-kept = c .before .before .before .before in
+    let at-if1 = at-kept .before .before .before in
+    let a = at-if1 .before .before .args in
+    let fit = sym (at-if1 .before .is-fit .ensures) ∙ not-false _ (at-if1 .if1 .left) in
+    record { answer = simp fit; after = simp fit (c .refresh .ensures ∙ ap (freshPeer (a .settings .mtu)) (at-kept .kept .ensures)) }
 
 pub reset-spec : {M : Type 1} → statement M
 reset-spec =

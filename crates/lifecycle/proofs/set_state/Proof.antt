@@ -21,9 +21,10 @@ enum-known-asked c = search needs
 
 returns : tie.Need-returns
 returns c =
-    let a = c .before .before .before .before .before .before .args in
+    let at-ask = c .before .before .before in
+    let a = at-ask .before .before .before .args in
     let p = whole (a .words .now) in
-    let g = c .before .before .before .ask in
+    let g = at-ask .ask in
     let asked : AtGate (a .settings) Nothing p = record { gate = g .result; is = g .ensures } in
     let k = c .before .asked .given in
     came-shut asked p (setsStateSound (a .state) p) answerOf _ (k .0 .0) refl (k .1)
@@ -33,9 +34,10 @@ enum-told c = search needs
 
 returns-2 : tie.Need-returns-2
 returns-2 c =
-    let a = c .before .before .before .before .before .before .args in
+    let at-ask = c .before .before .before in
+    let a = at-ask .before .before .before .args in
     let p = whole (a .words .now) in
-    let g = c .before .before .before .ask in
+    let g = at-ask .ask in
     let asked : AtGate (a .settings) Nothing p = record { gate = g .result; is = g .ensures } in
     let high = lt-leb _ _ (c .if1 .taken) in
     came-open asked p (setsStateSound (a .state) p) answerOf _ p (c .before .enum-told .given .1) (record { answer = rw high; after = rw high })
@@ -48,15 +50,15 @@ put-standing-requires c κs = search needs
 
 returns-3 : tie.Need-returns-3
 returns-3 c =
-    let s = c .before .before in
-    let t = s .before .before .before in
-    let g = t .before .before .before in
-    let a = g .before .before .before .args in
+    let at-standing = c .before .before in
+    let at-if1 = at-standing .before .before .before in
+    let at-ask = at-if1 .before .before .before in
+    let a = at-ask .before .before .before .args in
     let p = whole (a .words .now) in
-    let asked : AtGate (a .settings) Nothing p = record { gate = g .ask .result; is = g .ask .ensures } in
-    let high = le-leb _ _ (t .if1 .left) in
-    let done = c .put-standing .ensures ∙ ap (λ (s : Standing). withStanding p (withState s (a .state))) (s .standing .ensures) in
-    came-open asked p (setsStateSound (a .state) p) answerOf _ _ (t .before .enum-told .given .1) (record { answer = rw high; after = rw high done })
+    let asked : AtGate (a .settings) Nothing p = record { gate = at-ask .ask .result; is = at-ask .ask .ensures } in
+    let high = le-leb _ _ (at-if1 .if1 .left) in
+    let done = c .put-standing .ensures ∙ ap (λ (s : Standing). withStanding p (withState s (a .state))) (at-standing .standing .ensures) in
+    came-open asked p (setsStateSound (a .state) p) answerOf _ _ (at-if1 .before .enum-told .given .1) (record { answer = rw high; after = rw high done })
 
 pub set-state-spec : {M : Type 1} → statement M
 set-state-spec =

@@ -25,14 +25,15 @@ same-length c = search needs
 
 returns : tie.Need-returns
 returns c =
-    let k = c .before .before .before .before in
-    let w = k .before .before .before .before in
-    let a = w .before .before .before .before .args in
-    let after = k .call .last .0 in
-    let before : whole (w .write .last .0) ≡ a .peer = w .write .ensures in
-    let came = subst (λ (p : Peer). Came answerOf (calls (a .settings) (a .call) (a .datagram .now) (record { peer = p; store = a .store .now })) (k .call .result) (record { peer = whole after; store = k .call .last .1 .1 .1 .0 })) before (k .call .ensures .0) in (
-      subst (λ (p : Peer). Came answerOf (calls (a .settings) (a .call) (a .datagram .now) (record { peer = a .peer; store = a .store .now })) (k .call .result) (record { peer = p; store = k .call .last .1 .1 .1 .0 })) (sym (c .meant .ensures)) came,
-      k .call .ensures .1,
+    let at-call = c .before .before .before .before in
+    let at-write = at-call .before .before .before .before in
+    let at-start = at-write .before .before .before .before in
+    let a = at-start .args in
+    let after = at-call .call .last .0 in
+    let before : whole (at-write .write .last .0) ≡ a .peer = at-write .write .ensures in
+    let came = subst (λ (p : Peer). Came answerOf (calls (a .settings) (a .call) (a .datagram .now) (record { peer = p; store = a .store .now })) (at-call .call .result) (record { peer = whole after; store = at-call .call .last .1 .1 .1 .0 })) before (at-call .call .ensures .0) in (
+      subst (λ (p : Peer). Came answerOf (calls (a .settings) (a .call) (a .datagram .now) (record { peer = a .peer; store = a .store .now })) (at-call .call .result) (record { peer = p; store = at-call .call .last .1 .1 .1 .0 })) (sym (c .meant .ensures)) came,
+      at-call .call .ensures .1,
     )
 
 pub call-spec : {M : Type 1} → statement M

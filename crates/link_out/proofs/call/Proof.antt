@@ -56,38 +56,45 @@ throttle-requires c κs = search needs
 
 returns : tie.Need-returns
 returns c =
-    let a = c .before .before .before .before .args in
-    promised (a .settings) (a .call) (whole (a .words .now)) plain.answerOf vr.Called _ (c .before .before .enum-told .given .1) _ refl refl tt _ (c .ping .ensures)
+    let at-enum-told = c .before .before in
+    let a = at-enum-told .before .before .args in
+    promised (a .settings) (a .call) (whole (a .words .now)) plain.answerOf vr.Called _ (at-enum-told .enum-told .given .1) _ refl refl tt _ (c .ping .ensures)
 
 returns-2 : tie.Need-returns-2
 returns-2 c =
-    let a = c .before .before .before .before .before .args in
-    promised (a .settings) (a .call) (whole (a .words .now)) plain.answerOf vr.Called _ (c .before .before .before .call .given .1) _ refl refl tt _ (c .send .ensures)
+    let at-call = c .before .before .before in
+    let a = at-call .before .before .args in
+    promised (a .settings) (a .call) (whole (a .words .now)) plain.answerOf vr.Called _ (at-call .call .given .1) _ refl refl tt _ (c .send .ensures)
 
 returns-3 : tie.Need-returns-3
 returns-3 c =
-    let a = c .before .before .before .before .before .args in
-    promised (a .settings) (a .call) (whole (a .words .now)) plain.answerOf vr.Called _ (c .before .before .before .call2 .given .1) _ refl refl tt _ (c .setup .ensures)
+    let at-call2 = c .before .before .before in
+    let a = at-call2 .before .before .args in
+    promised (a .settings) (a .call) (whole (a .words .now)) plain.answerOf vr.Called _ (at-call2 .call2 .given .1) _ refl refl tt _ (c .setup .ensures)
 
 returns-4 : tie.Need-returns-4
 returns-4 c =
-    let a = c .before .before .before .before .before .args in
-    promised (a .settings) (a .call) (whole (a .words .now)) stepping.answerOf vr.Stepped _ (c .before .before .before .call3 .given .1) _ refl refl (c .step .ensures .1) _ (c .step .ensures .0)
+    let at-call3 = c .before .before .before in
+    let a = at-call3 .before .before .args in
+    promised (a .settings) (a .call) (whole (a .words .now)) stepping.answerOf vr.Stepped _ (at-call3 .call3 .given .1) _ refl refl (c .step .ensures .1) _ (c .step .ensures .0)
 
 returns-5 : tie.Need-returns-5
 returns-5 c =
-    let a = c .before .before .before .before .before .args in
-    promised (a .settings) (a .call) (whole (a .words .now)) acknowledging.answerOf vr.Acknowledged _ (c .before .before .before .call4 .given .1) _ refl refl tt _ (c .acknowledge .ensures)
+    let at-call4 = c .before .before .before in
+    let a = at-call4 .before .before .args in
+    promised (a .settings) (a .call) (whole (a .words .now)) acknowledging.answerOf vr.Acknowledged _ (at-call4 .call4 .given .1) _ refl refl tt _ (c .acknowledge .ensures)
 
 returns-6 : tie.Need-returns-6
 returns-6 c =
-    let a = c .before .before .before .before .before .args in
-    promised (a .settings) (a .call) (whole (a .words .now)) checking.answerOf vr.Checked _ (c .before .before .before .call5 .given .1) _ refl refl tt _ (c .check .ensures)
+    let at-call5 = c .before .before .before in
+    let a = at-call5 .before .before .args in
+    promised (a .settings) (a .call) (whole (a .words .now)) checking.answerOf vr.Checked _ (at-call5 .call5 .given .1) _ refl refl tt _ (c .check .ensures)
 
 returns-7 : tie.Need-returns-7
 returns-7 c =
-    let a = c .before .before .before .before .before .args in
-    promised (a .settings) (a .call) (whole (a .words .now)) throttling.answerOf vr.Throttled _ (c .before .before .before .call6 .given .1) _ refl refl tt _ (c .throttle .ensures)
+    let at-call6 = c .before .before .before in
+    let a = at-call6 .before .before .args in
+    promised (a .settings) (a .call) (whole (a .words .now)) throttling.answerOf vr.Throttled _ (at-call6 .call6 .given .1) _ refl refl tt _ (c .throttle .ensures)
 
 pub call-spec : {M : Type 1} → statement M
 call-spec =

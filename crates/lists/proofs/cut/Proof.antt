@@ -56,9 +56,11 @@ same-length c = search needs
 
 returns : tie.Need-returns
 returns c =
-    let o = c .before .before .cut in
-    let v = c .before .before .before .before .low16 in
-    let b = c .before .before .before .before .before .before .before in
+    let at-cut = c .before .before in
+    let at-low16 = at-cut .before .before in
+    let o = at-cut .cut in
+    let v = at-low16 .low16 in
+    let b = at-low16 .before .before .before in
     let a = b .args in
     cut-kept (a .words .now) (a .at) (a .size) (b .pre .0) (b .pre .1) (v .result) (a .at + 1 + a .size - (a .at + 1)) (o .result) (omega arith) (v .ensures)
     (o .last .0) (a .k) (o .ensures)

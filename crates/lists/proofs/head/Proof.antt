@@ -21,9 +21,10 @@ slot-at-requires c κs = search needs
 
 returns-2 : tie.Need-returns-2
 returns-2 c =
-    let a = c .before .before .before .before .args in
+    let at-count = c .before .before in
+    let a = at-count .before .before .args in
     ap Slot (c .slot-at .ensures)
-    ∙ sym (first-at (itemsOf (rowAt (a .at) (a .size) (a .words .now))) (λ e. c .before .if1 .left (c .before .before .count .ensures ∙ e)))
+    ∙ sym (first-at (itemsOf (rowAt (a .at) (a .size) (a .words .now))) (λ e. c .before .if1 .left (at-count .count .ensures ∙ e)))
 
 pub head-spec : {M : Type 1} → statement M
 head-spec = tie.close (tie.spec count-requires returns slot-at-requires returns-2)

@@ -56,9 +56,11 @@ same-length c = search needs
 
 returns : tie.Need-returns
 returns c =
-    let o = c .before .before .insert in
-    let v = c .before .before .before .before .low16 in
-    let b = c .before .before .before .before .before .before .before in
+    let at-insert = c .before .before in
+    let at-low16 = at-insert .before .before in
+    let o = at-insert .insert in
+    let v = at-low16 .low16 in
+    let b = at-low16 .before .before .before in
     let a = b .args in
     insert-kept (a .words .now) (a .at) (a .size) (b .pre .0) (b .pre .1) (v .result) (a .at + 1 + a .size - (a .at + 1)) (o .result) (omega arith) (v .ensures)
     (o .last .0) (a .i) (a .s) (omega arith) (o .ensures)

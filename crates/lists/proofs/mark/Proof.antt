@@ -41,9 +41,11 @@ loop-less c = search needs
 
 loop-again : tie.Need-loop-again Inv-loop μ-loop
 loop-again c =
+    let at-loop = c .before .before .before in
+    let at-start = at-loop .before .before .before .before in
     let s = c .before .slot-at in
-    let l = c .before .before .before .loop in
-    let a = c .before .before .before .before .before .before .before .args in
+    let l = at-loop .loop in
+    let a = at-start .args in
     let xs = itemsOf (rowAt (a .at) (a .size) (a .words .now)) in
     let turn = l .inv .3 ∙ marks-turn xs (l .k) (l .marks) (omega (arith, l .inv .1)) in
     ⊎-elim
@@ -56,8 +58,9 @@ same-length c = search needs
 
 returns : tie.Need-returns Inv-loop μ-loop
 returns c =
+    let at-start = c .before .before .before .before .before in
     let l = c .before .loop in
-    let a = c .before .before .before .before .before .args in
+    let a = at-start .args in
     let xs = itemsOf (rowAt (a .at) (a .size) (a .words .now)) in
     sym (l .inv .3 ∙ marks-end xs (l .k) (l .marks) (omega (arith, l .inv .1)))
 

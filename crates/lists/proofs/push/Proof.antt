@@ -56,9 +56,11 @@ same-length c = search needs
 
 returns : tie.Need-returns
 returns c =
-    let o = c .before .before .push in
-    let v = c .before .before .before .before .low16 in
-    let b = c .before .before .before .before .before .before .before in
+    let at-push = c .before .before in
+    let at-low16 = at-push .before .before in
+    let o = at-push .push in
+    let v = at-low16 .low16 in
+    let b = at-low16 .before .before .before in
     let a = b .args in
     push-kept (a .words .now) (a .at) (a .size) (b .pre .0) (b .pre .1) (v .result) (a .at + 1 + a .size - (a .at + 1)) (o .result) (omega arith) (v .ensures)
     (o .last .0) (a .s) (omega arith) (o .ensures)

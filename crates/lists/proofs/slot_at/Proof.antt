@@ -8,6 +8,10 @@ use borrow.Author.Needs.{needs}
 use Rattle.lists.proofs.slot_at.Statement.{statement}
 use Rattle.lists.proofs.slot_at.Tie as tie
 
+-- the places before `if1`
+abbrev to-start : tie.Else1 → tie.Start
+to-start c = c .before .before .before
+
 count-requires : tie.Need-count-requires
 count-requires c κs = search needs
 
@@ -22,30 +26,32 @@ add-low16 c = search needs
 
 add-low16-2 : tie.Need-add-low16-2
 add-low16-2 c =
-    let b = c .before .before .before in
+    let b = to-start c in
     let a = b .args in
     omega (arith, items-length (a .words .now) (a .at) (a .size) (b .pre), c .before .count .ensures)
 
 mul-low16 : tie.Need-mul-low16
 mul-low16 c =
-    let b = c .before .before .before in
+    let b = to-start c in
     let a = b .args in
     omega (arith, items-length (a .words .now) (a .at) (a .size) (b .pre), c .before .count .ensures)
 
 shared-slice-read-low16 : tie.Need-shared-slice-read-low16
 shared-slice-read-low16 c =
-    let b = c .before .before .before .before in
+    let at-if1 = c .before in
+    let b = to-start at-if1 in
     let a = b .args in
-    omega (arith, items-length (a .words .now) (a .at) (a .size) (b .pre), c .before .before .count .ensures)
+    omega (arith, items-length (a .words .now) (a .at) (a .size) (b .pre), at-if1 .before .count .ensures)
 
 low16-requires : tie.Need-low16-requires
 low16-requires c κs = search needs
 
 returns-2 : tie.Need-returns-2
 returns-2 c =
-    let b = c .before .before .before .before .before in
+    let at-if1 = c .before .before in
+    let b = to-start at-if1 in
     let a = b .args in
-    c .low16 .ensures ∙ item-at (a .words .now) (a .at) (a .size) (b .pre) (a .k) (omega (arith, c .before .before .before .count .ensures, c .before .before .if1 .left))
+    c .low16 .ensures ∙ item-at (a .words .now) (a .at) (a .size) (b .pre) (a .k) (omega (arith, at-if1 .before .count .ensures, at-if1 .if1 .left))
 
 pub slot-at-spec : {M : Type 1} → statement M
 slot-at-spec =

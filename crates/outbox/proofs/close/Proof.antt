@@ -25,12 +25,17 @@ same-length c = search needs
 
 returns : tie.Need-returns
 returns c =
-    let r = c .before .before .recount in
-    let w = c .before .before .before .before .before .before .put-waiting in
-    let h = c .before .before .before .before .before .before .before .before .waiting in
-    let v = c .before .before .before .before .before .before .before .before .before .before .before .before .put-totals in
-    let t = c .before .before .before .before .before .before .before .before .before .before .before .before .before .before .totals in
-    let a = c .before .before .before .before .before .before .before .before .before .before .before .before .before .before .before .before .before .args in
+    let at-recount = c .before .before in
+    let at-put-waiting = at-recount .before .before .before .before in
+    let at-waiting = at-put-waiting .before .before in
+    let at-put-totals = at-waiting .before .before .before .before in
+    let at-totals = at-put-totals .before .before in
+    let r = at-recount .recount in
+    let w = at-put-waiting .put-waiting in
+    let h = at-waiting .waiting in
+    let v = at-put-totals .put-totals in
+    let t = at-totals .totals in
+    let a = at-totals .before .before .before .args in
     closed-is (whole (a .words .now)) (whole (v .last .0)) (whole (w .last .0)) (whole (r .last .0)) (a .channel) (a .o) (t .result) (h .result) (t .ensures) (v .ensures)
     (h .ensures) (w .ensures) (r .ensures)
 

@@ -16,14 +16,18 @@ outgoing-group-requires c κs = search needs
 returns : tie.Need-returns
 unfolding noChannel
 returns c =
-    let a = c .before .before .before .before .before .args in
-    rw (c .before .before .before .flow .ensures, c .before .outgoing-group .ensures, none-there (whole (a .words .now)) (sized (a .words .now)) (a .channel) (c .if1 .taken))
+    let at-flow = c .before .before .before in
+    let a = at-flow .before .before .args in
+    rw (at-flow .flow .ensures, c .before .outgoing-group .ensures, none-there (whole (a .words .now)) (sized (a .words .now)) (a .channel) (c .if1 .taken))
 
 numbers-of-requires : tie.Need-numbers-of-requires
 numbers-of-requires c κs = search needs
 
 returns-2 : tie.Need-returns-2
-returns-2 c = rw (c .before .before .before .before .before .before .flow .ensures, c .before .before .before .before .outgoing-group .ensures, c .before .before .numbers-of .ensures)
+returns-2 c =
+    let at-numbers-of = c .before .before in
+    let at-outgoing-group = at-numbers-of .before .before in
+    rw (at-outgoing-group .before .before .flow .ensures, at-outgoing-group .outgoing-group .ensures, at-numbers-of .numbers-of .ensures)
 
 pub counters-at-spec : {M : Type 1} → statement M
 counters-at-spec =

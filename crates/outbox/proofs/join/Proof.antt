@@ -15,7 +15,10 @@ same-length : tie.Need-same-length
 same-length c = search needs
 
 returns : tie.Need-returns
-returns c = rw (sym (c .before .before .before .before .before .before .is-acknowledged .ensures) ∙ c .before .before .before .before .before .if1 .taken, c .before .before .before .before .if2 .taken) (c .before .before .push .ensures)
+returns c =
+    let at-push = c .before .before in
+    let at-if1 = at-push .before .before .before in
+    rw (sym (at-if1 .before .is-acknowledged .ensures) ∙ at-if1 .if1 .taken, at-push .before .before .if2 .taken) (at-push .push .ensures)
 
 push-requires-2 : tie.Need-push-requires-2
 push-requires-2 c κs = search needs
@@ -25,12 +28,13 @@ same-length-2 c = search needs
 
 returns-2 : tie.Need-returns-2
 returns-2 c =
-    let asked = c .before .before .before .before .before .is-acknowledged in
-    let kept = c .before .before .push2 .ensures in
+    let at-push2 = c .before .before in
+    let asked = at-push2 .before .before .before .is-acknowledged in
+    let kept = at-push2 .push2 .ensures in
     ⊎-elim
     (λ w. rw (sym (asked .ensures) ∙ w .0 .taken, w .1 .left) kept)
     (λ w. rw (sym (asked .ensures) ∙ w .left) kept)
-    (c .before .before .before .before .if1 .came)
+    (at-push2 .before .before .if1 .came)
 
 pub join-spec : {M : Type 1} → statement M
 join-spec =

@@ -6,6 +6,19 @@ use Rattle.outbox.proofs.PlaceLaws.{recounted-past, recounted-here}
 use Rattle.outbox.proofs.recount.Statement.{statement}
 use Rattle.outbox.proofs.recount.Tie as tie
 
+-- the places before `slice-known3`
+abbrev to-put-outgoing-group : tie.After-slice-known3 → tie.After-put-outgoing-group
+to-put-outgoing-group c = c .before .before
+
+abbrev to-put-flow : tie.After-slice-known3 → tie.After-put-flow
+to-put-flow c = to-put-outgoing-group c .before .before .before .before
+
+abbrev to-flow : tie.After-slice-known3 → tie.After-flow
+to-flow c = to-put-flow c .before .before
+
+abbrev to-start : tie.After-slice-known3 → tie.Start
+to-start c = to-flow c .before .before .before .before
+
 flow-requires : tie.Need-flow-requires
 flow-requires c κs = search needs
 
@@ -20,10 +33,11 @@ same-length c = search needs
 
 returns : tie.Need-returns
 returns c =
-    let g = c .before .before .before in
-    let f = c .before .before .before .before .before .before .before in
-    let a = c .before .before .before .before .before .before .before .before .before .before .before .before .before .args in
-    recounted-past (whole (a .words .now)) (whole (f .put-flow .last .0)) (whole (g .put-outgoing-group .last .0)) (c .before .before .before .before .before .before .before .before .before .flow .result) (a .k) (c .before .before .before .before .before .before .before .before .before .flow .ensures)
+    let at-slice-known3 = c .before in
+    let g = to-put-outgoing-group at-slice-known3 in
+    let f = to-put-flow at-slice-known3 in
+    let a = to-start at-slice-known3 .args in
+    recounted-past (whole (a .words .now)) (whole (f .put-flow .last .0)) (whole (g .put-outgoing-group .last .0)) (to-flow at-slice-known3 .flow .result) (a .k) (to-flow at-slice-known3 .flow .ensures)
     (f .put-flow .ensures) (g .put-outgoing-group .ensures) (sized (a .words .now)) (a .channel) (c .if1 .taken)
 
 put-outgoing-requires : tie.Need-put-outgoing-requires
@@ -34,12 +48,13 @@ same-length-2 c = search needs
 
 returns-2 : tie.Need-returns-2
 returns-2 c =
-    let n = c .before .before in
-    let g = c .before .before .before .before .before .before .before in
-    let f = c .before .before .before .before .before .before .before .before .before .before .before in
-    let a = c .before .before .before .before .before .before .before .before .before .before .before .before .before .before .before .before .before .args in
-    recounted-here (whole (a .words .now)) (whole (f .put-flow .last .0)) (whole (g .put-outgoing-group .last .0)) (c .before .before .before .before .before .before .before .before .before .before .before .before .before .flow .result) (a .k) (c .before .before .before .before .before .before .before .before .before .before .before .before .before .flow .ensures)
-    (f .put-flow .ensures) (g .put-outgoing-group .ensures) (a .channel) (whole (n .put-outgoing .last .0)) (n .put-outgoing .ensures)
+    let at-put-outgoing = c .before .before in
+    let at-slice-known3 = at-put-outgoing .before .before .before in
+    let g = to-put-outgoing-group at-slice-known3 in
+    let f = to-put-flow at-slice-known3 in
+    let a = to-start at-slice-known3 .args in
+    recounted-here (whole (a .words .now)) (whole (f .put-flow .last .0)) (whole (g .put-outgoing-group .last .0)) (to-flow at-slice-known3 .flow .result) (a .k) (to-flow at-slice-known3 .flow .ensures)
+    (f .put-flow .ensures) (g .put-outgoing-group .ensures) (a .channel) (whole (at-put-outgoing .put-outgoing .last .0)) (at-put-outgoing .put-outgoing .ensures)
 
 pub recount-spec : {M : Type 1} → statement M
 recount-spec =

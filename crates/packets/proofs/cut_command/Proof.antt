@@ -20,13 +20,15 @@ blank-requires-2 c κs = search needs
 
 returns : tie.Need-returns
 returns c =
-    let a = c .before .before .before .before .args in
-    c .blank .ensures ∙ ap (λ (s : Start). cutCommand s (a .channel) (a .fragment)) (sym (c .before .before .start .given .1))
+    let at-start = c .before .before in
+    let a = at-start .before .before .args in
+    c .blank .ensures ∙ ap (λ (s : Start). cutCommand s (a .channel) (a .fragment)) (sym (at-start .start .given .1))
 
 returns-2 : tie.Need-returns-2
 returns-2 c =
-    let a = c .before .before .before .before .args in
-    c .blank2 .ensures ∙ ap (λ (s : Start). cutCommand s (a .channel) (a .fragment)) (sym (c .before .before .start2 .given .1))
+    let at-start2 = c .before .before in
+    let a = at-start2 .before .before .args in
+    c .blank2 .ensures ∙ ap (λ (s : Start). cutCommand s (a .channel) (a .fragment)) (sym (at-start2 .start2 .given .1))
 
 pub cut-command-spec : {M : Type 1} → statement M
 cut-command-spec =

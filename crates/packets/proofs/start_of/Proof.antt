@@ -19,8 +19,9 @@ next-requires c κs = search needs
 
 returns : tie.Need-returns
 returns c =
-    let loose = sym (c .before .before .before .before .before .before .is-set .ensures) ∙ c .before .before .before .before .before .if1 .taken in
-    let quiet = sym (c .before .before .before .before .is-set2 .ensures) ∙ not-true _ (c .before .before .before .if2 .taken) in
+    let at-if2 = c .before .before .before in
+    let loose = sym (at-if2 .before .before .before .is-set .ensures) ∙ at-if2 .before .before .if1 .taken in
+    let quiet = sym (at-if2 .before .is-set2 .ensures) ∙ not-true _ (at-if2 .if2 .taken) in
     let fresh = lt-leb _ _ (c .before .if3 .taken) in
     rw (loose, quiet, fresh) (ap (λ (n : ℕ). start.Unreliable (record { 0 = n })) (c .next .ensures))
 

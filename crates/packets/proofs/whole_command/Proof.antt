@@ -22,7 +22,8 @@ blank-requires-2 c κs = search needs
 
 returns-2 : tie.Need-returns-2
 returns-2 c =
-    let sequenced = sym (c .before .before .before .before .unsequenced .ensures) ∙ c .before .before .before .if1 .left in
+    let at-if1 = c .before .before .before in
+    let sequenced = sym (at-if1 .before .unsequenced .ensures) ∙ at-if1 .if1 .left in
     rw (sequenced, sym (c .before .before .is-set .ensures) ∙ c .before .if2 .taken) (c .blank2 .ensures)
 
 blank-requires-3 : tie.Need-blank-requires-3
@@ -30,18 +31,20 @@ blank-requires-3 c κs = search needs
 
 returns-3 : tie.Need-returns-3
 returns-3 c =
-    let m = c .before .before .before .before in
+    let at-if2 = c .before .before .before in
+    let m = at-if2 .before in
     let sequenced = sym (m .before .before .unsequenced .ensures) ∙ m .before .if1 .left in
-    rw (sequenced, sym (m .is-set .ensures) ∙ c .before .before .before .if2 .left, le-leb _ _ (c .before .if3 .taken)) (c .blank3 .ensures)
+    rw (sequenced, sym (m .is-set .ensures) ∙ at-if2 .if2 .left, le-leb _ _ (c .before .if3 .taken)) (c .blank3 .ensures)
 
 blank-requires-4 : tie.Need-blank-requires-4
 blank-requires-4 c κs = search needs
 
 returns-4 : tie.Need-returns-4
 returns-4 c =
-    let m = c .before .before .before .before in
+    let at-if2 = c .before .before .before in
+    let m = at-if2 .before in
     let sequenced = sym (m .before .before .unsequenced .ensures) ∙ m .before .if1 .left in
-    rw (sequenced, sym (m .is-set .ensures) ∙ c .before .before .before .if2 .left, lt-leb _ _ (c .before .if3 .left)) (c .blank4 .ensures)
+    rw (sequenced, sym (m .is-set .ensures) ∙ at-if2 .if2 .left, lt-leb _ _ (c .before .if3 .left)) (c .blank4 .ensures)
 
 pub whole-command-spec : {M : Type 1} → statement M
 whole-command-spec =

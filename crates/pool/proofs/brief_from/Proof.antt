@@ -45,14 +45,15 @@ shared-slice-read-t21 c = search needs
 
 returns : tie.Need-returns
 returns c =
+    let at-low82 = c .before .before .before .before .before .before .before in
+    let at-start = at-low82 .before .before .before .before .before .before .before in
     let a = c .before in
     let l = a .before .before in
-    let h = l .before .before .before .before in
-    let b = h .before .before in
+    let b = at-low82 .before .before in
     let r = b .before .before in
-    let part = r .before .before .before .args .part .now in
-    brief-made part (r .low16 .result) (b .low8 .result) (h .low82 .result) (l .low162 .result) (a .low163 .result)
-    (r .low16 .ensures) (b .low8 .ensures) (h .low82 .ensures) (l .low162 .ensures) (a .low163 .ensures)
+    let part = at-start .args .part .now in
+    brief-made part (r .low16 .result) (b .low8 .result) (at-low82 .low82 .result) (l .low162 .result) (a .low163 .result)
+    (r .low16 .ensures) (b .low8 .ensures) (at-low82 .low82 .ensures) (l .low162 .ensures) (a .low163 .ensures)
 
 pub brief-from-spec : {M : Type 1} → statement M
 brief-from-spec =

@@ -36,13 +36,13 @@ same-length c = search needs
 
 returns-2 : tie.Need-returns-2
 returns-2 c =
-    let k = c .before .before in
-    let w = k .before .before .before .before .before .before in
-    let t = w .before in
+    let at-copy = c .before .before in
+    let at-struct-known = at-copy .before .before .before .before .before .before in
+    let t = at-struct-known .before in
     let s = t .before .before in
     let a = s .args in
-    ap inSlotsOf (k .copy .ensures)
-    ∙ in-slots-put (a .pool .now) (a .i) (a .slot) (t .if1 .left) (s .pre) (in-widths (a .slot) (w .struct-known .given))
+    ap inSlotsOf (at-copy .copy .ensures)
+    ∙ in-slots-put (a .pool .now) (a .i) (a .slot) (t .if1 .left) (s .pre) (in-widths (a .slot) (at-struct-known .struct-known .given))
 
 pub put-in-spec : {M : Type 1} → statement M
 put-in-spec =

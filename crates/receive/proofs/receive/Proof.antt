@@ -9,6 +9,13 @@ use Rattle.receive.proofs.Receiving.{receive-empty, receive-lent}
 use Rattle.receive.proofs.receive.Statement.{statement}
 use Rattle.receive.proofs.receive.Tie as tie
 
+-- the places before `head`
+abbrev to-enum-told : tie.After-head → tie.After-enum-told
+to-enum-told c = c .before .before .before
+
+abbrev to-start : tie.After-head → tie.Start
+to-start c = to-enum-told c .before .before .before .before .before
+
 ask-requires : tie.Need-ask-requires
 ask-requires c κs = search needs
 
@@ -17,10 +24,10 @@ enum-known-asked c = search needs
 
 returns : tie.Need-returns
 returns c =
-    let g = c .before .before .before in
-    let b = g .before .before .before in
+    let at-ask = c .before .before .before in
+    let b = at-ask .before .before .before in
     let p = whole (b .args .words .now) in
-    let a : AtGate (b .args .settings) Nothing p = record { gate = g .ask .result; is = g .ask .ensures } in
+    let a : AtGate (b .args .settings) Nothing p = record { gate = at-ask .ask .result; is = at-ask .ask .ensures } in
     let k = c .before .asked .given in
     came-shut a p (receivesSound p) answerOf _ (k .0 .0) refl (k .1)
 
@@ -38,13 +45,13 @@ enum-told-2 c = search needs
 
 returns-2 : tie.Need-returns-2
 returns-2 c =
-    let h = c .before .before in
-    let o = h .before .before .before in
+    let at-head = c .before .before in
+    let o = to-enum-told at-head in
     let g = o .before .before in
-    let b = g .before .before .before in
+    let b = to-start at-head in
     let p = whole (b .args .words .now) in
     let a : AtGate (b .args .settings) Nothing p = record { gate = g .ask .result; is = g .ask .ensures } in
-    receive-empty (b .args .settings) p a (o .enum-told .given .1) (h .head .result) (h .head .ensures) (c .enum-told2 .given .1)
+    receive-empty (b .args .settings) p a (o .enum-told .given .1) (at-head .head .result) (at-head .head .ensures) (c .enum-told2 .given .1)
 
 cast-incoming-at : tie.Need-cast-incoming-at
 cast-incoming-at c = search needs
@@ -66,20 +73,21 @@ put-waiting-requires c κs = search needs
 
 returns-3 : tie.Need-returns-3
 returns-3 c =
-    let w = c .before .before in
-    let t = w .before in
-    let l = t .before .before .before in
-    let i = l .before .before in
-    let x = i .before .before .before .before in
-    let h = x .before .before in
-    let o = h .before .before .before in
+    let at-lowered = c .before .before in
+    let at-leave = at-lowered .before .before .before .before in
+    let at-first = at-leave .before .before .before .before .before .before in
+    let at-head = at-first .before .before in
+    let t = at-lowered .before in
+    let i = at-leave .before .before in
+    let h = at-first .before .before in
+    let o = to-enum-told at-head in
     let g = o .before .before in
-    let b = g .before .before .before in
+    let b = to-start at-head in
     let p = whole (b .args .words .now) in
     let a : AtGate (b .args .settings) Nothing p = record { gate = g .ask .result; is = g .ask .ensures } in
-    receive-lent (b .args .settings) p a (o .enum-told .given .1) (h .head .result) (h .head .ensures) (x .first .given .0 .0) (x .first .given .1)
-    (whole (l .leave .last .0)) (whole (c .put-waiting .last .0)) (i .incoming-at .result) (t .waiting .result) (w .lowered .result)
-    (i .incoming-at .ensures) (l .leave .ensures) (t .waiting .ensures) (w .lowered .ensures) (c .put-waiting .ensures)
+    receive-lent (b .args .settings) p a (o .enum-told .given .1) (h .head .result) (h .head .ensures) (at-first .first .given .0 .0) (at-first .first .given .1)
+    (whole (at-leave .leave .last .0)) (whole (c .put-waiting .last .0)) (i .incoming-at .result) (t .waiting .result) (at-lowered .lowered .result)
+    (i .incoming-at .ensures) (at-leave .leave .ensures) (t .waiting .ensures) (at-lowered .lowered .ensures) (c .put-waiting .ensures)
 
 pub receive-spec : {M : Type 1} → statement M
 receive-spec =

@@ -43,12 +43,16 @@ end-requires : tie.Need-end-requires Inv-loop μ-loop
 end-requires c κs = search needs
 
 loop-less : tie.Need-loop-less Inv-loop μ-loop
-loop-less c = omega (arith, c .before .before .before .before .before .before .before .before .before .before .before .before .before .before .before .before .before .loop-test .taken)
+loop-less c =
+    let at-loop-test = c .before .before .before .before .before .before .before .before .before .before .before .before .before .before .before .before .before in
+    omega (arith, at-loop-test .loop-test .taken)
 
 loop-again : tie.Need-loop-again Inv-loop μ-loop
 loop-again c =
-    let l = c .before .before .before .before .before .before .before .before .before .before .before .before .before .before .before .before .before .before in
-    (search (needs, c .before .before .before .before .before .before .before .before .before .before .before .before .before .before .input .given, l .loop .inv), search (needs, c .before .before .before .before .store .given, l .loop .inv))
+    let at-store = c .before .before .before .before in
+    let at-input = at-store .before .before .before .before .before .before .before .before .before .before in
+    let at-loop = at-input .before .before .before .before in
+    (search (needs, at-input .input .given, at-loop .loop .inv), search (needs, at-store .store .given, at-loop .loop .inv))
 
 same-length : tie.Need-same-length Inv-loop μ-loop
 same-length c = search needs

@@ -17,9 +17,10 @@ enum-known-asked c = search needs
 
 returns : tie.Need-returns
 returns c =
-    let a = c .before .before .before .before .before .before .args in
+    let at-ask = c .before .before .before in
+    let a = at-ask .before .before .before .args in
     let p = whole (a .words .now) in
-    let g = c .before .before .before .ask in
+    let g = at-ask .ask in
     let asked : AtGate (a .settings) Nothing p = record { gate = g .result; is = g .ensures } in
     let k = c .before .asked .given in
     came-shut asked p (throttlesSound (a .sample) p) answerOf _ (k .0 .0) refl (k .1)
@@ -44,17 +45,18 @@ reply-of-requires c κs = search needs
 
 returns-2 : tie.Need-returns-2
 returns-2 c =
+    let at-throttling = c .before .before .before .before .before .before .before in
+    let at-enum-told = at-throttling .before .before .before in
+    let at-start = at-enum-told .before .before .before .before .before in
     let w = c .before in
     let t = w .before .before in
     let u = t .before in
-    let h = u .before .before .before in
-    let o = h .before .before .before in
-    let g = o .before .before in
-    let a = g .before .before .before .args in
+    let g = at-enum-told .before .before in
+    let a = at-start .args in
     let p = whole (a .words .now) in
     let asked : AtGate (a .settings) Nothing p = record { gate = g .ask .result; is = g .ask .ensures } in
-    came-open asked p (throttlesSound (a .sample) p) answerOf _ _ (o .enum-told .given .1)
-    (throttles-by (a .sample) p _ _ (h .throttling .ensures) (u .trips .ensures) (t .throttle .result .throttling) (t .throttle .ensures .0)
+    came-open asked p (throttlesSound (a .sample) p) answerOf _ _ (at-enum-told .enum-told .given .1)
+    (throttles-by (a .sample) p _ _ (at-throttling .throttling .ensures) (u .trips .ensures) (t .throttle .result .throttling) (t .throttle .ensures .0)
     (t .throttle .result .turn) (t .throttle .ensures .1) _ (c .reply-of .ensures) _ (w .put-throttling .ensures))
 
 pub throttle-spec : {M : Type 1} → statement M

@@ -44,8 +44,9 @@ loop-less c = search needs
 
 loop-again : tie.Need-loop-again Inv-loop μ-loop
 loop-again c =
-    let l = c .before .before .before .loop in
-    let a = c .before .before .before .before .before .args in
+    let at-loop = c .before .before .before in
+    let l = at-loop .loop in
+    let a = at-loop .before .before .args in
     let x : c .number .result ≡ numberAt (now (a .input)) (placeOf (a .head) (a .tail) (l .j)) =
     c .number .ensures ∙ ap (λ (p : ℕ). numberAt (now (a .input)) (p + l .j)) (c .before .from .ensures)
     in (

@@ -28,8 +28,9 @@ build-requires c κs = search needs
 
 returns-2 : tie.Need-returns-2
 returns-2 c =
-    let a = c .before .before .before .before .before .args in
-    let k = c .before .before .before .number in
+    let at-number = c .before .before .before in
+    let a = at-number .before .before .args in
+    let k = at-number .number in
     let row = c .before .asked in
     c .build .ensures ∙ built-at (now (a .input)) (a .head) (a .tail) (k .result) (row .result) (k .ensures) (row .ensures)
 

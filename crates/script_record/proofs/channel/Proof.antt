@@ -29,7 +29,8 @@ put-in-requires c κs = search needs
 
 returns : tie.Need-returns
 returns c =
-    let a = c .before .before .before .before .before .before .before .before .before .before .before .args in
+    let at-start = c .before .before .before .before .before .before .before .before .before .before .before in
+    let a = at-start .args in
     let h = a .c in
     let numbers = h .«outgoing_reliable» .0 ∷ h .«outgoing_unreliable» .0 ∷ h .«incoming_reliable» .0 ∷ h .«incoming_unreliable» .0 ∷ [] in
     let p = c .before .put-all in

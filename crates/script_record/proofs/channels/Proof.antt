@@ -38,10 +38,11 @@ loop-less c = search needs
 
 loop-again : tie.Need-loop-again Inv-loop μ-loop
 loop-again c =
-    let m = c .before .before .before .before in
+    let at-if1 = c .before .before in
+    let m = at-if1 .before .before in
     let a = m .before .args in
     let e : length (a .t2) ≡ 8 = search needs in
-    let h : m .loop .i < a .count = ltb-true (m .loop .i) (a .count) (c .before .before .if1 .taken) in (
+    let h : m .loop .i < a .count = ltb-true (m .loop .i) (a .count) (at-if1 .if1 .taken) in (
       omega arith,
       m .loop .inv .1
           ∙ channel-turn (m .loop .after) (c .channel .result) (a .t2) (a .count) (m .loop .i) _ (omega arith) (omega arith) (c .channel .ensures),

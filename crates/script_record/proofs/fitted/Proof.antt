@@ -42,11 +42,12 @@ loop-less c = search needs
 
 loop-again : tie.Need-loop-again Inv-loop μ-loop
 loop-again c =
-    let m = c .before .before .before .before in
+    let at-width-of = c .before .before in
+    let m = at-width-of .before .before in
     let a = m .before .args in
     let n = length (layout (a .kind)) in
     let e : length (a .t3) ≡ 16 = search needs in
-    let w = c .before .before .width-of in
+    let w = at-width-of .width-of in
     let some : 0 < w .result = ltb-true 0 (w .result) (c .before .if1 .taken) in
     let h = has-number (a .kind) (m .loop .j) (w .result) (w .ensures) some in (
       omega arith,

@@ -35,10 +35,11 @@ is-in-requires c κs = search needs
 
 returns : tie.Need-returns Inv-loop μ-loop
 returns c =
-    let m = c .before .before .before .before .before in
+    let at-if1 = c .before .before .before in
+    let m = at-if1 .before .before in
     let a = m .before .args in
     let e : length (a .t2) ≡ 8 = search needs in
-    let h : m .loop .i < a .count = ltb-true (m .loop .i) (a .count) (c .before .before .before .if1 .taken) in
+    let h : m .loop .i < a .count = ltb-true (m .loop .i) (a .count) (at-if1 .if1 .taken) in
     let found = sym (c .before .is-in .ensures) ∙ c .if2 .taken in
     let hit = m .loop .inv .1 ∙ held-hit (a .t2) (a .count) (m .loop .i) (a .s) _ h (omega arith) found in
     sym (has-right (inItems (a .l .dispatched)) (held (take (a .count) (a .t2))) (a .s) hit)
@@ -51,10 +52,11 @@ loop-less c = search needs
 
 loop-again : tie.Need-loop-again Inv-loop μ-loop
 loop-again c =
-    let m = c .before .before .before .before .before in
+    let at-if1 = c .before .before .before in
+    let m = at-if1 .before .before in
     let a = m .before .args in
     let e : length (a .t2) ≡ 8 = search needs in
-    let h : m .loop .i < a .count = ltb-true (m .loop .i) (a .count) (c .before .before .before .if1 .taken) in
+    let h : m .loop .i < a .count = ltb-true (m .loop .i) (a .count) (at-if1 .if1 .taken) in
     let none = sym (c .before .is-in .ensures) ∙ c .if2 .left in
     (omega arith, m .loop .inv .1 ∙ held-miss (a .t2) (a .count) (m .loop .i) (a .s) _ h (omega arith) none)
 

@@ -20,12 +20,13 @@ put-in-requires c κs = search needs
 
 returns : tie.Need-returns
 returns c =
-    let l = c .before .before .before .before .args .l in
-    let a = c .before .before .before .put-out in
+    let at-put-out = c .before .before .before in
+    let l = at-put-out .before .args .l in
+    let a = at-put-out .put-out in
     let b = c .before .before .put-out2 in
     let d = c .before .put-out3 in
     let r = c .put-in .result in
-    told-then (c .before .before .before .before .args .row) (a .result) r (outRow (l .sent)) (outRow (l .«send_reliable») ++ (outRow (l .outgoing) ++ inRow (l .dispatched))) (a .ensures)
+    told-then (at-put-out .before .args .row) (a .result) r (outRow (l .sent)) (outRow (l .«send_reliable») ++ (outRow (l .outgoing) ++ inRow (l .dispatched))) (a .ensures)
     (told-then (a .result) (b .result) r (outRow (l .«send_reliable»)) (outRow (l .outgoing) ++ inRow (l .dispatched)) (b .ensures)
     (told-then (b .result) (d .result) r (outRow (l .outgoing)) (inRow (l .dispatched)) (d .ensures) (c .put-in .ensures)))
 

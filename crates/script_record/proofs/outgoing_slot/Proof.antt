@@ -37,12 +37,14 @@ command-requires c κs = search needs
 
 returns : tie.Need-returns
 returns c =
-    let a = c .before .before .before .before .before .before .before .before .before .before .before .args in
+    let at-put-all = c .before .before in
+    let at-start = at-put-all .before .before .before .before .before .before .before .before .before in
+    let a = at-start .args in
     let s = a .s in
     let row : ℕ → List ℕ → List ℕ = λ x rest.
     s .reliable .0 ∷ s .unreliable .0 ∷ s .sent ∷ s .timeout ∷ s .queued ∷ s .offset ∷ s .length ∷ s .attempts ∷ x ∷ rest
     in
-    let p = c .before .before .put-all in
+    let p = at-put-all .put-all in
     told-then (a .row) (p .result) (c .command .result) (row (boolByte (s .packet)) []) (rowOf (s .command)) (p .ensures) (c .command .ensures)
     ∙ ap (λ (x : ℕ). told (a .row) (row x (rowOf (s .command)))) (bit (s .packet))
 

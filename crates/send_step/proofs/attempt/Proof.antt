@@ -22,12 +22,15 @@ same-length c = search needs
 
 returns : tie.Need-returns
 returns c =
-    let t = c .before .before .before .before .attempted in
-    let a = c .before .before .before .before .before .before .before .before .before .before .args in
+    let at-put-attempt = c .before .before in
+    let at-trips = at-put-attempt .before .before .before in
+    let at-outgoing-at = at-trips .before .before in
+    let t = at-put-attempt .before .before .attempted in
+    let a = at-outgoing-at .before .before .before .args in
     let p = whole (a .words .now) in
-    let is = attempt-out p (a .s) (a .time) (t .result) (c .before .before .before .before .before .before .before .outgoing-at .result) (c .before .before .before .before .before .trips .result) (c .before .before .before .before .before .before .before .outgoing-at .ensures)
-    (c .before .before .before .before .before .trips .ensures) (t .ensures) in
-    (is, attempt-kept p (a .s) (a .time) (t .result) (whole (c .before .before .put-attempt .last .0)) is (c .before .before .put-attempt .ensures))
+    let is = attempt-out p (a .s) (a .time) (t .result) (at-outgoing-at .outgoing-at .result) (at-trips .trips .result) (at-outgoing-at .outgoing-at .ensures)
+    (at-trips .trips .ensures) (t .ensures) in
+    (is, attempt-kept p (a .s) (a .time) (t .result) (whole (at-put-attempt .put-attempt .last .0)) is (at-put-attempt .put-attempt .ensures))
 
 pub attempt-spec : {M : Type 1} → statement M
 attempt-spec =

@@ -19,8 +19,11 @@ same-length c = search needs
 
 returns : tie.Need-returns
 returns c =
-    carried (whole (c .before .before .before .before .before .before .before .before .args .words .now)) (whole (c .before .before .put-flow .last .0)) (c .before .before .before .before .before .flow .result) (c .before .before .before .before .flow-sent .result) (c .before .before .before .before .before .before .before .before .args .o)
-    (c .before .before .before .before .before .flow .ensures) (c .before .before .before .before .flow-sent .ensures) (c .before .before .put-flow .ensures)
+    let at-put-flow = c .before .before in
+    let at-flow-sent = at-put-flow .before .before in
+    let at-start = at-flow-sent .before .before .before .before in
+    carried (whole (at-start .args .words .now)) (whole (at-put-flow .put-flow .last .0)) (at-flow-sent .before .flow .result) (at-flow-sent .flow-sent .result) (at-start .args .o)
+    (at-flow-sent .before .flow .ensures) (at-flow-sent .flow-sent .ensures) (at-put-flow .put-flow .ensures)
 
 pub carry-spec : {M : Type 1} → statement M
 carry-spec =

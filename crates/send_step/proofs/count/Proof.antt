@@ -19,8 +19,11 @@ same-length c = search needs
 
 returns : tie.Need-returns
 returns c =
-    counted (whole (c .before .before .before .before .before .before .before .before .args .words .now)) (whole (c .before .before .put-loss .last .0)) (c .before .before .before .before .before .loss .result) (c .before .before .before .before .packet-sent .result)
-    (c .before .before .before .before .before .loss .ensures) (c .before .before .before .before .packet-sent .ensures) (c .before .before .put-loss .ensures)
+    let at-put-loss = c .before .before in
+    let at-packet-sent = at-put-loss .before .before in
+    let at-start = at-packet-sent .before .before .before .before in
+    counted (whole (at-start .args .words .now)) (whole (at-put-loss .put-loss .last .0)) (at-packet-sent .before .loss .result) (at-packet-sent .packet-sent .result)
+    (at-packet-sent .before .loss .ensures) (at-packet-sent .packet-sent .ensures) (at-put-loss .put-loss .ensures)
 
 pub count-spec : {M : Type 1} → statement M
 count-spec =

@@ -6,6 +6,16 @@ use borrow.Author.Needs.{needs}
 use Rattle.send_step.proofs.move_on.Statement.{statement}
 use Rattle.send_step.proofs.move_on.Tie as tie
 
+-- the places before `is-acknowledged`
+abbrev to-remove : tie.After-is-acknowledged → tie.After-remove
+to-remove c = c .before .before .before
+
+abbrev to-out-for : tie.After-is-acknowledged → tie.After-out-for
+to-out-for c = to-remove c .before .before
+
+abbrev to-start : tie.After-is-acknowledged → tie.Start
+to-start c = to-out-for c .before .before
+
 out-for-requires : tie.Need-out-for-requires
 out-for-requires c κs = search needs
 
@@ -23,22 +33,25 @@ same-length c = search needs
 
 returns : tie.Need-returns
 returns c =
-    let a = c .before .before .before .before .before .before .before .before .before .before .before .before .args in
-    let n = c .before .before .before .before .before .before .before .before .before .before .out-for in
-    let r = c .before .before .before .before .before .before .before .before .remove in
-    moved (whole (a .words .now)) (a .q) (a .s) (a .o) (n .result) (n .ensures) (whole (r .last .0)) (r .ensures) (whole (c .before .before .push .last .0))
-    (sym (c .before .before .before .before .before .is-acknowledged .ensures) ∙ c .before .before .before .before .if1 .taken) (c .before .before .push .ensures)
+    let at-push = c .before .before in
+    let at-is-acknowledged = at-push .before .before .before in
+    let a = to-start at-is-acknowledged .args in
+    let n = to-out-for at-is-acknowledged .out-for in
+    let r = to-remove at-is-acknowledged .remove in
+    moved (whole (a .words .now)) (a .q) (a .s) (a .o) (n .result) (n .ensures) (whole (r .last .0)) (r .ensures) (whole (at-push .push .last .0))
+    (sym (at-is-acknowledged .is-acknowledged .ensures) ∙ at-push .before .before .if1 .taken) (at-push .push .ensures)
 
 same-length-2 : tie.Need-same-length-2
 same-length-2 c = search needs
 
 returns-2 : tie.Need-returns-2
 returns-2 c =
-    let a = c .before .before .before .before .before .before .before .before .args in
-    let n = c .before .before .before .before .before .before .out-for in
-    let r = c .before .before .before .before .remove in
+    let at-is-acknowledged = c .before in
+    let a = to-start at-is-acknowledged .args in
+    let n = to-out-for at-is-acknowledged .out-for in
+    let r = to-remove at-is-acknowledged .remove in
     freed (whole (a .words .now)) (a .q) (a .s) (a .o) (n .result) (n .ensures) (whole (r .last .0)) (r .ensures)
-    (sym (c .before .is-acknowledged .ensures) ∙ c .if1 .left)
+    (sym (at-is-acknowledged .is-acknowledged .ensures) ∙ c .if1 .left)
 
 pub move-on-spec : {M : Type 1} → statement M
 move-on-spec =

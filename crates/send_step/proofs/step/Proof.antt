@@ -16,6 +16,16 @@ use borrow.Author.Needs.{needs}
 use Rattle.send_step.proofs.step.Statement.{statement}
 use Rattle.send_step.proofs.step.Tie as tie
 
+-- the places before `first-of`
+abbrev to-enum-told : tie.After-first-of → tie.After-enum-told
+to-enum-told c = c .before .before .before
+
+abbrev to-ask : tie.After-first-of → tie.After-ask
+to-ask c = to-enum-told c .before .before
+
+abbrev to-start : tie.After-first-of → tie.Start
+to-start c = to-ask c .before .before .before
+
 ask-requires : tie.Need-ask-requires
 ask-requires c κs = search needs
 
@@ -24,8 +34,9 @@ enum-known-gate c = search needs
 
 returns : tie.Need-returns
 returns c =
-    let k = c .before .before .before .ask in
-    let a = c .before .before .before .before .before .before .args in
+    let at-ask = c .before .before .before in
+    let k = at-ask .ask in
+    let a = at-ask .before .before .before .args in
     let p = whole (a .words .now) in
     let q : AtGate (a .settings) Nothing p = record { gate = k .result; is = k .ensures } in
     let s = c .before .gate .given in
@@ -45,12 +56,13 @@ enum-told-2 c = search needs
 
 returns-2 : tie.Need-returns-2
 returns-2 c =
-    let k = c .before .before .before .before .before .before .before .ask in
-    let a = c .before .before .before .before .before .before .before .before .before .before .args in
+    let at-first-of = c .before .before in
+    let k = to-ask at-first-of .ask in
+    let a = to-start at-first-of .args in
     let p = whole (a .words .now) in
     let q : AtGate (a .settings) Nothing p = record { gate = k .result; is = k .ensures } in
-    let f = c .before .before .first-of in (
-      step-empty (a .settings) (a .q) (a .time) p q (c .before .before .before .before .before .enum-told .given .1) (f .result) (f .ensures)
+    let f = at-first-of .first-of in (
+      step-empty (a .settings) (a .q) (a .time) p q (to-enum-told at-first-of .enum-told .given .1) (f .result) (f .ensures)
           (c .enum-told2 .given .1),
       tt,
     )
@@ -75,18 +87,24 @@ move-on-requires c κs = search needs
 
 returns-3 : tie.Need-returns-3
 returns-3 c =
-    let k = c .before .before .before .before .before .before .before .before .before .before .before .before .before .before .before .before .before .before .ask in
-    let a = c .before .before .before .before .before .before .before .before .before .before .before .before .before .before .before .before .before .before .before .before .before .args in
+    let at-carry = c .before .before in
+    let at-time = at-carry .before .before in
+    let at-count = at-time .before .before in
+    let at-attempt = at-count .before .before in
+    let at-first = at-attempt .before .before .before in
+    let at-first-of = at-first .before .before in
+    let k = to-ask at-first-of .ask in
+    let a = to-start at-first-of .args in
     let p = whole (a .words .now) in
     let q : AtGate (a .settings) Nothing p = record { gate = k .result; is = k .ensures } in
-    let opens = c .before .before .before .before .before .before .before .before .before .before .before .before .before .before .before .before .enum-told .given .1 in
-    let f = c .before .before .before .before .before .before .before .before .before .before .before .before .before .first-of in
-    let s = c .before .before .before .before .before .before .before .before .before .before .before .first .given in
-    let o = c .before .before .before .before .before .before .before .before .attempt in
+    let opens = to-enum-told at-first-of .enum-told .given .1 in
+    let f = at-first-of .first-of in
+    let s = at-first .first .given in
+    let o = at-attempt .attempt in
     let z = o .result in
     let done =
-    stepped p (whole (o .last .0)) (whole (c .before .before .before .before .before .before .count .last .0)) (whole (c .before .before .before .before .time .last .0)) (whole (c .before .before .carry .last .0))
-    (whole (c .move-on .last .0)) (a .q) (s .0 .0) z (o .ensures .1) (c .before .before .before .before .before .before .count .ensures) (c .before .before .before .before .time .ensures) (c .before .before .carry .ensures)
+    stepped p (whole (o .last .0)) (whole (at-count .count .last .0)) (whole (at-time .time .last .0)) (whole (at-carry .carry .last .0))
+    (whole (c .move-on .last .0)) (a .q) (s .0 .0) z (o .ensures .1) (at-count .count .ensures) (at-time .time .ensures) (at-carry .carry .ensures)
     (c .move-on .ensures) in (
       subst (λ (y : Peer). Came answerOf (steps (a .settings) (a .q) (a .time) p) (vr.Head z) y) (sym done)
           (step-slot (a .settings) (a .q) (a .time) p q opens (f .result) (f .ensures) (s .0 .0) (s .1) z

@@ -28,16 +28,17 @@ same-length c = search needs
 
 returns : tie.Need-returns
 returns c =
-    let z = c .before .before in
-    let y = z .before .before .before .before in
-    let x = y .before .before .before .before in
-    let f = x .before .before in
+    let at-put-flow = c .before .before in
+    let at-put-loss = at-put-flow .before .before .before .before in
+    let at-put-times = at-put-loss .before .before .before .before in
+    let at-start = at-put-times .before .before .before .before .before .before .before .before .before in
+    let f = at-put-times .before .before in
     let l = f .before .before in
     let t = l .before .before in
-    let a = t .before .before .before .args in
-    settle-is (whole (a .words .now)) (whole (x .put-times .last .0)) (whole (y .put-loss .last .0)) (whole (z .put-flow .last .0)) (a .w)
+    let a = at-start .args in
+    settle-is (whole (a .words .now)) (whole (at-put-times .put-times .last .0)) (whole (at-put-loss .put-loss .last .0)) (whole (at-put-flow .put-flow .last .0)) (a .w)
     (t .times .result) (l .loss .result) (f .flow .result) (t .times .ensures) (l .loss .ensures) (f .flow .ensures)
-    (x .put-times .ensures) (y .put-loss .ensures) (z .put-flow .ensures)
+    (at-put-times .put-times .ensures) (at-put-loss .put-loss .ensures) (at-put-flow .put-flow .ensures)
 
 pub settle-spec : {M : Type 1} → statement M
 settle-spec =

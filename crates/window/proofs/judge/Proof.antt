@@ -18,7 +18,8 @@ sub-first c = search needs
 
 returns-2 : tie.Need-returns-2
 returns-2 c =
-    let far = sym (c .before .before .before .before .before .distant .ensures) ∙ c .before .before .before .before .if1 .left in
+    let at-if1 = c .before .before .before .before in
+    let far = sym (at-if1 .before .distant .ensures) ∙ at-if1 .if1 .left in
     let here = ne-eqb _ _ (c .if2 .taken) in
     record { base = simp (far, here); words = simp (far, here); answer = simp (far, here) }
 
@@ -27,15 +28,19 @@ marked-requires c κs = search needs
 
 returns-3 : tie.Need-returns-3
 returns-3 c =
-    let far = sym (c .before .before .before .before .before .before .before .distant .ensures) ∙ c .before .before .before .before .before .before .if1 .left in
-    let here = eq-eqb _ _ (c .before .before .if2 .left) in
+    let at-if2 = c .before .before in
+    let at-if1 = at-if2 .before .before .before .before in
+    let far = sym (at-if1 .before .distant .ensures) ∙ at-if1 .if1 .left in
+    let here = eq-eqb _ _ (at-if2 .if2 .left) in
     let again = sym (c .before .marked .ensures) ∙ c .if3 .taken in
     record { base = simp (far, here, again); words = simp (far, here, again); answer = simp (far, here, again) }
 
 returns-4 : tie.Need-returns-4
 returns-4 c =
-    let far = sym (c .before .before .before .before .before .before .before .distant .ensures) ∙ c .before .before .before .before .before .before .if1 .left in
-    let here = eq-eqb _ _ (c .before .before .if2 .left) in
+    let at-if2 = c .before .before in
+    let at-if1 = at-if2 .before .before .before .before in
+    let far = sym (at-if1 .before .distant .ensures) ∙ at-if1 .if1 .left in
+    let here = eq-eqb _ _ (at-if2 .if2 .left) in
     let again = sym (c .before .marked .ensures) ∙ c .if3 .left in
     record { base = simp (far, here, again); words = simp (far, here, again); answer = simp (far, here, again) }
 

@@ -25,8 +25,9 @@ brief-at-requires-2 c κs = search needs
 
 returns : tie.Need-returns
 returns c =
-    let a = c .before .before .before .before .before .args in
-    let g = c .before .before .slot .given in
+    let at-slot = c .before .before in
+    let a = at-slot .before .before .before .args in
+    let g = at-slot .slot .given in
     held-is (whole (a .words .now)) (a .slot) (c .brief-at .result) (Slot (g .0 .0)) (g .1) (c .brief-at .ensures)
 
 returns-2 : tie.Need-returns-2

@@ -33,9 +33,11 @@ same-length c = search needs
 
 returns : tie.Need-returns
 returns c =
-    let a = c .before .before .before .before .before .before .before .before .args in
-    let g = c .before .before .before .before .before .spot .given in
-    let r = c .before .before .remove in
+    let at-remove = c .before .before in
+    let at-spot = at-remove .before .before .before in
+    let a = at-spot .before .before .before .args in
+    let g = at-spot .spot .given in
+    let r = at-remove .remove in
     left-is (a .spot) (spot.Sent (g .0 .0)) (whole (a .words .now)) (whole (r .last .0)) (g .1) (r .ensures)
 
 same-length-2 : tie.Need-same-length-2
@@ -43,9 +45,11 @@ same-length-2 c = search needs
 
 returns-2 : tie.Need-returns-2
 returns-2 c =
-    let a = c .before .before .before .before .before .before .before .before .args in
-    let g = c .before .before .before .before .before .spot2 .given in
-    let r = c .before .before .remove2 in
+    let at-remove2 = c .before .before in
+    let at-spot2 = at-remove2 .before .before .before in
+    let a = at-spot2 .before .before .before .args in
+    let g = at-spot2 .spot2 .given in
+    let r = at-remove2 .remove2 in
     left-is (a .spot) (spot.Outgoing (g .0 .0)) (whole (a .words .now)) (whole (r .last .0)) (g .1) (r .ensures)
 
 same-length-3 : tie.Need-same-length-3
@@ -53,9 +57,11 @@ same-length-3 c = search needs
 
 returns-3 : tie.Need-returns-3
 returns-3 c =
-    let a = c .before .before .before .before .before .before .before .before .args in
-    let g = c .before .before .before .before .before .spot3 .given in
-    let r = c .before .before .remove3 in
+    let at-remove3 = c .before .before in
+    let at-spot3 = at-remove3 .before .before .before in
+    let a = at-spot3 .before .before .before .args in
+    let g = at-spot3 .spot3 .given in
+    let r = at-remove3 .remove3 in
     left-is (a .spot) (spot.Reliable (g .0 .0)) (whole (a .words .now)) (whole (r .last .0)) (g .1) (r .ensures)
 
 returns-4 : tie.Need-returns-4

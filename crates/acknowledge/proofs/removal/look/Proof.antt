@@ -17,9 +17,10 @@ in-sent-requires c κs = search needs
 
 returns-2 : tie.Need-returns-2
 returns-2 c =
-    let a = c .before .before .before .before .before .args in
+    let at-if1 = c .before .before .before in
+    let a = at-if1 .before .before .args in
     let b = c .before .before .brief-at in
-    look-brief (a .words .now) (a .sent) (a .number .0) (a .channel) (a .s) (c .before .before .before .if1 .left) (b .result) (c .in-sent .result) (b .ensures)
+    look-brief (a .words .now) (a .sent) (a .number .0) (a .channel) (a .s) (at-if1 .if1 .left) (b .result) (c .in-sent .result) (b .ensures)
     (rw (c .before .if2 .taken) (c .in-sent .ensures))
 
 in-queue-requires : tie.Need-in-queue-requires
@@ -27,9 +28,10 @@ in-queue-requires c κs = search needs
 
 returns-3 : tie.Need-returns-3
 returns-3 c =
-    let a = c .before .before .before .before .before .args in
+    let at-if1 = c .before .before .before in
+    let a = at-if1 .before .before .args in
     let b = c .before .before .brief-at in
-    look-brief (a .words .now) (a .sent) (a .number .0) (a .channel) (a .s) (c .before .before .before .if1 .left) (b .result) (c .in-queue .result) (b .ensures)
+    look-brief (a .words .now) (a .sent) (a .number .0) (a .channel) (a .s) (at-if1 .if1 .left) (b .result) (c .in-queue .result) (b .ensures)
     (rw (c .before .if2 .left) (c .in-queue .ensures))
 
 pub look-spec : {M : Type 1} → statement M

@@ -33,6 +33,13 @@ Inv-loop words list number channel sent n k₀ k =
 abbrev μ-loop : tie.MeasureT-loop
 μ-loop words list number channel sent n k₀ k = n - k
 
+-- the places before `look`
+abbrev to-loop : tie.After-look Inv-loop μ-loop → tie.At-loop Inv-loop μ-loop
+to-loop c = c .before .before .before
+
+abbrev to-start : tie.After-look Inv-loop μ-loop → tie.Start Inv-loop μ-loop
+to-start c = to-loop c .before .before .before
+
 count-requires : tie.Need-count-requires Inv-loop μ-loop
 count-requires c κs = search needs
 
@@ -54,20 +61,22 @@ look-requires c κs = search needs
 
 returns : tie.Need-returns Inv-loop μ-loop
 returns c =
-    let l = c .before .look in
-    let s = c .before .before .slot-at in
-    let m = c .before .before .before .before .loop in
-    let a = c .before .before .before .before .before .before .before .args in
+    let at-look = c .before in
+    let l = at-look .look in
+    let s = at-look .before .slot-at in
+    let m = to-loop at-look .loop in
+    let a = to-start at-look .args in
     let ws = a .words .now in
     turn-found (made ws (a .number) (a .channel) (a .sent)) (named ws (a .list)) _ (m .k) (m .inv .1) (m .inv .2) (omega arith) (s .result) (l .result)
     (s .ensures) (l .ensures) (c .if1 .taken)
 
 returns-2 : tie.Need-returns-2 Inv-loop μ-loop
 returns-2 c =
-    let l = c .before .before .look in
-    let s = c .before .before .before .slot-at in
-    let m = c .before .before .before .before .before .loop in
-    let a = c .before .before .before .before .before .before .before .before .args in
+    let at-look = c .before .before in
+    let l = at-look .look in
+    let s = at-look .before .slot-at in
+    let m = to-loop at-look .loop in
+    let a = to-start at-look .args in
     let ws = a .words .now in
     turn-ends (made ws (a .number) (a .channel) (a .sent)) (named ws (a .list)) _ (m .k) (m .inv .1) (m .inv .2) (omega arith) (s .result) (l .result)
     (s .ensures) (l .ensures) (c .before .if1 .left) (c .if2 .taken)
@@ -80,10 +89,11 @@ loop-less c = search needs
 
 loop-again : tie.Need-loop-again Inv-loop μ-loop
 loop-again c =
-    let l = c .before .before .look in
-    let s = c .before .before .before .slot-at in
-    let m = c .before .before .before .before .before .loop in
-    let a = c .before .before .before .before .before .before .before .before .args in
+    let at-look = c .before .before in
+    let l = at-look .look in
+    let s = at-look .before .slot-at in
+    let m = to-loop at-look .loop in
+    let a = to-start at-look .args in
     let ws = a .words .now in
     let on = turn-goes-on (made ws (a .number) (a .channel) (a .sent)) (named ws (a .list)) _ (m .k) (m .inv .1) (m .inv .2) (omega arith) (s .result) (l .result)
     (s .ensures) (l .ensures) (c .if2 .left) in

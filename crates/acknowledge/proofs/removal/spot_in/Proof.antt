@@ -15,6 +15,19 @@ use Rattle.acknowledge.proofs.removal.spot_in.Tie as tie
 abbrev made : Peer → Reliable → ℕ → Bool → ℕ → ℕ
 made p number channel sent s = at (map (lookOf sent (number .0) channel) (p .outgoing)) s
 
+-- the places before `seek3`
+abbrev to-seek2 : tie.After-seek3 → tie.After-seek2
+to-seek2 c = c .before .before .before
+
+abbrev to-enum-told : tie.After-seek3 → tie.After-enum-told
+to-enum-told c = to-seek2 c .before
+
+abbrev to-seek : tie.After-seek3 → tie.After-seek
+to-seek c = to-enum-told c .before .before
+
+abbrev to-start : tie.After-seek3 → tie.Start
+to-start c = to-seek c .before .before
+
 seek-requires : tie.Need-seek-requires
 seek-requires c κs = search needs
 
@@ -23,9 +36,10 @@ enum-known-f c = search needs
 
 returns : tie.Need-returns
 returns c =
-    let a = c .before .before .before .before .before .args in
+    let at-seek = c .before .before .before in
+    let a = at-seek .before .before .args in
     let p = whole (a .words .now) in
-    let s = c .before .before .before .seek in
+    let s = at-seek .seek in
     spot-sent (made p (a .number) (a .channel) true) (made p (a .number) (a .channel) false) (p .lists) (s .result) (s .ensures) _ (c .before .f .given .1)
 
 enum-told : tie.Need-enum-told
@@ -39,11 +53,13 @@ enum-known-f-2 c = search needs
 
 returns-2 : tie.Need-returns-2
 returns-2 c =
-    let a = c .before .before .before .before .before .before .before .before .args in
+    let at-seek2 = c .before .before .before in
+    let at-seek = at-seek2 .before .before .before in
+    let a = at-seek .before .before .args in
     let p = whole (a .words .now) in
-    let s = c .before .before .before .before .before .before .seek in
-    let q = c .before .before .before .seek2 in
-    spot-outgoing (made p (a .number) (a .channel) true) (made p (a .number) (a .channel) false) (p .lists) (s .result) (s .ensures) (c .before .before .before .before .enum-told .given .1)
+    let s = at-seek .seek in
+    let q = at-seek2 .seek2 in
+    spot-outgoing (made p (a .number) (a .channel) true) (made p (a .number) (a .channel) false) (p .lists) (s .result) (s .ensures) (at-seek2 .before .enum-told .given .1)
     (q .result) (q .ensures) _ (c .before .f2 .given .1)
 
 enum-told-2 : tie.Need-enum-told-2
@@ -57,26 +73,28 @@ enum-known-f-3 c = search needs
 
 returns-3 : tie.Need-returns-3
 returns-3 c =
-    let a = c .before .before .before .before .before .before .before .before .before .before .before .args in
+    let at-seek3 = c .before .before .before in
+    let a = to-start at-seek3 .args in
     let p = whole (a .words .now) in
-    let s = c .before .before .before .before .before .before .before .before .before .seek in
-    let q = c .before .before .before .before .before .before .seek2 in
-    let r = c .before .before .before .seek3 in
-    spot-reliable (made p (a .number) (a .channel) true) (made p (a .number) (a .channel) false) (p .lists) (s .result) (s .ensures) (c .before .before .before .before .before .before .before .enum-told .given .1)
-    (q .result) (q .ensures) (c .before .before .before .before .enum-told2 .given .1) (r .result) (r .ensures) _ (c .before .f3 .given .1)
+    let s = to-seek at-seek3 .seek in
+    let q = to-seek2 at-seek3 .seek2 in
+    let r = at-seek3 .seek3 in
+    spot-reliable (made p (a .number) (a .channel) true) (made p (a .number) (a .channel) false) (p .lists) (s .result) (s .ensures) (to-enum-told at-seek3 .enum-told .given .1)
+    (q .result) (q .ensures) (at-seek3 .before .enum-told2 .given .1) (r .result) (r .ensures) _ (c .before .f3 .given .1)
 
 enum-told-3 : tie.Need-enum-told-3
 enum-told-3 c = search needs
 
 returns-4 : tie.Need-returns-4
 returns-4 c =
-    let a = c .before .before .before .before .before .before .before .before .before .before .args in
+    let at-seek3 = c .before .before in
+    let a = to-start at-seek3 .args in
     let p = whole (a .words .now) in
-    let s = c .before .before .before .before .before .before .before .before .seek in
-    let q = c .before .before .before .before .before .seek2 in
-    let r = c .before .before .seek3 in
-    spot-nowhere (made p (a .number) (a .channel) true) (made p (a .number) (a .channel) false) (p .lists) (s .result) (s .ensures) (c .before .before .before .before .before .before .enum-told .given .1)
-    (q .result) (q .ensures) (c .before .before .before .enum-told2 .given .1) (r .result) (r .ensures) (c .enum-told3 .given .1)
+    let s = to-seek at-seek3 .seek in
+    let q = to-seek2 at-seek3 .seek2 in
+    let r = at-seek3 .seek3 in
+    spot-nowhere (made p (a .number) (a .channel) true) (made p (a .number) (a .channel) false) (p .lists) (s .result) (s .ensures) (to-enum-told at-seek3 .enum-told .given .1)
+    (q .result) (q .ensures) (at-seek3 .before .enum-told2 .given .1) (r .result) (r .ensures) (c .enum-told3 .given .1)
 
 pub spot-in-spec : {M : Type 1} → statement M
 spot-in-spec =

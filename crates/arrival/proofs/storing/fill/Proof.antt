@@ -35,9 +35,11 @@ same-length c = search needs
 
 returns-3 : tie.Need-returns-3
 returns-3 c =
-    let m = c .before .before .before .before in
-    let a = m .before .before .before .before .args in
-    rw (filled-is (a .store .now) (a .s) (a .datagram .now) (a .place) (a .n) (m .before .if1 .left) (m .if2 .left)) (c .before .before .copy .ensures)
+    let at-copy = c .before .before in
+    let at-if2 = at-copy .before .before in
+    let at-start = at-if2 .before .before .before .before in
+    let a = at-start .args in
+    rw (filled-is (a .store .now) (a .s) (a .datagram .now) (a .place) (a .n) (at-if2 .before .if1 .left) (at-if2 .if2 .left)) (at-copy .copy .ensures)
 
 pub fill-spec : {M : Type 1} → statement M
 fill-spec =

@@ -36,15 +36,17 @@ loop-less c = search needs
 
 loop-again : tie.Need-loop-again Inv-loop μ-loop
 loop-again c =
-    let m = c .before .before .before .before .before .before in
-    let a = m .before .before .before .args in
-    let k = c .before .before .mark in
+    let at-mark = c .before .before in
+    let at-if1 = at-mark .before .before in
+    let at-loop = at-if1 .before .before in
+    let a = at-loop .before .before .before .args in
+    let k = at-mark .mark in
     let cs = whole (a .words .now) .channels in
-    let h : m .loop .k < a .count = ltb-true (m .loop .k) (a .count) (c .before .before .before .before .if1 .taken) in
-    let low : m .loop .k < length cs = rw (sized (a .words .now) .channels) (search needs) in (
+    let h : at-loop .loop .k < a .count = ltb-true (at-loop .loop .k) (a .count) (at-if1 .if1 .taken) in
+    let low : at-loop .loop .k < length cs = rw (sized (a .words .now) .channels) (search needs) in (
       search needs,
       search needs,
-      m .loop .inv .2 ∙ marks-turn (m .loop .marks) (k .last .1 .1 .0) cs (a .count) (m .loop .k) noChannel h low (k .ensures),
+      at-loop .loop .inv .2 ∙ marks-turn (at-loop .loop .marks) (k .last .1 .1 .0) cs (a .count) (at-loop .loop .k) noChannel h low (k .ensures),
     )
 
 same-length : tie.Need-same-length Inv-loop μ-loop
@@ -52,11 +54,11 @@ same-length c = search needs
 
 returns : tie.Need-returns Inv-loop μ-loop
 returns c =
-    let m = c .before .before in
-    let a = m .before .before .before .args in
+    let at-loop = c .before .before in
+    let a = at-loop .before .before .before .args in
     let cs = take (a .count) (whole (a .words .now) .channels) in
-    let end = part-end (whole (a .words .now) .channels) (m .loop .k) (a .count) (ltb-false (m .loop .k) (a .count) (c .if1 .left)) in
-    sym (m .loop .inv .2 ∙ marks-end (m .loop .marks) (drop (m .loop .k) cs) end)
+    let end = part-end (whole (a .words .now) .channels) (at-loop .loop .k) (a .count) (ltb-false (at-loop .loop .k) (a .count) (c .if1 .left)) in
+    sym (at-loop .loop .inv .2 ∙ marks-end (at-loop .loop .marks) (drop (at-loop .loop .k) cs) end)
 
 same-length-2 : tie.Need-same-length-2 Inv-loop μ-loop
 same-length-2 c = search needs

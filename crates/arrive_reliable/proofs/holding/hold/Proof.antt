@@ -19,10 +19,13 @@ same-length c = search needs
 
 returns : tie.Need-returns
 returns c =
-    let r = c .before .before .insert in
-    let k = c .before .before .before .before .place-of in
-    let o = c .before .before .before .before .before .before .numbers-of in
-    let a = c .before .before .before .before .before .before .before .before .before .args in
+    let at-insert = c .before .before in
+    let at-place-of = at-insert .before .before in
+    let at-numbers-of = at-place-of .before .before in
+    let r = at-insert .insert in
+    let k = at-place-of .place-of in
+    let o = at-numbers-of .numbers-of in
+    let a = at-numbers-of .before .before .before .args in
     held-in (whole (a .words .now)) (whole (r .last .0)) (a .i) (a .number .0) (a .s) (k .result) (o .result) (o .ensures) (k .ensures) (r .ensures)
 
 pub hold-spec : {M : Type 1} → statement M

@@ -24,6 +24,13 @@ Inv-loop words i number n k₀ k =
 abbrev μ-loop : tie.MeasureT-loop
 μ-loop words i number n k₀ k = n - k
 
+-- the places before `struct-known2`
+abbrev to-incoming-at : tie.After-struct-known2 Inv-loop μ-loop → tie.After-incoming-at Inv-loop μ-loop
+to-incoming-at c = c .before .before .before
+
+abbrev to-start : tie.After-struct-known2 Inv-loop μ-loop → tie.Start Inv-loop μ-loop
+to-start c = to-incoming-at c .before .before .before .before .before .before
+
 count-requires : tie.Need-count-requires Inv-loop μ-loop
 count-requires c κs = search needs
 
@@ -41,12 +48,13 @@ incoming-at-requires c κs = search needs
 
 returns : tie.Need-returns Inv-loop μ-loop
 returns c =
-    let i = c .before .before .before .before in
+    let at-struct-known2 = c .before in
+    let i = to-incoming-at at-struct-known2 in
     let s = i .before in
     let t = s .before in
     let m = t .before in
     let n = m .before .count in
-    let a = m .before .before .before .args in
+    let a = to-start at-struct-known2 .args in
     let p = whole (a .words .now) in
     let xs = inItems (heldOf p (a .i)) in
     let low : n .result ≤ length xs = omega (arith, n .ensures) in
@@ -63,12 +71,13 @@ loop-less c = search needs
 
 loop-again : tie.Need-loop-again Inv-loop μ-loop
 loop-again c =
-    let i = c .before .before .before .before in
+    let at-struct-known2 = c .before in
+    let i = to-incoming-at at-struct-known2 in
     let s = i .before in
     let t = s .before in
     let m = t .before in
     let n = m .before .count in
-    let a = m .before .before .before .args in
+    let a = to-start at-struct-known2 .args in
     let p = whole (a .words .now) in
     let xs = inItems (heldOf p (a .i)) in
     let h = t .loop-test .taken in

@@ -6,6 +6,10 @@ use Rattle.arrive_reliable.proofs.HoldingPlaces.{passed-same, passed-fa
 use Rattle.arrive_reliable.proofs.holding.is_passed.Statement.{statement}
 use Rattle.arrive_reliable.proofs.holding.is_passed.Tie as tie
 
+-- the places before `number-distance`
+abbrev to-start : tie.After-number-distance → tie.Start
+to-start c = c .before .before .before
+
 numbers-of-requires : tie.Need-numbers-of-requires
 numbers-of-requires c κs = search needs
 
@@ -14,17 +18,19 @@ number-distance-requires c κs = search needs
 
 returns : tie.Need-returns
 returns c =
-    let d = c .before .number-distance in
-    let o = c .before .before .numbers-of in
-    let a = c .before .before .before .before .args in
+    let at-number-distance = c .before in
+    let d = at-number-distance .number-distance in
+    let o = at-number-distance .before .numbers-of in
+    let a = to-start at-number-distance .args in
     let p = whole (a .words .now) in
     passed-same (p .incoming) (channelAt p (a .i)) (a .number .0) (d .result) (o .result) (o .ensures) (d .ensures) (c .if1 .taken)
 
 returns-2 : tie.Need-returns-2
 returns-2 c =
-    let d = c .before .before .number-distance in
-    let o = c .before .before .before .numbers-of in
-    let a = c .before .before .before .before .before .args in
+    let at-number-distance = c .before .before in
+    let d = at-number-distance .number-distance in
+    let o = at-number-distance .before .numbers-of in
+    let a = to-start at-number-distance .args in
     let p = whole (a .words .now) in
     passed-far (p .incoming) (channelAt p (a .i)) (a .number .0) (d .result) (o .result) (o .ensures) (d .ensures) (c .before .if1 .left) (c .if2 .taken)
 
@@ -33,9 +39,10 @@ holds-requires c κs = search needs
 
 returns-3 : tie.Need-returns-3
 returns-3 c =
-    let d = c .before .before .before .number-distance in
-    let o = c .before .before .before .before .numbers-of in
-    let a = c .before .before .before .before .before .before .args in
+    let at-number-distance = c .before .before .before in
+    let d = at-number-distance .number-distance in
+    let o = at-number-distance .before .numbers-of in
+    let a = to-start at-number-distance .args in
     let p = whole (a .words .now) in
     passed-asked (p .incoming) (channelAt p (a .i)) (a .number .0) (d .result) (o .result) (o .ensures) (d .ensures) (c .before .before .if1 .left) (c .before .if2 .left)
     (c .holds .result) (c .holds .ensures)

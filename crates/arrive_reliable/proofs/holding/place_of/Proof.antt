@@ -25,6 +25,10 @@ Inv-loop words i last d n k₀ k =
 abbrev μ-loop : tie.MeasureT-loop
 μ-loop words i last d n k₀ k = n - k
 
+-- the places before `number-distance2`
+abbrev to-start : tie.After-number-distance2 Inv-loop μ-loop → tie.Start Inv-loop μ-loop
+to-start c = c .before .before .before .before .before .before .before .before
+
 number-distance-requires : tie.Need-number-distance-requires Inv-loop μ-loop
 number-distance-requires c κs = search needs
 
@@ -48,14 +52,15 @@ number-distance-requires-2 c κs = search needs
 
 returns : tie.Need-returns Inv-loop μ-loop
 returns c =
-    let f = c .before .number-distance2 in
-    let i = c .before .before in
+    let at-number-distance2 = c .before in
+    let f = at-number-distance2 .number-distance2 in
+    let i = at-number-distance2 .before in
     let s = i .before in
     let t = s .before in
     let m = t .before in
     let n = m .before .count in
     let d = m .before .before .number-distance in
-    let a = m .before .before .before .before .args in
+    let a = to-start at-number-distance2 .args in
     let p = whole (a .words .now) in
     let xs = inItems (heldOf p (a .i)) in
     let low : n .result ≤ length xs = omega (arith, n .ensures) in
@@ -73,14 +78,15 @@ loop-less c = search needs
 
 loop-again : tie.Need-loop-again Inv-loop μ-loop
 loop-again c =
-    let f = c .before .number-distance2 in
-    let i = c .before .before in
+    let at-number-distance2 = c .before in
+    let f = at-number-distance2 .number-distance2 in
+    let i = at-number-distance2 .before in
     let s = i .before in
     let t = s .before in
     let m = t .before in
     let n = m .before .count in
     let d = m .before .before .number-distance in
-    let a = m .before .before .before .before .args in
+    let a = to-start at-number-distance2 .args in
     let p = whole (a .words .now) in
     let xs = inItems (heldOf p (a .i)) in
     let h = t .loop-test .taken in
@@ -91,10 +97,11 @@ loop-again c =
 
 returns-2 : tie.Need-returns-2 Inv-loop μ-loop
 returns-2 c =
+    let at-start = c .before .before .before .before .before in
     let m = c .before in
     let n = m .before .count in
     let d = m .before .before .number-distance in
-    let a = m .before .before .before .before .args in
+    let a = at-start .args in
     let p = whole (a .words .now) in
     let xs = inItems (heldOf p (a .i)) in
     let all = take-all (n .result) xs (omega (arith, n .ensures)) in

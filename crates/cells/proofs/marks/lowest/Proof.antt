@@ -17,6 +17,10 @@ Inv-loop marks n k₀ k = (k ≤ n) × (n ≤ length marks) × (n ≤ nameable) 
 abbrev μ-loop : tie.MeasureT-loop
 μ-loop marks n k₀ k = n - k
 
+-- the places before `loop`
+abbrev to-start : tie.At-loop Inv-loop μ-loop → tie.Start Inv-loop μ-loop
+to-start c = c .before .before .before
+
 least-requires : tie.Need-least-requires Inv-loop μ-loop
 least-requires c κs = search needs
 
@@ -31,10 +35,10 @@ cast-t8 c = search needs
 
 returns : tie.Need-returns Inv-loop μ-loop
 returns c =
-    let m = c .before .before .before in
-    let x = m .before .before .before .args .marks .now in
-    let n = m .before .least .result in
-    sym (m .loop .inv .3 ∙ first-hit (isMarked x) n (m .loop .k) (omega arith) (ne-eqb _ 1 (c .if1 .taken)))
+    let at-loop = c .before .before .before in
+    let x = to-start at-loop .args .marks .now in
+    let n = at-loop .before .least .result in
+    sym (at-loop .loop .inv .3 ∙ first-hit (isMarked x) n (at-loop .loop .k) (omega arith) (ne-eqb _ 1 (c .if1 .taken)))
 
 add-k : tie.Need-add-k Inv-loop μ-loop
 add-k c = search needs
@@ -44,17 +48,17 @@ loop-less c = search needs
 
 loop-again : tie.Need-loop-again Inv-loop μ-loop
 loop-again c =
-    let m = c .before .before .before in
-    let x = m .before .before .before .args .marks .now in
-    let n = m .before .least .result in
-    (omega arith, omega arith, omega arith, m .loop .inv .3 ∙ first-miss (isMarked x) n (m .loop .k) (omega arith) (eq-eqb _ 1 (c .if1 .left)))
+    let at-loop = c .before .before .before in
+    let x = to-start at-loop .args .marks .now in
+    let n = at-loop .before .least .result in
+    (omega arith, omega arith, omega arith, at-loop .loop .inv .3 ∙ first-miss (isMarked x) n (at-loop .loop .k) (omega arith) (eq-eqb _ 1 (c .if1 .left)))
 
 returns-2 : tie.Need-returns-2 Inv-loop μ-loop
 returns-2 c =
-    let m = c .before in
-    let x = m .before .before .before .args .marks .now in
-    let n = m .before .least .result in
-    sym (m .loop .inv .3 ∙ first-end (isMarked x) n (m .loop .k) (omega arith))
+    let at-loop = c .before in
+    let x = to-start at-loop .args .marks .now in
+    let n = at-loop .before .least .result in
+    sym (at-loop .loop .inv .3 ∙ first-end (isMarked x) n (at-loop .loop .k) (omega arith))
 
 pub lowest-spec : {M : Type 1} → statement M
 lowest-spec =

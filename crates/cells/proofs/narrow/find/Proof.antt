@@ -16,6 +16,10 @@ Inv-loop cells n s m j₀ j = (j ≤ m) × (m ≤ length cells) × (findFrom 0 (
 abbrev μ-loop : tie.MeasureT-loop
 μ-loop cells n s m j₀ j = m - j
 
+-- the places before `loop`
+abbrev to-start : tie.At-loop Inv-loop μ-loop → tie.Start Inv-loop μ-loop
+to-start c = c .before .before .before
+
 least-requires : tie.Need-least-requires Inv-loop μ-loop
 least-requires c κs = search needs
 
@@ -33,10 +37,10 @@ shared-slice-read-if1 c = search needs
 
 returns : tie.Need-returns Inv-loop μ-loop
 returns c =
-    let m = c .before .before .before in
-    let a = m .before .before .before .args in
-    let v = m .before .least .result in
-    sym (m .loop .inv .2 ∙ find-hit (a .cells .now) v (m .loop .j) (a .s) (omega arith) (omega arith) (c .if1 .taken))
+    let at-loop = c .before .before .before in
+    let a = to-start at-loop .args in
+    let v = at-loop .before .least .result in
+    sym (at-loop .loop .inv .2 ∙ find-hit (a .cells .now) v (at-loop .loop .j) (a .s) (omega arith) (omega arith) (c .if1 .taken))
 
 add-j : tie.Need-add-j Inv-loop μ-loop
 add-j c = search needs
@@ -46,17 +50,17 @@ loop-less c = search needs
 
 loop-again : tie.Need-loop-again Inv-loop μ-loop
 loop-again c =
-    let m = c .before .before .before in
-    let a = m .before .before .before .args in
-    let v = m .before .least .result in
-    (omega arith, omega arith, m .loop .inv .2 ∙ find-miss (a .cells .now) v (m .loop .j) (a .s) (omega arith) (omega arith) (c .if1 .left))
+    let at-loop = c .before .before .before in
+    let a = to-start at-loop .args in
+    let v = at-loop .before .least .result in
+    (omega arith, omega arith, at-loop .loop .inv .2 ∙ find-miss (a .cells .now) v (at-loop .loop .j) (a .s) (omega arith) (omega arith) (c .if1 .left))
 
 returns-2 : tie.Need-returns-2 Inv-loop μ-loop
 returns-2 c =
-    let m = c .before in
-    let a = m .before .before .before .args in
-    let v = m .before .least .result in
-    sym (m .loop .inv .2 ∙ find-end (a .cells .now) v (m .loop .j) (a .s) (omega arith))
+    let at-loop = c .before in
+    let a = to-start at-loop .args in
+    let v = at-loop .before .least .result in
+    sym (at-loop .loop .inv .2 ∙ find-end (a .cells .now) v (at-loop .loop .j) (a .s) (omega arith))
 
 pub find-spec : {M : Type 1} → statement M
 find-spec =

@@ -47,9 +47,11 @@ is-within-requires c κs = search needs
 
 returns-2 : tie.Need-returns-2 Inv-loop μ-loop
 returns-2 c =
-    let a = c .before .before .before .before .before .before .before .args in
-    let l = c .before .before .before .before .loop in
-    let w = c .before .before .width-of in
+    let at-width-of = c .before .before in
+    let at-loop = at-width-of .before .before in
+    let a = at-loop .before .before .before .args in
+    let l = at-loop .loop in
+    let w = at-width-of .width-of in
     let r = c .before .is-within in
     let t = fits-turn (layout (a .kind)) (a .t2) (l .j) (w .result) (r .result) (layout-narrow (a .kind)) (omega arith) (w .ensures) (r .ensures) in
     let n = not-true (r .result) (c .if2 .taken) in
@@ -63,9 +65,11 @@ loop-less c = search needs
 
 loop-again : tie.Need-loop-again Inv-loop μ-loop
 loop-again c =
-    let a = c .before .before .before .before .before .before .before .args in
-    let l = c .before .before .before .before .loop in
-    let w = c .before .before .width-of in
+    let at-width-of = c .before .before in
+    let at-loop = at-width-of .before .before in
+    let a = at-loop .before .before .before .args in
+    let l = at-loop .loop in
+    let w = at-width-of .width-of in
     let r = c .before .is-within in
     let t = fits-turn (layout (a .kind)) (a .t2) (l .j) (w .result) (r .result) (layout-narrow (a .kind)) (omega arith) (w .ensures) (r .ensures) in
     let n = not-false (r .result) (c .if2 .left) in
@@ -73,9 +77,10 @@ loop-again c =
 
 returns-3 : tie.Need-returns-3 Inv-loop μ-loop
 returns-3 c =
-    let a = c .before .before .before .before .args in
+    let at-size-of = c .before .before .before in
+    let a = at-size-of .before .args in
     let l = c .before .loop in
-    let e = c .before .before .before .size-of .ensures in
+    let e = at-size-of .size-of .ensures in
     let h = layout-length (a .kind) in
     sym
     (both-true (known (a .kind)) (fits (layout (a .kind)) (a .t2)) (size-known (a .kind) (λ z. omega arith))

@@ -40,9 +40,11 @@ wide-requires-2 c κs = search needs
 returns-3 : tie.Need-returns-3
 unfolding layout pad
 returns-3 c =
-    let k = c .before .before .before .before .before .args .kind in
-    let j = c .before .before .before .before .before .args .j in
-    let e : c .before .before .wide .result ≡ k = c .before .before .wide .ensures in
+    let at-wide = c .before .before in
+    let at-start = at-wide .before .before .before in
+    let k = at-start .args .kind in
+    let j = at-start .args .j in
+    let e : at-wide .wide .result ≡ k = at-wide .wide .ensures in
     c .wide2 .ensures
     ∙ rw e (ap (λ (ws : List ℕ). getD ws j 0) (entry (λ n. pad 16 (layout n)) [] 16 k (omega arith)) ∙ pad-at 16 (layout k) j (omega arith))
 

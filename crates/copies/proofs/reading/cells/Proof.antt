@@ -45,8 +45,9 @@ loop-less c = search needs
 
 loop-again : tie.Need-loop-again Inv-loop μ-loop
 loop-again c =
-    let l = c .before .before .before .loop in
-    let b = c .before .before .before .before .before .before in
+    let at-loop = c .before .before .before in
+    let l = at-loop .loop in
+    let b = at-loop .before .before .before in
     let a = b .args in (
       omega arith,
       rw length-set (l .inv .1),

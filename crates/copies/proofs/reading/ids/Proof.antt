@@ -33,18 +33,19 @@ low8-requires-2 c κs = search needs
 
 returns : tie.Need-returns
 returns c =
-    let d = c .before .before in
-    let b = d .before .before .before in
-    let a = b .before .before in
+    let at-low8 = c .before .before in
+    let at-low162 = at-low8 .before .before .before in
+    let at-start = at-low162 .before .before .before .before .before in
+    let a = at-low162 .before .before in
     ids-made
-    (a .before .before .before .args .words .now)
+    (at-start .args .words .now)
     (a .low16 .result)
-    (b .low162 .result)
-    (d .low8 .result)
+    (at-low162 .low162 .result)
+    (at-low8 .low8 .result)
     (c .low82 .result)
     (a .low16 .ensures)
-    (b .low162 .ensures)
-    (d .low8 .ensures)
+    (at-low162 .low162 .ensures)
+    (at-low8 .low8 .ensures)
     (c .low82 .ensures)
 
 pub ids-spec : {M : Type 1} → statement M

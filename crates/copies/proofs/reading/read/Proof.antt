@@ -5,6 +5,10 @@ use borrow.Author.Needs.{needs}
 use Rattle.copies.proofs.reading.read.Statement.{statement}
 use Rattle.copies.proofs.reading.read.Tie as tie
 
+-- the places before `flow`
+abbrev to-start : tie.After-flow → tie.Start
+to-start c = c .before .before .before .before .before .before .before .before .before .before .before
+
 ids-requires : tie.Need-ids-requires
 ids-requires c κs = search needs
 
@@ -36,22 +40,30 @@ flow-requires : tie.Need-flow-requires
 flow-requires c κs = search needs
 
 lists-requires : tie.Need-lists-requires
-lists-requires c κs = c .before .before .before .before .before .before .before .before .before .before .before .pre
+lists-requires c κs = to-start c .pre
 
 unsequenced-requires : tie.Need-unsequenced-requires
 unsequenced-requires c κs = c .before .before .before .before .before .before .before .before .before .before .before .before .pre
 
 waiting-requires : tie.Need-waiting-requires
-waiting-requires c κs = c .before .before .before .before .before .before .before .before .before .before .before .before .before .pre
+waiting-requires c κs =
+    let at-flow = c .before .before in
+    to-start at-flow .pre
 
 all-channels-requires : tie.Need-all-channels-requires
-all-channels-requires c κs = c .before .before .before .before .before .before .before .before .before .before .before .before .before .before .pre
+all-channels-requires c κs =
+    let at-flow = c .before .before .before in
+    to-start at-flow .pre
 
 outgoing-requires : tie.Need-outgoing-requires
-outgoing-requires c κs = c .before .before .before .before .before .before .before .before .before .before .before .before .before .before .before .pre
+outgoing-requires c κs =
+    let at-flow = c .before .before .before .before in
+    to-start at-flow .pre
 
 incoming-requires : tie.Need-incoming-requires
-incoming-requires c κs = c .before .before .before .before .before .before .before .before .before .before .before .before .before .before .before .before .pre
+incoming-requires c κs =
+    let at-flow = c .before .before .before .before .before in
+    to-start at-flow .pre
 
 returns : tie.Need-returns
 returns c =

@@ -48,8 +48,9 @@ loop-less c = search needs
 
 loop-again : tie.Need-loop-again Inv-loop μ-loop
 loop-again c =
-    let l = c .before .before .before .loop in
-    let a = c .before .before .before .before .before .before .args in (
+    let at-loop = c .before .before .before in
+    let l = at-loop .loop in
+    let a = at-loop .before .before .before .args in (
       omega arith,
       rw length-set (l .inv .1),
       cell-put (a .words .now) (l .words) (a .slots .now) (a .at) (l .k) (c .wide16 .result) (omega arith) (omega arith) (l .inv .2) (c .wide16 .ensures .0),

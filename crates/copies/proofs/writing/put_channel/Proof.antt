@@ -38,21 +38,23 @@ same-length c = search needs
 
 returns : tie.Need-returns
 returns c =
-    let d = c .before .before in
-    let n = d .before .before .before .before in
-    let o = n .before .before .before .before in
-    let b = o .before .before .before in
-    let x = b .args .x in
-    let i = b .args .i in
-    let ws = b .args .words .now in
+    let at-put-in = c .before .before in
+    let at-words2 = at-put-in .before .before .before in
+    let at-words = at-words2 .before .before .before .before in
+    let at-start = at-words .before .before .before .before in
+    let n = at-words2 .before in
+    let o = at-words .before in
+    let x = at-start .args .x in
+    let i = at-start .args .i in
+    let ws = at-start .args .words .now in
     let v = o .put-outgoing .last .0 in
     let w = n .put-incoming .last .0 in
-    let lv : length v ≡ 1234 = n .before .before .before .words .given ∙ b .pre .0 in
-    let lw : length w ≡ 1234 = d .before .before .before .words2 .given ∙ lv in
-    let e : whole (d .put-in .last .0) ≡ withChannels (whole w) (set (whole w .channels) i (withHeld (channelAt (whole w) i) (x .held))) =
-    list-in InList inListFrom (λ (y : InList). withChannels (whole w) (set (whole w .channels) i (withHeld (channelAt (whole w) i) y))) w (d .put-in .last .0) (194 + i * 17 + 4) 12
-    (λ (r : List ℕ) (h : length r ≡ 13). put-held w i r (b .pre .1) h lw) (x .held) (x .held .len) (x .held .slots) (d .put-in .ensures .1 .0) (d .put-in .ensures .0) (d .put-in .ensures .1 .1) in
-    channel-put (whole ws) (whole v) (whole w) (whole (d .put-in .last .0)) i x (b .pre .1) (sized ws .channels) (o .put-outgoing .ensures) (n .put-incoming .ensures) e
+    let lv : length v ≡ 1234 = at-words .words .given ∙ at-start .pre .0 in
+    let lw : length w ≡ 1234 = at-words2 .words2 .given ∙ lv in
+    let e : whole (at-put-in .put-in .last .0) ≡ withChannels (whole w) (set (whole w .channels) i (withHeld (channelAt (whole w) i) (x .held))) =
+    list-in InList inListFrom (λ (y : InList). withChannels (whole w) (set (whole w .channels) i (withHeld (channelAt (whole w) i) y))) w (at-put-in .put-in .last .0) (194 + i * 17 + 4) 12
+    (λ (r : List ℕ) (h : length r ≡ 13). put-held w i r (at-start .pre .1) h lw) (x .held) (x .held .len) (x .held .slots) (at-put-in .put-in .ensures .1 .0) (at-put-in .put-in .ensures .0) (at-put-in .put-in .ensures .1 .1) in
+    channel-put (whole ws) (whole v) (whole w) (whole (at-put-in .put-in .last .0)) i x (at-start .pre .1) (sized ws .channels) (o .put-outgoing .ensures) (n .put-incoming .ensures) e
 
 pub put-channel-spec : {M : Type 1} → statement M
 put-channel-spec =

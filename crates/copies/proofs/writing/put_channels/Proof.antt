@@ -54,14 +54,15 @@ loop-less c = search needs
 
 loop-again : tie.Need-loop-again Inv-loop μ-loop
 loop-again c =
-    let r = c .before .before in
-    let l = r .before .before .before .before .loop in
-    let a = r .before .before .before .before .before .before .args in
+    let at-put-channel = c .before .before in
+    let at-loop = at-put-channel .before .before .before .before in
+    let l = at-loop .loop in
+    let a = at-loop .before .before .args in
     let m : length (a .t2) ≡ 8 = search needs in (
       omega arith,
       search needs,
       put-turn (λ (p : Peer). p .channels) withChannels (λ (p : Peer) (x y : List Channel). refl) (λ (p : Peer) (x : List Channel). refl)
-          (whole (a .words .now)) (whole (l .words)) (whole (r .put-channel .last .0)) (a .t2) 8 (l .i) zeros (getD (a .t2) (l .i) zeros) (sized (a .words .now) .channels) m (omega arith) (l .inv .2) (r .put-channel .ensures) refl,
+          (whole (a .words .now)) (whole (l .words)) (whole (at-put-channel .put-channel .last .0)) (a .t2) 8 (l .i) zeros (getD (a .t2) (l .i) zeros) (sized (a .words .now) .channels) m (omega arith) (l .inv .2) (at-put-channel .put-channel .ensures) refl,
     )
 
 same-length : tie.Need-same-length Inv-loop μ-loop

@@ -19,21 +19,21 @@ same-length c = search needs
 
 returns : tie.Need-returns
 returns c =
-    let l = c .before .before in
-    let w = l .before .before .before .before in
-    let i = w .before .before .before .before in
-    let a = i .before .before .before .args in
+    let at-put-limits = c .before .before in
+    let at-put-bandwidth = at-put-limits .before .before .before .before in
+    let at-put-ids = at-put-bandwidth .before .before .before .before in
+    let a = at-put-ids .before .before .before .args in
     fixed-put
     (whole (a .words .now))
-    (whole (i .put-ids .last .0))
-    (whole (w .put-bandwidth .last .0))
-    (whole (l .put-limits .last .0))
+    (whole (at-put-ids .put-ids .last .0))
+    (whole (at-put-bandwidth .put-bandwidth .last .0))
+    (whole (at-put-limits .put-limits .last .0))
     (a .ids)
     (a .bandwidth)
     (a .limits)
-    (i .put-ids .ensures)
-    (w .put-bandwidth .ensures)
-    (l .put-limits .ensures)
+    (at-put-ids .put-ids .ensures)
+    (at-put-bandwidth .put-bandwidth .ensures)
+    (at-put-limits .put-limits .ensures)
 
 pub put-fixed-spec : {M : Type 1} → statement M
 put-fixed-spec =

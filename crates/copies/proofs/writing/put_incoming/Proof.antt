@@ -45,14 +45,15 @@ loop-less c = search needs
 loop-again : tie.Need-loop-again Inv-loop μ-loop
 unfolding noIncoming
 loop-again c =
-    let r = c .before .before in
-    let l = r .before .before .before .before .loop in
-    let a = r .before .before .before .before .before .before .args in
+    let at-put-incoming = c .before .before in
+    let at-loop = at-put-incoming .before .before .before .before in
+    let l = at-loop .loop in
+    let a = at-loop .before .before .args in
     let m : length (a .t2) ≡ 12 = search needs in (
       omega arith,
       search needs,
       put-turn (λ (p : Peer). p .incoming) withIncoming (λ (p : Peer) (x y : List Incoming). refl) (λ (p : Peer) (x : List Incoming). refl)
-          (whole (a .words .now)) (whole (l .words)) (whole (r .put-incoming .last .0)) (a .t2) 12 (l .i) noIncoming (getD (a .t2) (l .i) noIncoming) (incoming-length (a .words .now)) m (omega arith) (l .inv .2) (r .put-incoming .ensures) refl,
+          (whole (a .words .now)) (whole (l .words)) (whole (at-put-incoming .put-incoming .last .0)) (a .t2) 12 (l .i) noIncoming (getD (a .t2) (l .i) noIncoming) (incoming-length (a .words .now)) m (omega arith) (l .inv .2) (at-put-incoming .put-incoming .ensures) refl,
     )
 
 same-length : tie.Need-same-length Inv-loop μ-loop

@@ -24,11 +24,11 @@ same-length c = search needs
 
 returns : tie.Need-returns
 returns c =
-    let k = c .before .before .before in
-    let b = k .before .before .before .before in
-    let a = b .args in (
-      list-laid (a .words .now) (k .put-cells .last .0) (a .slots .now) (a .at) (a .len) (c .wide16 .result) (b .pre) (k .put-cells .ensures .0) (c .wide16 .ensures .0),
-      list-narrow (a .slots .now) (a .len) (c .wide16 .ensures .1) (k .put-cells .ensures .1),
+    let at-put-cells = c .before .before .before in
+    let at-start = at-put-cells .before .before .before .before in
+    let a = at-start .args in (
+      list-laid (a .words .now) (at-put-cells .put-cells .last .0) (a .slots .now) (a .at) (a .len) (c .wide16 .result) (at-start .pre) (at-put-cells .put-cells .ensures .0) (c .wide16 .ensures .0),
+      list-narrow (a .slots .now) (a .len) (c .wide16 .ensures .1) (at-put-cells .put-cells .ensures .1),
     )
 
 pub put-list-spec : {M : Type 1} → statement M

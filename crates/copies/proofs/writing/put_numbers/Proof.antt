@@ -31,23 +31,23 @@ same-length c = search needs
 
 returns : tie.Need-returns
 returns c =
-    let f = c .before .before in
-    let r = f .before .before .before .before in
-    let h = r .before .before .before .before in
-    let l = h .before .before .before .before in
-    let m = l .before .before .before .before in
-    let t = m .before .before .before .before in
-    let s = t .before .before .before .before in
-    let a = s .before .before .before .args in
+    let at-put-flow = c .before .before in
+    let at-put-trips = at-put-flow .before .before .before .before in
+    let at-put-throttling = at-put-trips .before .before .before .before in
+    let at-put-loss = at-put-throttling .before .before .before .before in
+    let at-put-times = at-put-loss .before .before .before .before in
+    let at-put-totals = at-put-times .before .before .before .before in
+    let at-put-standing = at-put-totals .before .before .before .before in
+    let a = at-put-standing .before .before .before .args in
     numbered-put
     (whole (a .words .now))
-    (whole (s .put-standing .last .0))
-    (whole (t .put-totals .last .0))
-    (whole (m .put-times .last .0))
-    (whole (l .put-loss .last .0))
-    (whole (h .put-throttling .last .0))
-    (whole (r .put-trips .last .0))
-    (whole (f .put-flow .last .0))
+    (whole (at-put-standing .put-standing .last .0))
+    (whole (at-put-totals .put-totals .last .0))
+    (whole (at-put-times .put-times .last .0))
+    (whole (at-put-loss .put-loss .last .0))
+    (whole (at-put-throttling .put-throttling .last .0))
+    (whole (at-put-trips .put-trips .last .0))
+    (whole (at-put-flow .put-flow .last .0))
     (a .standing)
     (a .totals)
     (a .times)
@@ -55,13 +55,13 @@ returns c =
     (a .throttling)
     (a .trips)
     (a .flow)
-    (s .put-standing .ensures)
-    (t .put-totals .ensures)
-    (m .put-times .ensures)
-    (l .put-loss .ensures)
-    (h .put-throttling .ensures)
-    (r .put-trips .ensures)
-    (f .put-flow .ensures)
+    (at-put-standing .put-standing .ensures)
+    (at-put-totals .put-totals .ensures)
+    (at-put-times .put-times .ensures)
+    (at-put-loss .put-loss .ensures)
+    (at-put-throttling .put-throttling .ensures)
+    (at-put-trips .put-trips .ensures)
+    (at-put-flow .put-flow .ensures)
 
 pub put-numbers-spec : {M : Type 1} → statement M
 put-numbers-spec =

@@ -20,11 +20,11 @@ same-length c = search needs
 
 returns : tie.Need-returns
 returns c =
-    let l = c .before .before in
-    let b = l .before .before .before .before .before in
-    let a = b .args in
+    let at-put-list = c .before .before in
+    let at-start = at-put-list .before .before .before .before .before in
+    let a = at-start .args in
     let m : length (a .x .slots) ≡ 32 = search needs in
-    (row-long (a .words .now) (l .put-list .last .0) (a .x .slots) (a .at) (a .x .len) 32 m (l .put-list .ensures .0), (m, out-back (a .x) (l .put-list .ensures .1)))
+    (row-long (a .words .now) (at-put-list .put-list .last .0) (a .x .slots) (a .at) (a .x .len) 32 m (at-put-list .put-list .ensures .0), (m, out-back (a .x) (at-put-list .put-list .ensures .1)))
 
 pub put-out-spec : {M : Type 1} → statement M
 put-out-spec = tie.close (tie.spec slice-aggregate-put-list put-list-requires same-length returns)

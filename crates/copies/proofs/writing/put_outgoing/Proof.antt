@@ -45,14 +45,15 @@ loop-less c = search needs
 loop-again : tie.Need-loop-again Inv-loop μ-loop
 unfolding noOutgoing
 loop-again c =
-    let r = c .before .before in
-    let l = r .before .before .before .before .loop in
-    let a = r .before .before .before .before .before .before .args in
+    let at-put-outgoing = c .before .before in
+    let at-loop = at-put-outgoing .before .before .before .before in
+    let l = at-loop .loop in
+    let a = at-loop .before .before .args in
     let m : length (a .t2) ≡ 32 = search needs in (
       omega arith,
       search needs,
       put-turn (λ (p : Peer). p .outgoing) withOutgoing (λ (p : Peer) (x y : List Outgoing). refl) (λ (p : Peer) (x : List Outgoing). refl)
-          (whole (a .words .now)) (whole (l .words)) (whole (r .put-outgoing .last .0)) (a .t2) 32 (l .i) noOutgoing (getD (a .t2) (l .i) noOutgoing) (outgoing-length (a .words .now)) m (omega arith) (l .inv .2) (r .put-outgoing .ensures) refl,
+          (whole (a .words .now)) (whole (l .words)) (whole (at-put-outgoing .put-outgoing .last .0)) (a .t2) 32 (l .i) noOutgoing (getD (a .t2) (l .i) noOutgoing) (outgoing-length (a .words .now)) m (omega arith) (l .inv .2) (at-put-outgoing .put-outgoing .ensures) refl,
     )
 
 same-length : tie.Need-same-length Inv-loop μ-loop

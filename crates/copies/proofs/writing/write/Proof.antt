@@ -34,34 +34,35 @@ same-length c = search needs
 
 returns : tie.Need-returns
 returns c =
-    let n = c .before .before in
-    let o = n .before .before .before .before in
-    let h = o .before .before .before .before in
-    let w = h .before .before .before .before in
-    let g = w .before .before .before .before in
-    let l = g .before .before .before .before in
-    let m = l .before .before .before .before in
-    let f = m .before .before .before .before in
-    let a = f .before .before .before .before .before .before .args in
+    let at-put-incoming = c .before .before in
+    let at-put-outgoing = at-put-incoming .before .before .before .before in
+    let at-put-channels = at-put-outgoing .before .before .before .before in
+    let at-put-waiting = at-put-channels .before .before .before .before in
+    let at-put-groups = at-put-waiting .before .before .before .before in
+    let at-put-lists = at-put-groups .before .before .before .before in
+    let at-put-numbers = at-put-lists .before .before .before .before in
+    let at-put-fixed = at-put-numbers .before .before .before .before in
+    let at-start = at-put-fixed .before .before .before .before .before .before in
+    let a = at-start .args in
     peer-put
     (a .peer)
     (whole (a .words .now))
-    (whole (f .put-fixed .last .0))
-    (whole (m .put-numbers .last .0))
-    (whole (l .put-lists .last .0))
-    (whole (g .put-unsequenced .last .0))
-    (whole (w .put-waiting .last .0))
-    (whole (h .put-channels .last .0))
-    (whole (o .put-outgoing .last .0))
-    (whole (n .put-incoming .last .0))
-    (f .put-fixed .ensures)
-    (m .put-numbers .ensures)
-    (l .put-lists .ensures)
-    (g .put-unsequenced .ensures)
-    (w .put-waiting .ensures)
-    (h .put-channels .ensures)
-    (o .put-outgoing .ensures)
-    (n .put-incoming .ensures)
+    (whole (at-put-fixed .put-fixed .last .0))
+    (whole (at-put-numbers .put-numbers .last .0))
+    (whole (at-put-lists .put-lists .last .0))
+    (whole (at-put-groups .put-unsequenced .last .0))
+    (whole (at-put-waiting .put-waiting .last .0))
+    (whole (at-put-channels .put-channels .last .0))
+    (whole (at-put-outgoing .put-outgoing .last .0))
+    (whole (at-put-incoming .put-incoming .last .0))
+    (at-put-fixed .put-fixed .ensures)
+    (at-put-numbers .put-numbers .ensures)
+    (at-put-lists .put-lists .ensures)
+    (at-put-groups .put-unsequenced .ensures)
+    (at-put-waiting .put-waiting .ensures)
+    (at-put-channels .put-channels .ensures)
+    (at-put-outgoing .put-outgoing .ensures)
+    (at-put-incoming .put-incoming .ensures)
 
 pub write-spec : {M : Type 1} → statement M
 write-spec =

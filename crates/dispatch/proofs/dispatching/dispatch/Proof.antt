@@ -13,6 +13,16 @@ use Rattle.dispatch.proofs.DispatchingPlaces.{ready-low, dispatched-non
 use Rattle.dispatch.proofs.dispatching.dispatch.Statement.{statement}
 use Rattle.dispatch.proofs.dispatching.dispatch.Tie as tie
 
+-- the places before `last`
+abbrev to-ready : tie.After-last → tie.After-ready
+to-ready c = c .before .before .before
+
+abbrev to-numbers-of : tie.After-last → tie.After-numbers-of
+to-numbers-of c = to-ready c .before .before
+
+abbrev to-start : tie.After-last → tie.Start
+to-start c = to-numbers-of c .before .before .before
+
 numbers-of-requires : tie.Need-numbers-of-requires
 numbers-of-requires c κs = search needs
 
@@ -24,18 +34,21 @@ same-length c = search needs
 
 returns : tie.Need-returns
 returns c =
-    let r = c .before .before .ready in
-    let o = c .before .before .before .before .numbers-of in
-    let a = c .before .before .before .before .before .before .before .args in
+    let at-ready = c .before .before in
+    let at-numbers-of = at-ready .before .before in
+    let r = at-ready .ready in
+    let o = at-numbers-of .numbers-of in
+    let a = at-numbers-of .before .before .before .args in
     let p = whole (a .words .now) in
     let n = r .ensures .0 ∙ ap (λ (x : Numbers). readyCount (p .incoming) (inItems (heldOf p (a .i))) (x .«incoming_reliable» .0)) (o .ensures) in
     dispatched-none p (a .i) (r .result .count) n (c .if1 .taken)
 
 shift-requires : tie.Need-shift-requires
 shift-requires c κs =
-    let r = c .before .before .before .before .ready in
-    let o = c .before .before .before .before .before .before .numbers-of in
-    let b = c .before .before .before .before .before .before .before .before .before in
+    let at-last = c .before in
+    let r = to-ready at-last .ready in
+    let o = to-numbers-of at-last .numbers-of in
+    let b = to-start at-last in
     let a = b .args in
     let p = whole (a .words .now) in
     let xs = inItems (heldOf p (a .i)) in
@@ -53,13 +66,17 @@ same-length-2 c = search needs
 
 returns-2 : tie.Need-returns-2
 returns-2 c =
-    let f = c .before .before .flag in
-    let u = c .before .before .before .before .before .before .put-incoming in
-    let s = c .before .before .before .before .before .before .before .before .before .before .shift in
-    let z = c .before .before .before .before .before .before .before .before .before .before .before .before .before in
+    let at-flag = c .before .before in
+    let at-put-incoming = at-flag .before .before .before .before in
+    let at-shift = at-put-incoming .before .before .before .before in
+    let at-last = at-shift .before .before in
+    let f = at-flag .flag in
+    let u = at-put-incoming .put-incoming in
+    let s = at-shift .shift in
+    let z = at-last .before in
     let r = z .before .before .ready in
-    let o = z .before .before .before .before .numbers-of in
-    let a = z .before .before .before .before .before .before .before .args in
+    let o = to-numbers-of at-last .numbers-of in
+    let a = to-start at-last .args in
     let p = whole (a .words .now) in
     let n = r .ensures .0 ∙ ap (λ (x : Numbers). readyCount (p .incoming) (inItems (heldOf p (a .i))) (x .«incoming_reliable» .0)) (o .ensures) in
     let l = r .ensures .1 ∙ ap (λ (x : Numbers). readyLast (p .incoming) (inItems (heldOf p (a .i))) (x .«incoming_reliable» .0)) (o .ensures) in

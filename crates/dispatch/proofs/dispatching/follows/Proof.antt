@@ -11,7 +11,9 @@ next-requires : tie.Need-next-requires
 next-requires c κs = search needs
 
 returns-2 : tie.Need-returns-2
-returns-2 c = rw (eq-eqb _ _ (c .before .before .before .before .if1 .left), c .before .before .next .ensures)
+returns-2 c =
+    let at-next = c .before .before in
+    rw (eq-eqb _ _ (at-next .before .before .if1 .left), at-next .next .ensures)
 
 pub follows-spec : {M : Type 1} → statement M
 follows-spec = tie.close (tie.spec returns next-requires returns-2)

@@ -21,8 +21,9 @@ wrapping-add-u16-requires c κs = search needs
 
 returns-2 : tie.Need-returns-2
 returns-2 c =
-    let i = c .before .before .before .before .before .args .slot in
-    rw (ne-eqb (i .fragments) 0 (c .before .before .if1 .left)) (c .wrapping-add-u16 .ensures ∙ sum-reduced (i .number .0) (i .fragments - 1))
+    let at-if1 = c .before .before in
+    let i = at-if1 .before .before .before .args .slot in
+    rw (ne-eqb (i .fragments) 0 (at-if1 .if1 .left)) (c .wrapping-add-u16 .ensures ∙ sum-reduced (i .number .0) (i .fragments - 1))
 
 pub number-after-spec : {M : Type 1} → statement M
 number-after-spec =

@@ -28,6 +28,19 @@ Inv-loop words i n now₀ k₀ now k =
 abbrev μ-loop : tie.MeasureT-loop
 μ-loop words i n now₀ k₀ now k = n - k
 
+-- the places before `follows`
+abbrev to-slot-at : tie.After-follows Inv-loop μ-loop → tie.After-slot-at Inv-loop μ-loop
+to-slot-at c = c .before .before
+
+abbrev to-loop-test : tie.After-follows Inv-loop μ-loop → tie.In-loop Inv-loop μ-loop
+to-loop-test c = to-slot-at c .before
+
+abbrev to-loop : tie.After-follows Inv-loop μ-loop → tie.At-loop Inv-loop μ-loop
+to-loop c = to-loop-test c .before
+
+abbrev to-start : tie.After-follows Inv-loop μ-loop → tie.Start Inv-loop μ-loop
+to-start c = to-loop c .before .before .before
+
 count-requires : tie.Need-count-requires Inv-loop μ-loop
 count-requires c κs = search needs
 
@@ -48,17 +61,18 @@ follows-requires c κs = search needs
 
 returns : tie.Need-returns Inv-loop μ-loop
 returns c =
-    let m = c .before .before .before .before .before in
+    let at-follows = c .before in
+    let m = to-loop at-follows in
     let n = m .before .count in
-    let a = m .before .before .before .args in
+    let a = to-start at-follows .args in
     let p = whole (a .words .now) in
     let xs = inItems (heldOf p (a .i)) in
     let low : n .result ≤ length xs = omega (arith, n .ensures) in
     let all = take-all (n .result) xs (omega (arith, n .ensures)) in
-    let s = c .before .before .before .slot-at in
-    let i = c .before .before .incoming-at in
+    let s = to-slot-at at-follows .slot-at in
+    let i = at-follows .before .incoming-at in
     let is = i .ensures ∙ ap (λ (x : ℕ). getD (p .incoming) x noIncoming) (s .ensures) in
-    let q = c .before .follows in
+    let q = at-follows .follows in
     let bad = not-true (q .result) (c .if1 .taken) in
     let none = count-stop (p .incoming) xs (n .result) (m .loop .k) (m .loop .now .0) low (omega arith) (i .result) is (q .result) (q .ensures) bad in
     let same = last-stop (p .incoming) xs (n .result) (m .loop .k) (m .loop .now .0) low (omega arith) (i .result) is (q .result) (q .ensures) bad in
@@ -78,19 +92,20 @@ loop-less c = search needs
 
 loop-again : tie.Need-loop-again Inv-loop μ-loop
 loop-again c =
-    let m = c .before .before .before .before .before .before in
+    let at-follows = c .before .before in
+    let m = to-loop at-follows in
     let n = m .before .count in
-    let a = m .before .before .before .args in
+    let a = to-start at-follows .args in
     let p = whole (a .words .now) in
     let xs = inItems (heldOf p (a .i)) in
     let low : n .result ≤ length xs = omega (arith, n .ensures) in
-    let s = c .before .before .before .before .slot-at in
-    let i = c .before .before .before .incoming-at in
+    let s = to-slot-at at-follows .slot-at in
+    let i = at-follows .before .incoming-at in
     let is = i .ensures ∙ ap (λ (x : ℕ). getD (p .incoming) x noIncoming) (s .ensures) in
-    let q = c .before .before .follows in
+    let q = at-follows .follows in
     let good = not-false (q .result) (c .before .if1 .left) in
     let next = c .number-after in
-    let h = c .before .before .before .before .before .loop-test .taken in
+    let h = to-loop-test at-follows .loop-test .taken in
     let more =
     count-turn (p .incoming) xs (n .result) (m .loop .k) (m .loop .now .0) low h (i .result) is (q .result) (q .ensures) good (next .result .0) (next .ensures) in
     let same =

@@ -50,13 +50,15 @@ same-length c = search needs
 
 returns : tie.Need-returns Inv-loop μ-loop
 returns c =
-    let b = c .before .before .before .before .before .before .before .before .before .before in
+    let at-list-sound = c .before .before .before .before in
+    let at-loop = at-list-sound .before .before .before in
+    let b = at-loop .before .before .before in
     let a = b .args in
     let ws = a .words .now in
     let slots = whole ws .incoming in
     let cs = whole ws .channels in
-    let m = c .before .before .before .before .before .before .before .loop in
-    let w = c .before .before .before .before .list-sound in
+    let m = at-loop .loop in
+    let w = at-list-sound .list-sound in
     let long : a .count ≤ length cs = omega (arith, sized ws .channels, b .pre .1 .0) in
     let row = rowAt (194 + m .k * 17 + 4) 12 ws in
     let is = held-is ws (m .k) (omega (arith, b .pre .1 .0)) (b .pre .0) in
@@ -70,13 +72,15 @@ loop-less c = search needs
 
 loop-again : tie.Need-loop-again Inv-loop μ-loop
 loop-again c =
-    let b = c .before .before .before .before .before .before .before .before .before .before in
+    let at-list-sound = c .before .before .before .before in
+    let at-loop = at-list-sound .before .before .before in
+    let b = at-loop .before .before .before in
     let a = b .args in
     let ws = a .words .now in
     let slots = whole ws .incoming in
     let cs = whole ws .channels in
-    let m = c .before .before .before .before .before .before .before .loop in
-    let w = c .before .before .before .before .list-sound in
+    let m = at-loop .loop in
+    let w = at-list-sound .list-sound in
     let long : a .count ≤ length cs = omega (arith, sized ws .channels, b .pre .1 .0) in
     let row = rowAt (194 + m .k * 17 + 4) 12 ws in
     let is = held-is ws (m .k) (omega (arith, b .pre .1 .0)) (b .pre .0) in
@@ -96,12 +100,13 @@ same-length-2 c = search needs
 
 returns-2 : tie.Need-returns-2 Inv-loop μ-loop
 returns-2 c =
-    let b = c .before .before .before .before .before in
+    let at-loop = c .before .before in
+    let b = at-loop .before .before .before in
     let a = b .args in
     let ws = a .words .now in
     let slots = whole ws .incoming in
     let cs = whole ws .channels in
-    let m = c .before .before .loop in
+    let m = at-loop .loop in
     let end = held-sum-end slots cs (a .count) (m .k) (omega arith) in
     let sum : a .from + lengths slots (held (take (a .count) cs)) ≡ m .total = omega arith in
     rw (m .inv .2, held-end slots (a .count) cs (a .count) (m .k) (m .marks) (omega arith), sum, total-is ws)

@@ -18,11 +18,13 @@ returns-2 c = rw (← c .before .before .before .length-at .ensures, ← c .befo
 
 returns-3 : tie.Need-returns-3
 returns-3 c =
-    rw (← c .before .before .before .before .length-at .ensures, ← c .before .before .channel-at .ensures, le-leb _ _ (c .before .before .before .if1 .left), lt-ltb _ _ (c .before .if2 .left), not-true (c .before .before .before .before .before .before .args .own) (c .if3 .taken))
+    let at-if1 = c .before .before .before in
+    rw (← at-if1 .before .length-at .ensures, ← c .before .before .channel-at .ensures, le-leb _ _ (at-if1 .if1 .left), lt-ltb _ _ (c .before .if2 .left), not-true (at-if1 .before .before .before .args .own) (c .if3 .taken))
 
 returns-4 : tie.Need-returns-4
 returns-4 c =
-    rw (← c .before .before .before .before .length-at .ensures, ← c .before .before .channel-at .ensures, le-leb _ _ (c .before .before .before .if1 .left), lt-ltb _ _ (c .before .if2 .left), not-false (c .before .before .before .before .before .before .args .own) (c .if3 .left))
+    let at-if1 = c .before .before .before in
+    rw (← at-if1 .before .length-at .ensures, ← c .before .before .channel-at .ensures, le-leb _ _ (at-if1 .if1 .left), lt-ltb _ _ (c .before .if2 .left), not-false (at-if1 .before .before .before .args .own) (c .if3 .left))
 
 pub in-passes-spec : {M : Type 1} → statement M
 in-passes-spec =

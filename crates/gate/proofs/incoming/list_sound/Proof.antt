@@ -28,6 +28,16 @@ Inv-loop words at count own k marks₀ from total₀ n first j₀ marks total j 
 abbrev μ-loop : tie.MeasureT-loop
 μ-loop words at count own k marks₀ from total₀ n first j₀ marks total j = n - j
 
+-- the places before `narrow2`
+abbrev to-loop : tie.After-narrow2 Inv-loop μ-loop → tie.At-loop Inv-loop μ-loop
+to-loop c = c .before .before .before
+
+abbrev to-narrow : tie.After-narrow2 Inv-loop μ-loop → tie.After-narrow Inv-loop μ-loop
+to-narrow c = to-loop c .before .before
+
+abbrev to-start : tie.After-narrow2 Inv-loop μ-loop → tie.Start Inv-loop μ-loop
+to-start c = to-narrow c .before .before .before .before
+
 mul-narrow : tie.Need-mul-narrow Inv-loop μ-loop
 mul-narrow c = search needs
 
@@ -39,13 +49,13 @@ narrow-requires c κs = search needs
 
 returns : tie.Need-returns Inv-loop μ-loop
 returns c =
-    let b = c .before .before .before .before .before in
-    let a = b .args in
+    let at-start = c .before .before .before .before .before in
+    let a = at-start .args in
     let ws = a .words .now in
     let v = c .before .narrow in
     let slots = whole ws .incoming in
     let f = inPasses slots (a .count) (a .own) (a .k) in
-    let i : Listed ws (a .at) 12 (v .result) = record { room = omega (arith, b .pre .0, b .pre .1 .0); is = v .ensures } in
+    let i : Listed ws (a .at) 12 (v .result) = record { room = omega (arith, at-start .pre .0, at-start .pre .1 .0); is = v .ensures } in
     (long f ws (a .at) 12 (v .result) i (a .marks .now) (a .marks .now) (c .if1 .taken), sums-stop slots (itemsOf (rowAt (a .at) 12 ws)) (a .from) (a .from))
 
 add-first : tie.Need-add-first Inv-loop μ-loop
@@ -71,15 +81,16 @@ same-length c = search needs
 
 returns-2 : tie.Need-returns-2 Inv-loop μ-loop
 returns-2 c =
-    let b = c .before .before .before .before .before .before .before .before .before .before in
+    let at-narrow2 = c .before in
+    let b = to-start at-narrow2 in
     let a = b .args in
     let ws = a .words .now in
-    let v = c .before .before .before .before .before .before .narrow in
+    let v = to-narrow at-narrow2 .narrow in
     let slots = whole ws .incoming in
     let f = inPasses slots (a .count) (a .own) (a .k) in
     let i : Listed ws (a .at) 12 (v .result) = record { room = omega (arith, b .pre .0, b .pre .1 .0); is = v .ensures } in
-    let m = c .before .before .before .before .loop in
-    let s = c .before .narrow2 in
+    let m = to-loop at-narrow2 .loop in
+    let s = at-narrow2 .narrow2 in
     (past f ws (a .at) 12 (v .result) i (omega arith) (a .marks .now) (m .marks) (m .j) (m .inv .2) (omega arith) (s .result) (s .ensures) (omega arith), sums-stop slots (itemsOf (rowAt (a .at) 12 ws)) (a .from) (m .total))
 
 slice-read-if3 : tie.Need-slice-read-if3 Inv-loop μ-loop
@@ -90,15 +101,16 @@ same-length-2 c = search needs
 
 returns-3 : tie.Need-returns-3 Inv-loop μ-loop
 returns-3 c =
-    let b = c .before .before .before .before .before .before .before .before .before .before .before .before in
+    let at-narrow2 = c .before .before .before in
+    let b = to-start at-narrow2 in
     let a = b .args in
     let ws = a .words .now in
-    let v = c .before .before .before .before .before .before .before .before .narrow in
+    let v = to-narrow at-narrow2 .narrow in
     let slots = whole ws .incoming in
     let f = inPasses slots (a .count) (a .own) (a .k) in
     let i : Listed ws (a .at) 12 (v .result) = record { room = omega (arith, b .pre .0, b .pre .1 .0); is = v .ensures } in
-    let m = c .before .before .before .before .before .before .loop in
-    let s = c .before .before .before .narrow2 in
+    let m = to-loop at-narrow2 .loop in
+    let s = at-narrow2 .narrow2 in
     (twice f ws (a .at) 12 (v .result) i (omega arith) (a .marks .now) (m .marks) (m .j) (m .inv .2) (omega arith) (s .result) (s .ensures) (omega arith) (c .if3 .taken), sums-stop slots (itemsOf (rowAt (a .at) 12 ws)) (a .from) (m .total))
 
 in-passes-requires : tie.Need-in-passes-requires Inv-loop μ-loop
@@ -109,33 +121,37 @@ same-length-3 c = search needs
 
 returns-4 : tie.Need-returns-4 Inv-loop μ-loop
 returns-4 c =
-    let b = c .before .before .before .before .before .before .before .before .before .before .before .before .before .before in
+    let at-if3 = c .before .before in
+    let at-narrow2 = at-if3 .before .before .before in
+    let b = to-start at-narrow2 in
     let a = b .args in
     let ws = a .words .now in
-    let v = c .before .before .before .before .before .before .before .before .before .before .narrow in
+    let v = to-narrow at-narrow2 .narrow in
     let slots = whole ws .incoming in
     let f = inPasses slots (a .count) (a .own) (a .k) in
     let i : Listed ws (a .at) 12 (v .result) = record { room = omega (arith, b .pre .0, b .pre .1 .0); is = v .ensures } in
-    let m = c .before .before .before .before .before .before .before .before .loop in
-    let s = c .before .before .before .before .before .narrow2 in
+    let m = to-loop at-narrow2 .loop in
+    let s = at-narrow2 .narrow2 in
     let bad : f (s .result) ≡ false = says (c .before .in-passes .result) (f (s .result)) false (c .before .in-passes .ensures) (not-true _ (c .if4 .taken)) in
-    (unfit f ws (a .at) 12 (v .result) i (omega arith) (a .marks .now) (m .marks) (m .j) (m .inv .2) (omega arith) (s .result) (s .ensures) (omega arith) (c .before .before .if3 .left) bad, sums-stop slots (itemsOf (rowAt (a .at) 12 ws)) (a .from) (m .total))
+    (unfit f ws (a .at) 12 (v .result) i (omega arith) (a .marks .now) (m .marks) (m .j) (m .inv .2) (omega arith) (s .result) (s .ensures) (omega arith) (at-if3 .if3 .left) bad, sums-stop slots (itemsOf (rowAt (a .at) 12 ws)) (a .from) (m .total))
 
 length-at-requires : tie.Need-length-at-requires Inv-loop μ-loop
 length-at-requires c κs = search needs
 
 add-total : tie.Need-add-total Inv-loop μ-loop
 add-total c =
-    let b = c .before .before .before .before .before .before .before .before .before .before .before .before .before .before .before in
+    let at-in-passes = c .before .before in
+    let at-narrow2 = at-in-passes .before .before .before .before in
+    let b = to-start at-narrow2 in
     let a = b .args in
     let ws = a .words .now in
-    let v = c .before .before .before .before .before .before .before .before .before .before .before .narrow in
+    let v = to-narrow at-narrow2 .narrow in
     let slots = whole ws .incoming in
     let f = inPasses slots (a .count) (a .own) (a .k) in
     let i : Listed ws (a .at) 12 (v .result) = record { room = omega (arith, b .pre .0, b .pre .1 .0); is = v .ensures } in
-    let m = c .before .before .before .before .before .before .before .before .before .loop in
-    let s = c .before .before .before .before .before .before .narrow2 in
-    let good : f (s .result) ≡ true = says (c .before .before .in-passes .result) (f (s .result)) true (c .before .before .in-passes .ensures) (not-false _ (c .before .if4 .left)) in
+    let m = to-loop at-narrow2 .loop in
+    let s = at-narrow2 .narrow2 in
+    let good : f (s .result) ≡ true = says (at-in-passes .in-passes .result) (f (s .result)) true (at-in-passes .in-passes .ensures) (not-false _ (c .before .if4 .left)) in
     let short = pass-short (a .count) (a .own) (a .k) (getD slots (s .result) noIncoming) good in
     omega (arith, c .length-at .ensures)
 
@@ -150,22 +166,26 @@ loop-less c = search needs
 
 loop-again : tie.Need-loop-again Inv-loop μ-loop
 loop-again c =
-    let b = c .before .before .before .before .before .before .before .before .before .before .before .before .before .before .before in
-    let a = b .args in
+    let at-in-passes = c .before .before in
+    let at-narrow2 = at-in-passes .before .before .before .before in
+    let at-loop = at-narrow2 .before .before .before in
+    let at-narrow = at-loop .before .before in
+    let at-start = at-narrow .before .before .before .before in
+    let a = at-start .args in
     let ws = a .words .now in
-    let v = c .before .before .before .before .before .before .before .before .before .before .before .narrow in
+    let v = at-narrow .narrow in
     let slots = whole ws .incoming in
     let f = inPasses slots (a .count) (a .own) (a .k) in
-    let i : Listed ws (a .at) 12 (v .result) = record { room = omega (arith, b .pre .0, b .pre .1 .0); is = v .ensures } in
-    let m = c .before .before .before .before .before .before .before .before .before .loop in
-    let s = c .before .before .before .before .before .before .narrow2 in
-    let good : f (s .result) ≡ true = says (c .before .before .in-passes .result) (f (s .result)) true (c .before .before .in-passes .ensures) (not-false _ (c .before .if4 .left)) in
+    let i : Listed ws (a .at) 12 (v .result) = record { room = omega (arith, at-start .pre .0, at-start .pre .1 .0); is = v .ensures } in
+    let m = at-loop .loop in
+    let s = at-narrow2 .narrow2 in
+    let good : f (s .result) ≡ true = says (at-in-passes .in-passes .result) (f (s .result)) true (at-in-passes .in-passes .ensures) (not-false _ (c .before .if4 .left)) in
     let short = pass-short (a .count) (a .own) (a .k) (getD slots (s .result) noIncoming) good in
     let sum = summed f ws (a .at) 12 (v .result) i (omega arith) (a .marks .now) (m .marks) (m .j) (m .inv .2) (omega arith) (s .result) (s .ensures) slots in
     let length-is = c .length-at .ensures in (
       omega arith,
       simp length-set (m .inv .1),
-      turn f ws (a .at) 12 (v .result) i (omega arith) (a .marks .now) (m .marks) (m .j) (m .inv .2) (omega arith) (s .result) (s .ensures) (omega arith) (c .before .before .before .if3 .left) good,
+      turn f ws (a .at) 12 (v .result) i (omega arith) (a .marks .now) (m .marks) (m .j) (m .inv .2) (omega arith) (s .result) (s .ensures) (omega arith) (at-in-passes .before .if3 .left) good,
       omega arith,
       omega arith,
     )
@@ -175,13 +195,14 @@ same-length-4 c = search needs
 
 returns-5 : tie.Need-returns-5 Inv-loop μ-loop
 returns-5 c =
-    let b = c .before .before .before .before .before .before .before in
-    let a = b .args in
+    let at-narrow = c .before .before .before in
+    let at-start = at-narrow .before .before .before .before in
+    let a = at-start .args in
     let ws = a .words .now in
-    let v = c .before .before .before .narrow in
+    let v = at-narrow .narrow in
     let slots = whole ws .incoming in
     let f = inPasses slots (a .count) (a .own) (a .k) in
-    let i : Listed ws (a .at) 12 (v .result) = record { room = omega (arith, b .pre .0, b .pre .1 .0); is = v .ensures } in
+    let i : Listed ws (a .at) 12 (v .result) = record { room = omega (arith, at-start .pre .0, at-start .pre .1 .0); is = v .ensures } in
     let m = c .before .loop in
     let sum = summed-end f ws (a .at) 12 (v .result) i (omega arith) (a .marks .now) (m .marks) (m .j) (m .inv .2) slots (omega arith) in
     (end f ws (a .at) 12 (v .result) i (omega arith) (a .marks .now) (m .marks) (m .j) (m .inv .2) (omega arith), record { is = λ q. omega arith; low = λ q. omega arith })

@@ -23,6 +23,16 @@ Inv-loop words at count sent marks₀ n from j₀ marks j =
 abbrev μ-loop : tie.MeasureT-loop
 μ-loop words at count sent marks₀ n from j₀ marks j = n - j
 
+-- the places before `narrow2`
+abbrev to-loop : tie.After-narrow2 Inv-loop μ-loop → tie.At-loop Inv-loop μ-loop
+to-loop c = c .before .before .before
+
+abbrev to-narrow : tie.After-narrow2 Inv-loop μ-loop → tie.After-narrow Inv-loop μ-loop
+to-narrow c = to-loop c .before .before
+
+abbrev to-start : tie.After-narrow2 Inv-loop μ-loop → tie.Start Inv-loop μ-loop
+to-start c = to-narrow c .before .before .before .before
+
 mul-narrow : tie.Need-mul-narrow Inv-loop μ-loop
 mul-narrow c = search needs
 
@@ -34,12 +44,12 @@ narrow-requires c κs = search needs
 
 returns : tie.Need-returns Inv-loop μ-loop
 returns c =
-    let b = c .before .before .before .before .before in
-    let a = b .args in
+    let at-start = c .before .before .before .before .before in
+    let a = at-start .args in
     let ws = a .words .now in
     let v = c .before .narrow in
     let f = gradePasses (map (slotGrade (a .count)) (whole ws .outgoing)) (a .sent) in
-    let i : Listed ws (a .at) 32 (v .result) = record { room = omega (arith, b .pre .0, b .pre .1 .0); is = v .ensures } in
+    let i : Listed ws (a .at) 32 (v .result) = record { room = omega (arith, at-start .pre .0, at-start .pre .1 .0); is = v .ensures } in
     long f ws (a .at) 32 (v .result) i (a .marks .now) (a .marks .now) (c .if1 .taken)
 
 add-from : tie.Need-add-from Inv-loop μ-loop
@@ -65,14 +75,15 @@ same-length c = search needs
 
 returns-2 : tie.Need-returns-2 Inv-loop μ-loop
 returns-2 c =
-    let b = c .before .before .before .before .before .before .before .before .before .before in
+    let at-narrow2 = c .before in
+    let b = to-start at-narrow2 in
     let a = b .args in
     let ws = a .words .now in
-    let v = c .before .before .before .before .before .before .narrow in
+    let v = to-narrow at-narrow2 .narrow in
     let f = gradePasses (map (slotGrade (a .count)) (whole ws .outgoing)) (a .sent) in
     let i : Listed ws (a .at) 32 (v .result) = record { room = omega (arith, b .pre .0, b .pre .1 .0); is = v .ensures } in
-    let m = c .before .before .before .before .loop in
-    let s = c .before .narrow2 in
+    let m = to-loop at-narrow2 .loop in
+    let s = at-narrow2 .narrow2 in
     past f ws (a .at) 32 (v .result) i (omega arith) (a .marks .now) (m .marks) (m .j) (m .inv .2) (omega arith) (s .result) (s .ensures) (omega arith)
 
 slice-read-if3 : tie.Need-slice-read-if3 Inv-loop μ-loop
@@ -83,14 +94,15 @@ same-length-2 c = search needs
 
 returns-3 : tie.Need-returns-3 Inv-loop μ-loop
 returns-3 c =
-    let b = c .before .before .before .before .before .before .before .before .before .before .before .before in
+    let at-narrow2 = c .before .before .before in
+    let b = to-start at-narrow2 in
     let a = b .args in
     let ws = a .words .now in
-    let v = c .before .before .before .before .before .before .before .before .narrow in
+    let v = to-narrow at-narrow2 .narrow in
     let f = gradePasses (map (slotGrade (a .count)) (whole ws .outgoing)) (a .sent) in
     let i : Listed ws (a .at) 32 (v .result) = record { room = omega (arith, b .pre .0, b .pre .1 .0); is = v .ensures } in
-    let m = c .before .before .before .before .before .before .loop in
-    let s = c .before .before .before .narrow2 in
+    let m = to-loop at-narrow2 .loop in
+    let s = at-narrow2 .narrow2 in
     twice f ws (a .at) 32 (v .result) i (omega arith) (a .marks .now) (m .marks) (m .j) (m .inv .2) (omega arith) (s .result) (s .ensures) (omega arith) (c .if3 .taken)
 
 sub-grade-at : tie.Need-sub-grade-at Inv-loop μ-loop
@@ -113,16 +125,19 @@ same-length-3 c = search needs
 
 returns-4 : tie.Need-returns-4 Inv-loop μ-loop
 returns-4 c =
-    let b = c .before .before .before .before .before .before .before .before .before .before .before .before .before .before .before .before in
+    let at-grade-at = c .before .before in
+    let at-if3 = at-grade-at .before .before in
+    let at-narrow2 = at-if3 .before .before .before in
+    let b = to-start at-narrow2 in
     let a = b .args in
     let ws = a .words .now in
-    let v = c .before .before .before .before .before .before .before .before .before .before .before .before .narrow in
+    let v = to-narrow at-narrow2 .narrow in
     let f = gradePasses (map (slotGrade (a .count)) (whole ws .outgoing)) (a .sent) in
     let i : Listed ws (a .at) 32 (v .result) = record { room = omega (arith, b .pre .0, b .pre .1 .0); is = v .ensures } in
-    let m = c .before .before .before .before .before .before .before .before .before .before .loop in
-    let s = c .before .before .before .before .before .before .before .narrow2 in
-    let bad : f (s .result) ≡ false = ap (λ (o : List Outgoing). gradePasses (map (slotGrade (a .count)) o) (a .sent) (s .result)) (pool-is ws) ∙ ap (λ (w : ℕ). enough w (a .sent)) (sym (c .before .before .grade-at .ensures)) ∙ sym (c .before .enough .ensures) ∙ not-true (c .before .enough .result) (c .if4 .taken) in
-    unfit f ws (a .at) 32 (v .result) i (omega arith) (a .marks .now) (m .marks) (m .j) (m .inv .2) (omega arith) (s .result) (s .ensures) (omega arith) (c .before .before .before .before .if3 .left) bad
+    let m = to-loop at-narrow2 .loop in
+    let s = at-narrow2 .narrow2 in
+    let bad : f (s .result) ≡ false = ap (λ (o : List Outgoing). gradePasses (map (slotGrade (a .count)) o) (a .sent) (s .result)) (pool-is ws) ∙ ap (λ (w : ℕ). enough w (a .sent)) (sym (at-grade-at .grade-at .ensures)) ∙ sym (c .before .enough .ensures) ∙ not-true (c .before .enough .result) (c .if4 .taken) in
+    unfit f ws (a .at) 32 (v .result) i (omega arith) (a .marks .now) (m .marks) (m .j) (m .inv .2) (omega arith) (s .result) (s .ensures) (omega arith) (at-if3 .if3 .left) bad
 
 slice-write-marks : tie.Need-slice-write-marks Inv-loop μ-loop
 slice-write-marks c = search needs
@@ -135,28 +150,34 @@ loop-less c = search needs
 
 loop-again : tie.Need-loop-again Inv-loop μ-loop
 loop-again c =
-    let b = c .before .before .before .before .before .before .before .before .before .before .before .before .before .before .before .before in
-    let a = b .args in
+    let at-grade-at = c .before .before in
+    let at-if3 = at-grade-at .before .before in
+    let at-narrow2 = at-if3 .before .before .before in
+    let at-loop = at-narrow2 .before .before .before in
+    let at-narrow = at-loop .before .before in
+    let at-start = at-narrow .before .before .before .before in
+    let a = at-start .args in
     let ws = a .words .now in
-    let v = c .before .before .before .before .before .before .before .before .before .before .before .before .narrow in
+    let v = at-narrow .narrow in
     let f = gradePasses (map (slotGrade (a .count)) (whole ws .outgoing)) (a .sent) in
-    let i : Listed ws (a .at) 32 (v .result) = record { room = omega (arith, b .pre .0, b .pre .1 .0); is = v .ensures } in
-    let m = c .before .before .before .before .before .before .before .before .before .before .loop in
-    let s = c .before .before .before .before .before .before .before .narrow2 in
-    let good : f (s .result) ≡ true = ap (λ (o : List Outgoing). gradePasses (map (slotGrade (a .count)) o) (a .sent) (s .result)) (pool-is ws) ∙ ap (λ (w : ℕ). enough w (a .sent)) (sym (c .before .before .grade-at .ensures)) ∙ sym (c .before .enough .ensures) ∙ not-false (c .before .enough .result) (c .if4 .left) in
-    (omega arith, simp length-set (m .inv .1), turn f ws (a .at) 32 (v .result) i (omega arith) (a .marks .now) (m .marks) (m .j) (m .inv .2) (omega arith) (s .result) (s .ensures) (omega arith) (c .before .before .before .before .if3 .left) good)
+    let i : Listed ws (a .at) 32 (v .result) = record { room = omega (arith, at-start .pre .0, at-start .pre .1 .0); is = v .ensures } in
+    let m = at-loop .loop in
+    let s = at-narrow2 .narrow2 in
+    let good : f (s .result) ≡ true = ap (λ (o : List Outgoing). gradePasses (map (slotGrade (a .count)) o) (a .sent) (s .result)) (pool-is ws) ∙ ap (λ (w : ℕ). enough w (a .sent)) (sym (at-grade-at .grade-at .ensures)) ∙ sym (c .before .enough .ensures) ∙ not-false (c .before .enough .result) (c .if4 .left) in
+    (omega arith, simp length-set (m .inv .1), turn f ws (a .at) 32 (v .result) i (omega arith) (a .marks .now) (m .marks) (m .j) (m .inv .2) (omega arith) (s .result) (s .ensures) (omega arith) (at-if3 .if3 .left) good)
 
 same-length-4 : tie.Need-same-length-4 Inv-loop μ-loop
 same-length-4 c = search needs
 
 returns-5 : tie.Need-returns-5 Inv-loop μ-loop
 returns-5 c =
-    let b = c .before .before .before .before .before .before .before in
-    let a = b .args in
+    let at-narrow = c .before .before .before in
+    let at-start = at-narrow .before .before .before .before in
+    let a = at-start .args in
     let ws = a .words .now in
-    let v = c .before .before .before .narrow in
+    let v = at-narrow .narrow in
     let f = gradePasses (map (slotGrade (a .count)) (whole ws .outgoing)) (a .sent) in
-    let i : Listed ws (a .at) 32 (v .result) = record { room = omega (arith, b .pre .0, b .pre .1 .0); is = v .ensures } in
+    let i : Listed ws (a .at) 32 (v .result) = record { room = omega (arith, at-start .pre .0, at-start .pre .1 .0); is = v .ensures } in
     let m = c .before .loop in
     end f ws (a .at) 32 (v .result) i (omega arith) (a .marks .now) (m .marks) (m .j) (m .inv .2) (omega arith)
 

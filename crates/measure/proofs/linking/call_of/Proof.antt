@@ -20,7 +20,8 @@ returns-5 c = simp (c .if5 .taken)
 
 returns-6 : tie.Need-returns-6
 returns-6 c =
-    simp (ne-eqb _ _ (c .before .before .before .before .if1 .left), ne-eqb _ _ (c .before .before .before .if2 .left), ne-eqb _ _ (c .before .before .if3 .left), ne-eqb _ _ (c .before .if4 .left), ne-eqb _ _ (c .if5 .left))
+    let at-if2 = c .before .before .before in
+    simp (ne-eqb _ _ (at-if2 .before .if1 .left), ne-eqb _ _ (at-if2 .if2 .left), ne-eqb _ _ (c .before .before .if3 .left), ne-eqb _ _ (c .before .if4 .left), ne-eqb _ _ (c .if5 .left))
 
 pub call-of-spec : {M : Type 1} → statement M
 call-of-spec = tie.close (tie.spec returns returns-2 returns-3 returns-4 returns-5 returns-6)

@@ -20,8 +20,9 @@ stepped-requires c κs = search needs
 
 returns : tie.Need-returns
 returns c =
-    let a = c .before .before .before .before .args in
-    same-outcome (ap (λ (q : Queue). steps (settingsOf 1392) q (a .time) (whole (a .words .now))) (c .before .before .before .queue-of .ensures))
+    let at-queue-of = c .before .before .before in
+    let a = at-queue-of .before .args in
+    same-outcome (ap (λ (q : Queue). steps (settingsOf 1392) q (a .time) (whole (a .words .now))) (at-queue-of .queue-of .ensures))
     (measured answerOf (c .before .step .ensures .0) (c .stepped .ensures))
 
 pub measure-step-spec : {M : Type 1} → statement M

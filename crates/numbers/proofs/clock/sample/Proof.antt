@@ -22,23 +22,26 @@ wrapping-sub-u32-requires c κs = search needs
 
 returns : tie.Need-returns
 returns c =
-    let clock = c .before .before .before .args .clock in
-    let sent = c .before .before .before .args .sent in
+    let at-start = c .before .before .before in
+    let clock = at-start .args .clock in
+    let sent = at-start .args .sent in
     let e = gap-of clock sent _ _ (search needs) (search needs) (search needs) (c .before .before .completed .ensures) (c .before .wrapping-sub-u32 .ensures) in
     rw (← e, le-leb _ _ (c .if1 .taken))
 
 returns-2 : tie.Need-returns-2
 returns-2 c =
-    let clock = c .before .before .before .before .args .clock in
-    let sent = c .before .before .before .before .args .sent in
-    let e = gap-of clock sent _ _ (search needs) (search needs) (search needs) (c .before .before .before .completed .ensures) (c .before .before .wrapping-sub-u32 .ensures) in
+    let at-completed = c .before .before .before in
+    let clock = at-completed .before .args .clock in
+    let sent = at-completed .before .args .sent in
+    let e = gap-of clock sent _ _ (search needs) (search needs) (search needs) (at-completed .completed .ensures) (c .before .before .wrapping-sub-u32 .ensures) in
     rw (← e, lt-leb _ _ (c .before .if1 .left), lt-ltb _ _ (c .if2 .taken))
 
 returns-3 : tie.Need-returns-3
 returns-3 c =
-    let clock = c .before .before .before .before .args .clock in
-    let sent = c .before .before .before .before .args .sent in
-    let e = gap-of clock sent _ _ (search needs) (search needs) (search needs) (c .before .before .before .completed .ensures) (c .before .before .wrapping-sub-u32 .ensures) in
+    let at-completed = c .before .before .before in
+    let clock = at-completed .before .args .clock in
+    let sent = at-completed .before .args .sent in
+    let e = gap-of clock sent _ _ (search needs) (search needs) (search needs) (at-completed .completed .ensures) (c .before .before .wrapping-sub-u32 .ensures) in
     rw (← e, lt-leb _ _ (c .before .if1 .left), le-ltb _ _ (c .if2 .left))
 
 pub sample-spec : {M : Type 1} → statement M

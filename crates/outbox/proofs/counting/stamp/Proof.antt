@@ -31,12 +31,12 @@ stamp-group-requires c κs = search needs
 
 returns-3 : tie.Need-returns-3
 returns-3 c =
-    let b = c .before .before in
+    let at-is-set = c .before .before in
     rw (
       c .stamp-group .ensures,
-      ne-eqb _ _ (b .before .before .before .if1 .left),
-      sym (b .before .before .is-acknowledged .ensures) ∙ b .before .if2 .left,
-      sym (b .is-set .ensures) ∙ c .before .if3 .taken,
+      ne-eqb _ _ (at-is-set .before .before .before .if1 .left),
+      sym (at-is-set .before .before .is-acknowledged .ensures) ∙ at-is-set .before .if2 .left,
+      sym (at-is-set .is-set .ensures) ∙ c .before .if3 .taken,
     )
 
 stamp-unreliable-requires : tie.Need-stamp-unreliable-requires
@@ -44,12 +44,12 @@ stamp-unreliable-requires c κs = search needs
 
 returns-4 : tie.Need-returns-4
 returns-4 c =
-    let b = c .before .before in
+    let at-is-set = c .before .before in
     rw (
       c .stamp-unreliable .ensures,
-      ne-eqb _ _ (b .before .before .before .if1 .left),
-      sym (b .before .before .is-acknowledged .ensures) ∙ b .before .if2 .left,
-      sym (b .is-set .ensures) ∙ c .before .if3 .left,
+      ne-eqb _ _ (at-is-set .before .before .before .if1 .left),
+      sym (at-is-set .before .before .is-acknowledged .ensures) ∙ at-is-set .before .if2 .left,
+      sym (at-is-set .is-set .ensures) ∙ c .before .if3 .left,
       rest-reliable,
     )
 

@@ -26,9 +26,10 @@ wrapping-add-u32-requires-2 c κs = search needs
 
 returns : tie.Need-returns
 returns c =
-    let m = c .before .before in
+    let at-wrapping-add-u32 = c .before .before in
+    let at-start = at-wrapping-add-u32 .before .before .before .before in
     c .wrapping-add-u322 .ensures
-    ∙ rw (m .wrapping-add-u32 .ensures, m .before .size-of .ensures) (sum-in-turn (m .before .before .before .before .args .total) _ _)
+    ∙ rw (at-wrapping-add-u32 .wrapping-add-u32 .ensures, at-wrapping-add-u32 .before .size-of .ensures) (sum-in-turn (at-start .args .total) _ _)
 
 pub grown-spec : {M : Type 1} → statement M
 grown-spec =

@@ -32,13 +32,13 @@ returns-3 c =
 
 returns-4 : tie.Need-returns-4
 returns-4 c =
-    let r = c .before .before in
-    let d = r .before .before .before in
+    let at-reaches = c .before .before in
+    let d = at-reaches .before .before .before in
     rw (
       ne-eqb _ _ (d .before .if1 .left),
       ← d .distance .ensures,
-      lt-leb _ _ (r .before .if2 .left),
-      sym (r .reaches .ensures) ∙ not-false _ (c .before .if3 .left),
+      lt-leb _ _ (at-reaches .before .if2 .left),
+      sym (at-reaches .reaches .ensures) ∙ not-false _ (c .before .if3 .left),
     )
 
 pub is-given-up-spec : {M : Type 1} → statement M

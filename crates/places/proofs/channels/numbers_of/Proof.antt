@@ -58,23 +58,23 @@ low16-requires-4 c κs = search needs
 
 returns : tie.Need-returns
 returns c =
-    let k = c .before .before in
-    let j = k .before .before in
+    let at-low163 = c .before .before in
+    let at-start = at-low163 .before .before .before .before .before .before .before in
+    let j = at-low163 .before .before in
     let i = j .before .before in
-    let b = i .before .before .before in
     sym
     (numbers-is
-    (b .args .words .now)
-    (b .args .i)
+    (at-start .args .words .now)
+    (at-start .args .i)
     (i .low16 .result)
     (j .low162 .result)
-    (k .low163 .result)
+    (at-low163 .low163 .result)
     (c .low164 .result)
-    (b .pre .1)
-    (b .pre .0)
+    (at-start .pre .1)
+    (at-start .pre .0)
     (i .low16 .ensures)
     (j .low162 .ensures)
-    (k .low163 .ensures)
+    (at-low163 .low163 .ensures)
     (c .low164 .ensures))
 
 pub numbers-of-spec : {M : Type 1} → statement M

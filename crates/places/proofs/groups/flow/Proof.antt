@@ -22,8 +22,8 @@ shared-slice-read-t10 c = search needs
 
 returns : tie.Need-returns
 returns c =
-    let k = c .before .before .before in
-    sym (flow-is (k .before .before .before .args .words .now) (k .low16 .result) (k .low16 .ensures))
+    let at-low16 = c .before .before .before in
+    sym (flow-is (at-low16 .before .before .before .args .words .now) (at-low16 .low16 .result) (at-low16 .low16 .ensures))
 
 pub flow-spec : {M : Type 1} → statement M
 flow-spec =

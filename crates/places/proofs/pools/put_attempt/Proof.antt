@@ -27,10 +27,10 @@ same-length c = search needs
 
 returns : tie.Need-returns
 returns c =
-    let o = c .before .before in
-    let b = o .before .before .before in
-    let e : length (o .put-attempt .last .0) ≡ 832 = search needs in
-    pool-back (b .args .words .now) (o .put-attempt .last .0) (b .pre) (λ (x : List Outgoing). set x (b .args .i) (withAttempt (getD x (b .args .i) noOutgoing) (b .args .sent) (b .args .timeout) (b .args .attempts))) e (o .put-attempt .ensures)
+    let at-put-attempt = c .before .before in
+    let b = at-put-attempt .before .before .before in
+    let e : length (at-put-attempt .put-attempt .last .0) ≡ 832 = search needs in
+    pool-back (b .args .words .now) (at-put-attempt .put-attempt .last .0) (b .pre) (λ (x : List Outgoing). set x (b .args .i) (withAttempt (getD x (b .args .i) noOutgoing) (b .args .sent) (b .args .timeout) (b .args .attempts))) e (at-put-attempt .put-attempt .ensures)
 
 pub put-attempt-spec : {M : Type 1} → statement M
 put-attempt-spec =

@@ -25,10 +25,10 @@ same-length c = search needs
 
 returns : tie.Need-returns
 returns c =
-    let o = c .before .before in
-    let b = o .before .before .before in
-    let e : length (o .put-in .last .0) ≡ 72 = search needs in
-    in-pool-back (b .args .words .now) (o .put-in .last .0) (b .pre) (λ (x : List Incoming). set x (b .args .i) (b .args .slot)) e (o .put-in .ensures)
+    let at-put-in = c .before .before in
+    let b = at-put-in .before .before .before in
+    let e : length (at-put-in .put-in .last .0) ≡ 72 = search needs in
+    in-pool-back (b .args .words .now) (at-put-in .put-in .last .0) (b .pre) (λ (x : List Incoming). set x (b .args .i) (b .args .slot)) e (at-put-in .put-in .ensures)
 
 pub put-incoming-spec : {M : Type 1} → statement M
 put-incoming-spec =

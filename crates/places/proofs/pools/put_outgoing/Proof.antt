@@ -25,10 +25,10 @@ same-length c = search needs
 
 returns : tie.Need-returns
 returns c =
-    let o = c .before .before in
-    let b = o .before .before .before in
-    let e : length (o .put .last .0) ≡ 832 = search needs in
-    pool-back (b .args .words .now) (o .put .last .0) (b .pre) (λ (x : List Outgoing). set x (b .args .i) (b .args .slot)) e (o .put .ensures)
+    let at-put = c .before .before in
+    let b = at-put .before .before .before in
+    let e : length (at-put .put .last .0) ≡ 832 = search needs in
+    pool-back (b .args .words .now) (at-put .put .last .0) (b .pre) (λ (x : List Outgoing). set x (b .args .i) (b .args .slot)) e (at-put .put .ensures)
 
 pub put-outgoing-spec : {M : Type 1} → statement M
 put-outgoing-spec =

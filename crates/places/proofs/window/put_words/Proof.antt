@@ -18,10 +18,10 @@ same-length c = search needs
 
 returns : tie.Need-returns
 returns c =
-    let o = c .before .before in
-    let b = o .before .before .before .before in
-    let m : length (b .args .t2) ≡ 32 = search needs in
-    ap whole (o .copy .ensures) ∙ put-words (b .args .words .now) (b .pre) (b .args .t2) m
+    let at-copy = c .before .before in
+    let at-start = at-copy .before .before .before .before in
+    let m : length (at-start .args .t2) ≡ 32 = search needs in
+    ap whole (at-copy .copy .ensures) ∙ put-words (at-start .args .words .now) (at-start .pre) (at-start .args .t2) m
 
 pub put-words-spec : {M : Type 1} → statement M
 put-words-spec = tie.close (tie.spec slice-aggregate-copy copy-requires same-length returns)

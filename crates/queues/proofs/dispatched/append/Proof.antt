@@ -16,10 +16,11 @@ same-length c = search needs
 
 returns : tie.Need-returns
 returns c =
-    let b = c .before .before .before .before .before .before in
-    let a = b .args in
-    let o = c .before .before .append in
-    dispatched-kept (a .words .now) (b .pre) (movedTo incoming (a .k) (map low (a .run .now))) (o .last .0) (o .ensures)
+    let at-append = c .before .before in
+    let at-start = at-append .before .before .before .before in
+    let a = at-start .args in
+    let o = at-append .append in
+    dispatched-kept (a .words .now) (at-start .pre) (movedTo incoming (a .k) (map low (a .run .now))) (o .last .0) (o .ensures)
 
 pub append-spec : {M : Type 1} → statement M
 append-spec = tie.close (tie.spec append-requires same-length returns)

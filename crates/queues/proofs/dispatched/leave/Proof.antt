@@ -13,9 +13,10 @@ same-length c = search needs
 
 returns : tie.Need-returns
 returns c =
-    let b = c .before .before .before .before .before in
+    let at-remove = c .before .before in
+    let b = at-remove .before .before .before in
     let a = b .args in
-    let o = c .before .before .remove in
+    let o = at-remove .remove in
     dispatched-kept (a .words .now) (b .pre) (λ xs. without xs 0) (o .last .0) (o .ensures)
 
 pub leave-spec : {M : Type 1} → statement M

@@ -16,8 +16,10 @@ same-length c = search needs
 
 returns : tie.Need-returns
 returns c =
-    let a = c .before .before .before .before .before .before .args in
-    c .before .before .mark .ensures ∙ ap (λ (xs : List ℕ). markedAll (a .marks .now) xs) (dispatched-items (a .words .now))
+    let at-mark = c .before .before in
+    let at-start = at-mark .before .before .before .before in
+    let a = at-start .args in
+    at-mark .mark .ensures ∙ ap (λ (xs : List ℕ). markedAll (a .marks .now) xs) (dispatched-items (a .words .now))
 
 pub mark-spec : {M : Type 1} → statement M
 mark-spec = tie.close (tie.spec mark-requires same-length returns)

@@ -14,9 +14,10 @@ same-length c = search needs
 
 returns : tie.Need-returns
 returns c =
-    let b = c .before .before .before .before .before in
+    let at-push = c .before .before in
+    let b = at-push .before .before .before in
     let a = b .args in
-    let o = c .before .before .push in
+    let o = at-push .push in
     dispatched-kept (a .words .now) (b .pre) (λ xs. pushed incoming xs (a .s)) (o .last .0) (o .ensures)
 
 pub push-spec : {M : Type 1} → statement M

@@ -20,9 +20,10 @@ copy-requires c κs = search needs
 
 returns : tie.Need-returns
 returns c =
-    let b = c .before .before .before .before .before in
+    let at-place-of = c .before .before in
+    let b = at-place-of .before .before .before in
     let a = b .args in
-    let at = c .before .before .place-of in
+    let at = at-place-of .place-of in
     let o = c .before .copy in
     held-cells (a .words .now) (b .pre .0) (a .i) (b .pre .1) (at .result) (at .ensures) (replicate 12 0) (o .last .0) refl (o .ensures)
 

@@ -19,10 +19,12 @@ same-length c = search needs
 
 returns : tie.Need-returns
 returns c =
-    let b = c .before .before .before .before .before .before .before in
+    let at-mark = c .before .before in
+    let at-place-of = at-mark .before .before in
+    let b = at-place-of .before .before .before in
     let a = b .args in
-    let at = c .before .before .before .before .place-of in
-    c .before .before .mark .ensures
+    let at = at-place-of .place-of in
+    at-mark .mark .ensures
     ∙ ap (λ (xs : List ℕ). markedAll (a .marks .now) xs) (held-items (a .words .now) (b .pre .0) (a .i) (b .pre .1) (at .result) (at .ensures))
 
 pub mark-spec : {M : Type 1} → statement M

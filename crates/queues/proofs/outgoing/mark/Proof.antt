@@ -18,10 +18,14 @@ same-length c = search needs
 
 returns : tie.Need-returns
 returns c =
-    let a = c .before .before .before .before .before .before .before .before .before .before .before .before .before .before .args in
-    let x = c .before .before .before .before .before .before .before .before .before .before .mark in
-    let y = c .before .before .before .before .before .before .mark2 in
-    let z = c .before .before .mark3 in
+    let at-mark3 = c .before .before in
+    let at-mark2 = at-mark3 .before .before .before .before in
+    let at-mark = at-mark2 .before .before .before .before in
+    let at-start = at-mark .before .before .before .before in
+    let a = at-start .args in
+    let x = at-mark .mark in
+    let y = at-mark2 .mark2 in
+    let z = at-mark3 .mark3 in
     marked-out (a .words .now) (a .marks .now) (x .last .1 .1 .1 .0) (y .last .1 .1 .1 .0) (z .last .1 .1 .1 .0) (x .ensures) (y .ensures) (z .ensures)
 
 pub mark-spec : {M : Type 1} → statement M

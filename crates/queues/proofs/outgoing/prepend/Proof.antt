@@ -23,11 +23,12 @@ same-length c = search needs
 
 returns : tie.Need-returns
 returns c =
-    let b = c .before .before .before .before .before .before .before in
-    let a = b .args in
+    let at-place-of = c .before .before .before in
+    let at-start = at-place-of .before .before .before .before in
+    let a = at-start .args in
     let o = c .before .before .prepend in
-    let at = c .before .before .before .place-of in
-    out-kept (a .list) (at .result) (at .ensures) (a .words .now) (b .pre) (prepended outgoing (map low (take (a .k) (a .run .now)))) (o .last .0) (o .ensures)
+    let at = at-place-of .place-of in
+    out-kept (a .list) (at .result) (at .ensures) (a .words .now) (at-start .pre) (prepended outgoing (map low (take (a .k) (a .run .now)))) (o .last .0) (o .ensures)
 
 pub prepend-spec : {M : Type 1} → statement M
 prepend-spec = tie.close (tie.spec place-of-requires prepend-requires same-length returns)

@@ -20,10 +20,11 @@ same-length c = search needs
 
 returns : tie.Need-returns
 returns c =
-    let b = c .before .before .before .before .before .before in
+    let at-place-of = c .before .before .before in
+    let b = at-place-of .before .before .before in
     let a = b .args in
     let o = c .before .before .push in
-    let at = c .before .before .before .place-of in
+    let at = at-place-of .place-of in
     out-kept (a .list) (at .result) (at .ensures) (a .words .now) (b .pre) (λ xs. pushed outgoing xs (a .s)) (o .last .0) (o .ensures)
 
 pub push-spec : {M : Type 1} → statement M

@@ -22,9 +22,10 @@ slice-relend-prefix-call c = search needs
 
 slice-aggregate-call : tie.Need-slice-aggregate-call
 slice-aggregate-call c =
-    let i = c .before .before .before in
-    let a = i .before .before .before .before .args in
-    sym (length-take-le (a .bench .store) (a .store .now) (i .if1 .left))
+    let at-if1 = c .before .before .before in
+    let at-start = at-if1 .before .before .before .before in
+    let a = at-start .args in
+    sym (length-take-le (a .bench .store) (a .store .now) (at-if1 .if1 .left))
 
 bytes-requires : tie.Need-bytes-requires
 bytes-requires c κs = search needs

@@ -37,16 +37,18 @@ add-i c = search needs
 
 loop-less : tie.Need-loop-less Inv-loop μ-loop
 loop-less c =
-    let m = c .before .before .before .before in
+    let at-if1 = c .before .before in
+    let m = at-if1 .before .before in
     let a = m .before .before .args in
-    let h : m .loop .i < length (a .slots .now) = ltb-true (m .loop .i) (length (a .slots .now)) (c .before .before .if1 .taken) in
+    let h : m .loop .i < length (a .slots .now) = ltb-true (m .loop .i) (length (a .slots .now)) (at-if1 .if1 .taken) in
     omega arith
 
 loop-again : tie.Need-loop-again Inv-loop μ-loop
 loop-again c =
-    let m = c .before .before .before .before in
+    let at-if1 = c .before .before in
+    let m = at-if1 .before .before in
     let a = m .before .before .args in
-    let h : m .loop .i < length (a .slots .now) = ltb-true (m .loop .i) (length (a .slots .now)) (c .before .before .if1 .taken) in (
+    let h : m .loop .i < length (a .slots .now) = ltb-true (m .loop .i) (length (a .slots .now)) (at-if1 .if1 .taken) in (
       omega arith,
       m .loop .inv .1 ∙ first-turn (m .loop .after) (c .put .result) (a .slots .now) (m .loop .i) (c .put .ensures) (a .n) (omega arith) (omega arith),
     )

@@ -20,8 +20,9 @@ incoming-fits-requires c κs = search needs
 
 returns : tie.Need-returns
 returns c =
+    let at-cell-fits = c .before .before .before in
     rw
-    (c .before .before .before .before .number-fits .ensures, c .before .before .before .cell-fits .ensures, c .before .before .channel-fits .ensures, c .before .outgoing-fits .ensures, c .incoming-fits .ensures)
+    (at-cell-fits .before .number-fits .ensures, at-cell-fits .cell-fits .ensures, c .before .before .channel-fits .ensures, c .before .outgoing-fits .ensures, c .incoming-fits .ensures)
 
 pub set-fits-spec : {M : Type 1} → statement M
 set-fits-spec =

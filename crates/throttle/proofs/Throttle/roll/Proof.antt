@@ -15,16 +15,18 @@ wrapping-add-u32-requires c κs = search needs
 
 returns-2 : tie.Need-returns-2
 returns-2 c =
-    let steady = lt-leb _ _ (c .before .before .before .before .before .if1 .left) in
-    let quick = le-leb _ _ (c .before .before .before .if2 .taken) in
+    let at-if2 = c .before .before .before in
+    let steady = lt-leb _ _ (at-if2 .before .before .if1 .left) in
+    let quick = le-leb _ _ (at-if2 .if2 .taken) in
     let sum = sym (c .before .before .wrapping-add-u32 .ensures) in
     let over = lt-ltb _ _ (c .if3 .taken) in
     record { throttle = simp (steady, quick, sum, over); answer = simp (steady, quick) }
 
 returns-3 : tie.Need-returns-3
 returns-3 c =
-    let steady = lt-leb _ _ (c .before .before .before .before .before .if1 .left) in
-    let quick = le-leb _ _ (c .before .before .before .if2 .taken) in
+    let at-if2 = c .before .before .before in
+    let steady = lt-leb _ _ (at-if2 .before .before .if1 .left) in
+    let quick = le-leb _ _ (at-if2 .if2 .taken) in
     let sum = sym (c .before .before .wrapping-add-u32 .ensures) in
     let over = le-ltb _ _ (c .if3 .left) in
     record { throttle = simp (steady, quick, sum, over); answer = simp (steady, quick) }
@@ -40,28 +42,33 @@ sub-next c = search needs
 
 returns-4 : tie.Need-returns-4
 returns-4 c =
-    let steady = lt-leb _ _ (c .before .before .before .before .before .before .before .before .if1 .left) in
-    let quick = lt-leb _ _ (c .before .before .before .before .before .before .if2 .left) in
-    let twice = sym (c .before .before .before .before .before .double .ensures) in
-    let high = sym (c .before .before .before .before .wrapping-add-u322 .ensures) in
-    let slow = lt-ltb _ _ (c .before .before .before .if4 .taken) in
+    let at-if4 = c .before .before .before in
+    let at-if2 = at-if4 .before .before .before in
+    let steady = lt-leb _ _ (at-if2 .before .before .if1 .left) in
+    let quick = lt-leb _ _ (at-if2 .if2 .left) in
+    let twice = sym (at-if4 .before .before .double .ensures) in
+    let high = sym (at-if4 .before .wrapping-add-u322 .ensures) in
+    let slow = lt-ltb _ _ (at-if4 .if4 .taken) in
     let enough = lt-ltb _ _ (c .before .if5 .taken) in
     record { throttle = simp (steady, quick, twice, high, slow, enough); answer = simp (steady, quick, twice, high, slow) }
 
 returns-5 : tie.Need-returns-5
 returns-5 c =
-    let steady = lt-leb _ _ (c .before .before .before .before .before .before .before .if1 .left) in
-    let quick = lt-leb _ _ (c .before .before .before .before .before .if2 .left) in
-    let twice = sym (c .before .before .before .before .double .ensures) in
-    let high = sym (c .before .before .before .wrapping-add-u322 .ensures) in
+    let at-wrapping-add-u322 = c .before .before .before in
+    let at-if2 = at-wrapping-add-u322 .before .before in
+    let steady = lt-leb _ _ (at-if2 .before .before .if1 .left) in
+    let quick = lt-leb _ _ (at-if2 .if2 .left) in
+    let twice = sym (at-wrapping-add-u322 .before .double .ensures) in
+    let high = sym (at-wrapping-add-u322 .wrapping-add-u322 .ensures) in
     let slow = lt-ltb _ _ (c .before .before .if4 .taken) in
     let enough = le-ltb _ _ (c .if5 .left) in
     record { throttle = simp (steady, quick, twice, high, slow, enough); answer = simp (steady, quick, twice, high, slow) }
 
 returns-6 : tie.Need-returns-6
 returns-6 c =
-    let steady = lt-leb _ _ (c .before .before .before .before .before .if1 .left) in
-    let quick = lt-leb _ _ (c .before .before .before .if2 .left) in
+    let at-if2 = c .before .before .before in
+    let steady = lt-leb _ _ (at-if2 .before .before .if1 .left) in
+    let quick = lt-leb _ _ (at-if2 .if2 .left) in
     let twice = sym (c .before .before .double .ensures) in
     let high = sym (c .before .wrapping-add-u322 .ensures) in
     let slow = le-ltb _ _ (c .if4 .left) in

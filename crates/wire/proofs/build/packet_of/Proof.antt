@@ -36,8 +36,9 @@ returns-2 c =
 returns-3 : tie.Need-returns-3
 unfolding shapedBy
 returns-3 c =
-    let e : c .before .before .before .before .args .kind ≡ 8 = c .before .match .keys3 in
-    rw (e, c .before .before .before .low16 .ensures, c .fragment-from .ensures)
+    let at-low16 = c .before .before .before in
+    let e : at-low16 .before .args .kind ≡ 8 = c .before .match .keys3 in
+    rw (e, at-low16 .low16 .ensures, c .fragment-from .ensures)
 
 returns-4 : tie.Need-returns-4
 unfolding shapedBy

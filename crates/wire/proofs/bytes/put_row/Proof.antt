@@ -18,6 +18,19 @@ Inv-loop out₀ at kind row place₀ j₀ out place j = (j ≤ 16) × (length ou
 abbrev μ-loop : tie.MeasureT-loop
 μ-loop out₀ at kind row place₀ j₀ out place j = 16 - j
 
+-- the places before `slice-known2`
+abbrev to-put-number : tie.After-slice-known2 Inv-loop μ-loop → tie.After-put-number Inv-loop μ-loop
+to-put-number c = c .before .before
+
+abbrev to-width-of : tie.After-slice-known2 Inv-loop μ-loop → tie.After-width-of Inv-loop μ-loop
+to-width-of c = to-put-number c .before .before
+
+abbrev to-loop : tie.After-slice-known2 Inv-loop μ-loop → tie.At-loop Inv-loop μ-loop
+to-loop c = to-width-of c .before .before
+
+abbrev to-start : tie.After-slice-known2 Inv-loop μ-loop → tie.Start Inv-loop μ-loop
+to-start c = to-loop c .before .before
+
 loop-holds : tie.Need-loop-holds Inv-loop μ-loop
 loop-holds c = search needs
 
@@ -32,16 +45,17 @@ array-read-put-number c = search needs
 
 put-number-requires : tie.Need-put-number-requires Inv-loop μ-loop
 put-number-requires c κs =
-    let l = c .before .before .before .loop in
-    let k = c .before .before .before .before .before .args .kind in
+    let at-loop = c .before .before .before in
+    let l = at-loop .loop in
+    let k = at-loop .before .before .args .kind in
     let e = c .before .width-of .ensures in
     omega (arith, total-step (layout k) (l .j))
 
 add-place : tie.Need-add-place Inv-loop μ-loop
 add-place c =
-    let l = c .before .before .before .before .before .before .loop in
-    let k = c .before .before .before .before .before .before .before .before .args .kind in
-    let e = c .before .before .before .before .width-of .ensures in
+    let l = to-loop c .loop in
+    let k = to-start c .args .kind in
+    let e = to-width-of c .width-of .ensures in
     omega (arith, total-step (layout k) (l .j))
 
 add-j : tie.Need-add-j Inv-loop μ-loop
@@ -52,10 +66,10 @@ loop-less c = search needs
 
 loop-again : tie.Need-loop-again Inv-loop μ-loop
 loop-again c =
-    let l = c .before .before .before .before .before .before .loop in
-    let a = c .before .before .before .before .before .before .before .before .args in
-    let w = c .before .before .before .before .width-of in
-    let e = c .before .before .put-number .ensures in (
+    let l = to-loop c .loop in
+    let a = to-start c .args in
+    let w = to-width-of c .width-of in
+    let e = to-put-number c .put-number .ensures in (
       search needs,
       ap length e ∙ put-length (l .out) (l .place) (w .result) (getD (a .t4) (l .j) 0) ∙ l .inv .1,
       total-turn (layout (a .kind)) (l .place) (w .result) (l .j) (w .ensures) ∙ l .inv .2,

@@ -27,8 +27,9 @@ width-of-requires c κs = search needs
 
 number-at-requires : tie.Need-number-at-requires Inv-loop μ-loop
 number-at-requires c κs =
-    let l = c .before .before .loop in
-    let k = c .before .before .before .before .args .kind in
+    let at-loop = c .before .before in
+    let l = at-loop .loop in
+    let k = at-loop .before .before .args .kind in
     let e = c .width-of .ensures in
     (omega (arith, total-step (layout k) (l .j)), omega (arith, width-le k (l .j)))
 
@@ -40,8 +41,9 @@ array-write-row c = search needs
 
 add-place : tie.Need-add-place Inv-loop μ-loop
 add-place c =
-    let l = c .before .before .before .loop in
-    let k = c .before .before .before .before .before .args .kind in
+    let at-loop = c .before .before .before in
+    let l = at-loop .loop in
+    let k = at-loop .before .before .args .kind in
     let e = c .before .width-of .ensures in
     omega (arith, total-step (layout k) (l .j))
 
@@ -53,8 +55,9 @@ loop-less c = search needs
 
 loop-again : tie.Need-loop-again Inv-loop μ-loop
 loop-again c =
-    let l = c .before .before .before .loop in
-    let a = c .before .before .before .before .before .args in
+    let at-loop = c .before .before .before in
+    let l = at-loop .loop in
+    let a = at-loop .before .before .args in
     let e = c .before .width-of .ensures in (
       search needs,
       simp length-set (omega arith),

@@ -19,7 +19,9 @@ returns : tie.Need-returns
 returns c = ap (placed (c .before .before .before .args .next)) (sym (ap answerOf (c .enum-told .given .1)) ∙ c .before .before .build .ensures)
 
 returns-2 : tie.Need-returns-2
-returns-2 c = ap (placed (c .before .before .before .before .args .next)) (sym (ap answerOf (c .before .command .given .1)) ∙ c .before .before .before .build .ensures)
+returns-2 c =
+    let at-build = c .before .before .before in
+    ap (placed (at-build .before .args .next)) (sym (ap answerOf (c .before .command .given .1)) ∙ at-build .build .ensures)
 
 pub found-spec : {M : Type 1} → statement M
 found-spec = tie.close (tie.spec build-requires enum-known-command enum-told returns returns-2)

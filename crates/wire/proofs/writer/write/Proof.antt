@@ -10,6 +10,16 @@ use borrow.Author.Needs.{needs}
 use Rattle.wire.proofs.writer.write.Statement.{statement}
 use Rattle.wire.proofs.writer.write.Tie as tie
 
+-- the places before `size-of`
+abbrev to-if1 : tie.After-size-of → tie.Else1
+to-if1 c = c .before .before
+
+abbrev to-names-fields : tie.After-size-of → tie.After-names-fields
+to-names-fields c = to-if1 c .before
+
+abbrev to-start : tie.After-size-of → tie.Start
+to-start c = to-names-fields c .before .before
+
 names-fields-requires : tie.Need-names-fields-requires
 names-fields-requires c κs = search needs
 
@@ -23,17 +33,20 @@ size-of-requires : tie.Need-size-of-requires
 size-of-requires c κs = search needs
 
 returns-2 : tie.Need-returns-2
-returns-2 c = let a = c .before .before .before .before .before .before .args in write-short (a .out .now) (a .at) (a .c) (omega arith)
+returns-2 c =
+    let at-size-of = c .before in
+    let a = to-start at-size-of .args in write-short (a .out .now) (a .at) (a .c) (omega arith)
 
 sub-if3 : tie.Need-sub-if3
 sub-if3 c = search needs
 
 returns-3 : tie.Need-returns-3
 returns-3 c =
-    let a = c .before .before .before .before .before .before .before .args in
-    let r = c .before .before .before .before .before .names-fields in
-    let k = named-kind (a .out .now) (a .at) (a .c) (sym (r .ensures) ∙ not-false (r .result) (c .before .before .before .before .if1 .left)) in
-    let e = c .before .before .size-of .ensures ∙ ap sizeOf k in
+    let at-size-of = c .before .before in
+    let a = to-start at-size-of .args in
+    let r = to-names-fields at-size-of .names-fields in
+    let k = named-kind (a .out .now) (a .at) (a .c) (sym (r .ensures) ∙ not-false (r .result) (to-if1 at-size-of .if1 .left)) in
+    let e = at-size-of .size-of .ensures ∙ ap sizeOf k in
     write-short (a .out .now) (a .at) (a .c) (omega arith)
 
 of-requires : tie.Need-of-requires
@@ -50,13 +63,15 @@ same-length c = search needs
 
 returns-4 : tie.Need-returns-4
 returns-4 c =
-    let a = c .before .before .before .before .before .before .before .before .before .before .before .before .args in
-    let r = c .before .before .before .before .before .before .before .before .before .before .names-fields in
-    let named = sym (r .ensures) ∙ not-false (r .result) (c .before .before .before .before .before .before .before .before .before .if1 .left) in
-    let e = c .before .before .before .before .before .before .before .size-of .ensures in
+    let at-put-row = c .before .before in
+    let at-size-of = at-put-row .before .before .before .before .before in
+    let a = to-start at-size-of .args in
+    let r = to-names-fields at-size-of .names-fields in
+    let named = sym (r .ensures) ∙ not-false (r .result) (to-if1 at-size-of .if1 .left) in
+    let e = at-size-of .size-of .ensures in
     let k = e ∙ ap sizeOf (named-kind (a .out .now) (a .at) (a .c) named) in
-    write-done (a .out .now) (a .at) (a .c) (c .before .before .before .before .before .before .before .size-of .result) (c .before .before .put-row .last .0) named (omega arith) e
-    (c .before .before .put-row .ensures ∙ ap (putRow (a .out .now) (a .at) (layout (a .c .byte % 16))) (c .before .before .before .of .ensures))
+    write-done (a .out .now) (a .at) (a .c) (at-size-of .size-of .result) (at-put-row .put-row .last .0) named (omega arith) e
+    (at-put-row .put-row .ensures ∙ ap (putRow (a .out .now) (a .at) (layout (a .c .byte % 16))) (at-put-row .before .of .ensures))
 
 pub write-spec : {M : Type 1} → statement M
 write-spec =
