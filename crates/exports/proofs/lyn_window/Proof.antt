@@ -57,6 +57,10 @@ add-result c =
 same-length : tie.Need-same-length
 same-length c = search needs
 
+-- the window's words after its judgement
+long : (c : tie.After-verdict-code) → length (to-judge c .judge .result .words) ≡ windowWords
+long c = search needs
+
 returns-2 : tie.Need-returns-2
 returns-2 c =
     let at-write-words = c .before .before .before .before .before in
@@ -70,9 +74,8 @@ returns-2 c =
     let code : c .verdict-code .result ≡ byTests (args .base) (before .result) (args .group) 0 2 1 2 =
     c .verdict-code .ensures ∙ verdict-code (args .base) (before .result) (args .group) (judge .result .verdict) (judge .ensures .answer)
     in
-    let long : length (judge .result .words) ≡ windowWords = search needs in
     let write = at-write-words .write-words in
-    let wrote = put-all 0 windowWords (args .words .now) (judge .result .words) (write .last .0) long (write .ensures) in
+    let wrote = put-all 0 windowWords (args .words .now) (judge .result .words) (write .last .0) (long c) (write .ensures) in
     record { reply = rw (moved, code, before .ensures, full); buffer = wrote ∙ simp (full, judge .ensures .words, before .ensures) }
 
 pub lyn-window-spec : {M : Type 1} → statement M
