@@ -50,7 +50,7 @@ returns-2 c =
     let a = at-start .args in
     let p = whole (a .words .now) in
     let asked : AtGate (a .settings) Nothing p = record { gate = g .ask .result; is = g .ask .ensures } in
-    let n : at-standing .standing .result .channels ≡ p .standing .channels = ap (λ (s : Standing). at-standing .channels) (at-standing .standing .ensures) in
+    let n : at-standing .standing .result .channels ≡ p .standing .channels = ap (λ (s : Standing). s .channels) (at-standing .standing .ensures) in
     let may = ap (beginFits (a .mtu) (a .count)) (sym n) ∙ sym (c .before .begin-fits .ensures) ∙ not-true _ (c .if1 .taken) in
     came-open asked p (beginsSound (a .mtu) (a .count) p) answerOf _ p (at-enum-told .enum-told .given .1) (record { answer = rw may; after = rw may })
 
