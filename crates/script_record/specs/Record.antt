@@ -49,8 +49,8 @@ inRow l = l .len ∷ inItems l
 abbrev pub listsRow : Lists → List ℕ
 listsRow l = outRow (l .sent) ++ (outRow (l .«send_reliable») ++ (outRow (l .outgoing) ++ inRow (l .dispatched)))
 
-abbrev pub groupsRow : Unsequenced → Waiting → List ℕ
-groupsRow g w =
+abbrev pub unsequencedRow : Unsequenced → Waiting → List ℕ
+unsequencedRow g w =
     (g .flags ∷ g .reserved ∷ g .incoming .0 ∷ g .outgoing .0 ∷ []) ++ (g .words ++ (w .event ∷ w .total ∷ w .queued ∷ []))
 
 abbrev pub channelRow : Channel → List ℕ

@@ -8,7 +8,7 @@ ghost use Rattle.record.specs.Lists.{inItems};
 ghost use Rattle.record.specs.Rows.{slotRow};
 ghost use Rattle.record.specs.Damage.{below, usedOut, usedIn};
 ghost use Rattle.script.specs.Row.{told};
-ghost use Rattle.script_record.specs.Record.{standingRow, paceRow, outRow, inRow, listsRow, groupsRow, channelRow, channelsRow, incomingRow, usedRow};
+ghost use Rattle.script_record.specs.Record.{standingRow, paceRow, outRow, inRow, listsRow, unsequencedRow, channelRow, channelsRow, incomingRow, usedRow};
 use command::fields::Command;
 use command::layout;
 use command::rows;
@@ -106,7 +106,7 @@ pub fn lists(row: Row, l: Lists) -> Row
 }
 
 pub fn unsequenced(row: Row, g: Unsequenced, w: Waiting) -> Row
-    ensures { λ r. ⌜ r ≡ told row (groupsRow g w) ⌝ }
+    ensures { λ r. ⌜ r ≡ told row (unsequencedRow g w) ⌝ }
 {
     let a = g.incoming;
     let b = g.outgoing;
