@@ -61,7 +61,8 @@ add-result c = search needs
 returns : tie.Need-returns
 unfolding numberAt
 returns c =
-    let first : c .before .before .before .before .before .before .before .before .before .args .at + 0 ≡ c .before .before .before .before .before .before .before .before .before .args .at = omega arith in
+    let at-start = c .before .before .before .before .before .before .before .before .before in
+    let first : at-start .args .at + 0 ≡ at-start .args .at = omega arith in
     rw first (omega arith)
 
 pub word-at-spec : {M : Type 1} → statement M

@@ -52,7 +52,10 @@ cast-put-outgoing : tie.Need-cast-put-outgoing
 cast-put-outgoing c = search needs
 
 put-outgoing-requires : tie.Need-put-outgoing-requires
-put-outgoing-requires c κs = let h = begun (found (c .before .before .before .before .before) .before .before) .pre .0 in search needs
+put-outgoing-requires c κs =
+    let at-slot-of = c .before .before .before .before .before in
+    let h = begun (found at-slot-of .before .before) .pre .0 in
+    search needs
 
 cast-marks : tie.Need-cast-marks
 cast-marks c = search needs

@@ -37,13 +37,16 @@ put-all-requires-3 c κs = search needs
 
 returns : tie.Need-returns
 returns c =
-    let a = c .before .before .before .before .before .before .before .before .before .before .before .before .before .args in
+    let at-put-all2 = c .before .before in
+    let at-put-all = at-put-all2 .before .before in
+    let at-start = at-put-all .before .before .before .before .before .before .before .before .before in
+    let a = at-start .args in
     let g = a .g in
     let w = a .w in
     let first = g .flags ∷ g .reserved ∷ g .incoming .0 ∷ g .outgoing .0 ∷ [] in
     let last = w .event ∷ w .total ∷ w .queued ∷ [] in
-    let p = c .before .before .before .before .put-all in
-    let q = c .before .before .put-all2 in
+    let p = at-put-all .put-all in
+    let q = at-put-all2 .put-all2 in
     let r = c .put-all3 in
     told-then (a .row) (p .result) (r .result) first (g .words ++ last) (p .ensures)
     (told-then (p .result) (q .result) (r .result) (g .words) last (q .ensures) (r .ensures))

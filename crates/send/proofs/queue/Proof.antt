@@ -24,7 +24,8 @@ returns c =
     let at-queue = c .before .before .before .before in
     let q = at-queue .queue in
     let at-piece = at-queue .before in
-    let a = at-piece .before .before .before .before .before .args in
+    let at-start = at-piece .before .before .before .before .before in
+    let a = at-start .args in
     subst (λ (x : Piece). Sets (whole (a .words .now)) (a .o) (a .marks .now) x (q .result) (q .last .1 .0) (whole (q .last .0))) (at-piece .piece-at .ensures) (q .ensures)
 
 pub queue-spec : {M : Type 1} → statement M

@@ -66,8 +66,9 @@ enum-known-gate c = search needs
 returns : tie.Need-returns Inv-loop μ-loop
 returns c =
     let k = c .before .gate .given in
-    let g = c .before .before .before .ask in
-    let a = c .before .before .before .before .before .before .args in
+    let at-ask = c .before .before .before in
+    let g = at-ask .ask in
+    let a = at-ask .before .before .before .args in
     let p = whole (a .words .now) in
     let b : AtGate (a .settings) Nothing p = record { gate = g .result; is = g .ensures } in
     came-shut b p (sendsSound (a .settings) (a .channel) (a .length) (a .flags) p) answerOf _ (k .0 .0) refl (k .1)
@@ -92,7 +93,8 @@ count-of-requires c κs = search needs
 
 plan-gate-requires : tie.Need-plan-gate-requires Inv-loop μ-loop
 plan-gate-requires c κs =
-    let h = good (c .before .before .before .before .before .before .before) in
+    let at-told = c .before .before .before .before .before .before .before in
+    let h = good at-told in
     search needs
 
 enum-known-room : tie.Need-enum-known-room Inv-loop μ-loop

@@ -43,7 +43,9 @@ lists-requires : tie.Need-lists-requires
 lists-requires c κs = to-start c .pre
 
 unsequenced-requires : tie.Need-unsequenced-requires
-unsequenced-requires c κs = c .before .before .before .before .before .before .before .before .before .before .before .before .pre
+unsequenced-requires c κs =
+    let at-flow = c .before in
+    to-start at-flow .pre
 
 waiting-requires : tie.Need-waiting-requires
 waiting-requires c κs =

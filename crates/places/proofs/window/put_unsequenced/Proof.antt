@@ -8,6 +8,13 @@ use borrow.Author.Needs.{needs}
 use Rattle.places.proofs.window.put_unsequenced.Statement.{statement}
 use Rattle.places.proofs.window.put_unsequenced.Tie as tie
 
+-- the places before `words`
+abbrev to-wide164 : tie.After-words → tie.After-wide164
+to-wide164 c = c .before .before .before
+
+abbrev to-start : tie.After-words → tie.Start
+to-start c = to-wide164 c .before .before .before .before .before .before .before .before
+
 wide16-requires : tie.Need-wide16-requires
 wide16-requires c κs = search needs
 
@@ -37,21 +44,23 @@ put-words-requires c κs = search needs
 
 same-length : tie.Need-same-length
 same-length c =
-    let o = c .before .before .before .before in
+    let at-words = c .before in
+    let o = to-wide164 at-words in
     let i = o .before in
     let v = i .before in
     let f = v .before in
-    let ws = f .before .before .before .before .before .args .words .now in
-    c .before .words .given ∙ length-sets ws 155 (f .wide16 .result ∷ v .wide162 .result ∷ i .wide163 .result ∷ o .wide164 .result ∷ [])
+    let ws = to-start at-words .args .words .now in
+    at-words .words .given ∙ length-sets ws 155 (f .wide16 .result ∷ v .wide162 .result ∷ i .wide163 .result ∷ o .wide164 .result ∷ [])
 
 returns : tie.Need-returns
 returns c =
-    let w = c .before .before in
+    let at-words = c .before in
+    let w = at-words .before in
     let o = w .before .before in
     let i = o .before in
     let v = i .before in
     let f = v .before in
-    let b = f .before .before .before .before .before in
+    let b = to-start at-words in
     put-unsequenced
     (b .args .words .now)
     (b .pre)

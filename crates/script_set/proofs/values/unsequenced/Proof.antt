@@ -20,7 +20,9 @@ short-requires-4 c κs = search needs
 
 returns : tie.Need-returns
 returns c =
-    (c .before .short3 .ensures, (c .short4 .ensures, (c .before .before .before .before .before .before .short .ensures, (c .before .before .before .before .short2 .ensures, c .before .before .words-at .ensures))))
+    let at-words-at = c .before .before in
+    let at-short2 = at-words-at .before .before in
+    (c .before .short3 .ensures, (c .short4 .ensures, (at-short2 .before .before .short .ensures, (at-short2 .short2 .ensures, at-words-at .words-at .ensures))))
 
 pub unsequenced-spec : {M : Type 1} → statement M
 unsequenced-spec =

@@ -55,7 +55,8 @@ returns c =
     let at-others = at-outgoing .before .before .before .before in
     let at-reliable = at-others .before .before .before .before .before in
     let at-packets = at-reliable .before .before .before .before in
-    let a = at-packets .before .before .before .before .before .args in
+    let at-start = at-packets .before .before .before .before .before in
+    let a = at-start .args in
     sent-back (whole (a .words .now)) (whole (at-reliable .prepend .last .0)) (whole (at-outgoing .prepend2 .last .0)) (whole (at-sent .replace .last .0)) (a .marks .now)
     (map low (take (at-packets .gather .result) (at-packets .gather .last .1 .1 .1 .0))) (map low (take (at-others .gather2 .result) (at-others .gather2 .last .1 .1 .1 .0)))
     (map low (take (at-kept .gather3 .result) (at-kept .gather3 .last .1 .1 .1 .0)))
