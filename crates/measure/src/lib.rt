@@ -3,7 +3,6 @@ pub mod incoming;
 pub mod linking;
 pub mod outgoing;
 pub mod telling;
-pub mod valued;
 
 ghost use mathlib.Core.Path.{_≡_};
 ghost use Rattle.numbers.specs.Pick.{pick};

@@ -30,7 +30,7 @@ pub extern "C" fn measure_link_send(
 }
 
 // By its kind, so that no compiler knows which call is made.
-pub(crate) fn call_of(kind: u32, a: u32, b: u32) -> Call
+pub fn call_of(kind: u32, a: u32, b: u32) -> Call
     ensures { λ r. ⌜ r ≡ callOf kind a b ⌝ }
 {
     if kind == 0 {

@@ -118,7 +118,7 @@ fn inward(reply: link_in::calls::Reply) -> u32
     }
 }
 
-pub(crate) fn linked(reply: link::calls::Reply) -> u32
+pub fn linked(reply: link::calls::Reply) -> u32
     ensures { λ r. ⌜ r ≡ told (linking.answerOf reply) ⌝ }
 {
     match reply {

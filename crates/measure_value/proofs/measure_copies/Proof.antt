@@ -1,8 +1,8 @@
 -- What was read is written back.
 use mathlib.Core.Path.{_∙_}
 use borrow.Author.Needs.{needs}
-use Rattle.measure.proofs.valued.measure_copies.Statement.{statement}
-use Rattle.measure.proofs.valued.measure_copies.Tie as tie
+use Rattle.measure_value.proofs.measure_copies.Statement.{statement}
+use Rattle.measure_value.proofs.measure_copies.Tie as tie
 
 meant-requires : tie.Need-meant-requires
 meant-requires c κs = search needs

@@ -5,10 +5,10 @@ use borrow.Author.Needs.{needs}
 use Rattle.peer.specs.declared.Peer.{Peer}
 use Rattle.link.specs.Steps.{answerOf, calls}
 use Rattle.link.specs.declared.calls.Call.{Call}
 use Rattle.measure.specs.Measured.{settingsOf, Measured}
 use Rattle.measure.proofs.Measuring.{measured, same-outcome}
-use Rattle.measure.proofs.valued.measure_value.Statement.{statement}
-use Rattle.measure.proofs.valued.measure_value.Tie as tie
+use Rattle.measure_value.proofs.measure_value.Statement.{statement}
+use Rattle.measure_value.proofs.measure_value.Tie as tie
 
 meant-requires : tie.Need-meant-requires
 meant-requires c κs = search needs

@@ -2,10 +2,10 @@
 ghost use mathlib.Core.Path.{_≡_};
 ghost use Rattle.places.specs.Whole.{whole};
 ghost use Rattle.link.specs.Steps.{calls};
 ghost use Rattle.measure.specs.Measured.{settingsOf, callOf, Measured};
-use crate::SETTINGS;
-use crate::linking::call_of;
-use crate::telling;
+use measure::SETTINGS;
+use measure::linking::call_of;
+use measure::telling;
 use places::RECORD;
 
 #[no_mangle]
