@@ -42,9 +42,12 @@ const TURNS: usize = 500;
 /// A call of the source: its time, and how many of its answers are wrong.
 type Source = (&'static str, fn() -> (f64, u32));
 
-const SOURCES: [Source; 18] = [
+const SOURCES: [Source; 21] = [
     ("send, 100 bytes", || sends::source(WHOLE)),
     ("send, 32 pieces", || sends::source(PIECES)),
+    ("reset", sends::reset),
+    ("ping", sends::ping),
+    ("setup", sends::setup),
     ("throttle", || sends::throttle(SAMPLE)),
     ("unsequenced arrival", || arrivals::unsequenced(|turn| turn)),
     ("unsequenced arrival, passed over", || arrivals::unsequenced(|_| DISTANT)),

@@ -22,7 +22,7 @@ pub use door::{
     receiver::{Datagram, Receiver, Taken},
     send::{Limits, Packet},
     throttle::Throttle,
-    timed::{Made, Sender},
+    timed::{Aside, Disconnecting, Made, Sender},
     timeouts::GivenUp,
     window::{Verdict, Window},
 };
