@@ -17,7 +17,7 @@ use Rattle.throttle.specs.declared.Turn.the-variants.{Held, Raised, Lowered}
 use Rattle.window.specs.Window as window
 use Rattle.window.specs.declared.Verdict.{Verdict}
 use Rattle.window.specs.declared.Verdict.the-variants.{Distant, Marked, Taken}
-use Rattle.exports.specs.Codes.{turnCode, verdictCode}
+use Rattle.exports.specs.CodeReplies.{turnCode, verdictCode}
 
 abbrev turnOf : ℤ → ℕ
 turnOf (pos n) = n

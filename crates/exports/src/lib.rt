@@ -7,7 +7,7 @@ ghost use Rattle.command.specs.Bytes.{numberAt, putNumber, putRow, pad};
 ghost use Rattle.command.specs.Rows.{kindOf, rowOf};
 ghost use Rattle.numbers.specs.Limits.{windowWords};
 ghost use Rattle.exports.specs.Buffers.{MarkCall, ReadCall, WindowCall, numbersIn, rowBytes, rowNumbers, throttleOf, throttleReply, TurnCall, windowBytes, withNumbers};
-ghost use Rattle.exports.specs.Codes.{turnCode, verdictCode};
+ghost use Rattle.exports.specs.CodeReplies.{turnCode, verdictCode};
 use command::fields::Command;
 use numbers::consts::UNSEQUENCED_WORDS;
 use numbers::counters::Group;

@@ -116,7 +116,7 @@ module _ (clock : ℕ) (p : Peer) (c : Clauses p) where
       record {
         marks = marks;
         sent = sent-items p c marks low;
-        reliable = reliable-items p c marks low;
+        sendReliable = reliable-items p c marks low;
         outgoing = outgoing-items p c marks low;
         names =
             λ k.
@@ -153,7 +153,7 @@ none-moved p =
     record {
       marks = [];
       sent = sym (unmarked-stay sent);
-      reliable = ap (λ (xs : List ℕ). xs ++ outItems (p .lists .«send_reliable»)) (sym (unmarked-move backReliable refl sent));
+      sendReliable = ap (λ (xs : List ℕ). xs ++ outItems (p .lists .«send_reliable»)) (sym (unmarked-move backReliable refl sent));
       outgoing = ap (λ (xs : List ℕ). xs ++ outItems (p .lists .outgoing)) (sym (unmarked-move backOutgoing refl sent));
       names = λ k. refl;
       slots = λ k. refl;

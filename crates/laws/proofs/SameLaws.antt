@@ -136,7 +136,7 @@ in-items l m e = ap (λ (v : ListView Incoming). v .items) e
 -- ---- lists and channels of two records that are shaped alike
 pub record Lined (l m : Lists) : Type 0 where
   pub sent : outShape (l .sent) ≡ outShape (m .sent)
-  pub reliable : outShape (l .«send_reliable») ≡ outShape (m .«send_reliable»)
+  pub sendReliable : outShape (l .«send_reliable») ≡ outShape (m .«send_reliable»)
   pub outgoing : outShape (l .outgoing) ≡ outShape (m .outgoing)
   pub dispatched : inShape (l .dispatched) ≡ inShape (m .dispatched)
 
@@ -146,7 +146,7 @@ Ranked cs ds = map channelShape cs ≡ map channelShape ds
 pub lined-used : (l m : Lists) → Lined l m → usedOut l ≡ usedOut m
 lined-used l m e =
     ap₂ (λ (xs ys : List ℕ). xs ++ ys) (out-items (l .sent) (m .sent) (e .sent))
-    (ap₂ (λ (xs ys : List ℕ). xs ++ ys) (out-items (l .«send_reliable») (m .«send_reliable») (e .reliable)) (out-items (l .outgoing) (m .outgoing) (e .outgoing)))
+    (ap₂ (λ (xs ys : List ℕ). xs ++ ys) (out-items (l .«send_reliable») (m .«send_reliable») (e .sendReliable)) (out-items (l .outgoing) (m .outgoing) (e .outgoing)))
 
 pub ranked-held : (cs ds : List Channel) → Ranked cs ds → held cs ≡ held ds
 ranked-held cs ds e = held-items [] cs ∙ ap heldItems e ∙ sym (held-items [] ds)
@@ -243,7 +243,7 @@ module _ (p q : Peer) (e : Same p q) where
       lined =
           record {
             sent = ap (outFilled []) (a .sent);
-            reliable = ap (outFilled []) (a .reliable);
+            sendReliable = ap (outFilled []) (a .sendReliable);
             outgoing = ap (outFilled []) (a .outgoing);
             dispatched = ap (inFilled []) (a .dispatched);
           }
@@ -262,7 +262,7 @@ module _ (p q : Peer) (e : Same p q) where
           agree-map (λ (s : ℕ). getD (p .outgoing) s noOutgoing) (λ (s : ℕ). getD (q .outgoing) s noOutgoing) (usedOut (p .lists))
           (held-out p
           ∙ ap₂ (λ (vs ws : List Outgoing). vs ++ ws) (ap (λ (v : ListView Outgoing). v .slots) (a .sent))
-          (ap₂ (λ (vs ws : List Outgoing). vs ++ ws) (ap (λ (v : ListView Outgoing). v .slots) (a .reliable)) (ap (λ (v : ListView Outgoing). v .slots) (a .outgoing)))
+          (ap₂ (λ (vs ws : List Outgoing). vs ++ ws) (ap (λ (v : ListView Outgoing). v .slots) (a .sendReliable)) (ap (λ (v : ListView Outgoing). v .slots) (a .outgoing)))
           ∙ sym (held-out q)
           ∙ ap (map (λ (s : ℕ). getD (q .outgoing) s noOutgoing)) (sym (lined-used (p .lists) (q .lists) lined)))
 
@@ -350,9 +350,9 @@ module _ (p q : Peer) (k : Like p q) (w : Within p q) where
         waiting = k .waiting;
         sent =
             out-put (p .outgoing) (q .outgoing) (usedOut (p .lists)) (p .lists .sent) (q .lists .sent) (k .outs) (λ s n. omega (arith, n, adds s)) (k .lists .sent);
-        reliable =
+        sendReliable =
             out-put (p .outgoing) (q .outgoing) (usedOut (p .lists)) (p .lists .«send_reliable») (q .lists .«send_reliable») (k .outs) (λ s n. omega (arith, n, adds s))
-            (k .lists .reliable);
+            (k .lists .sendReliable);
         outgoing =
             out-put (p .outgoing) (q .outgoing) (usedOut (p .lists)) (p .lists .outgoing) (q .lists .outgoing) (k .outs) (λ s n. omega (arith, n, adds s))
             (k .lists .outgoing);
@@ -372,7 +372,7 @@ module _ (p q : Peer) (k : Like p q) (w : Within p q) where
       rw (
         agrees .channels,
         agrees .sent,
-        agrees .reliable,
+        agrees .sendReliable,
         agrees .outgoing,
         agrees .dispatched,
         agrees .ids,

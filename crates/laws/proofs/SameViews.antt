@@ -106,18 +106,18 @@ module _ (slots : List Incoming) where
 viewSound : View → Bool
 viewSound v =
     let count = v .standing .channels in
-    let outs = v .sent .items ++ (v .reliable .items ++ v .outgoing .items) in
+    let outs = v .sent .items ++ (v .sendReliable .items ++ v .outgoing .items) in
     let ins = v .dispatched .items ++ heldItems (v .channels) in
     let arrivals = v .dispatched .slots ++ heldSlots (v .channels) in
     both (ranged (v .flow .mtu) count)
     (both
     (both
     (both (leb (v .sent .len) outgoing)
-    (both (leb (v .reliable .len) outgoing) (both (leb (v .outgoing .len) outgoing) (leb (v .dispatched .len) incoming))))
+    (both (leb (v .sendReliable .len) outgoing) (both (leb (v .outgoing .len) outgoing) (leb (v .dispatched .len) incoming))))
     (heldShort (v .channels)))
     (both
     (both (both (exist outgoing outs) (once outs))
-    (both (alls (commandFit count) (v .sent .slots ++ (v .reliable .slots ++ v .outgoing .slots))) (alls triedOnce (v .sent .slots))))
+    (both (alls (commandFit count) (v .sent .slots ++ (v .sendReliable .slots ++ v .outgoing .slots))) (alls triedOnce (v .sent .slots))))
     (both (both (exist incoming ins) (once ins))
     (both (alls (arrivalFit count) arrivals) (both (ownHeld 0 (v .channels)) (eqb (v .waiting .total) (sumLengths arrivals)))))))
 
@@ -184,7 +184,7 @@ pub record Agrees (p q : Peer) : Type 0 where
   pub unsequenced : p .unsequenced ≡ q .unsequenced
   pub waiting : p .waiting ≡ q .waiting
   pub sent : outView (p .outgoing) (p .lists .sent) ≡ outView (q .outgoing) (q .lists .sent)
-  pub reliable : outView (p .outgoing) (p .lists .«send_reliable») ≡ outView (q .outgoing) (q .lists .«send_reliable»)
+  pub sendReliable : outView (p .outgoing) (p .lists .«send_reliable») ≡ outView (q .outgoing) (q .lists .«send_reliable»)
   pub outgoing : outView (p .outgoing) (p .lists .outgoing) ≡ outView (q .outgoing) (q .lists .outgoing)
   pub dispatched : inView (p .incoming) (p .lists .dispatched) ≡ inView (q .incoming) (q .lists .dispatched)
   pub channels :
@@ -208,7 +208,7 @@ same-agrees p q e =
       unsequenced = ap (λ (v : View). v .unsequenced) e;
       waiting = ap (λ (v : View). v .waiting) e;
       sent = ap (λ (v : View). v .sent) e;
-      reliable = ap (λ (v : View). v .reliable) e;
+      sendReliable = ap (λ (v : View). v .sendReliable) e;
       outgoing = ap (λ (v : View). v .outgoing) e;
       dispatched = ap (λ (v : View). v .dispatched) e;
       channels = ap (λ (v : View). v .channels) e;

@@ -16,7 +16,7 @@ use Rattle.overdue.specs.Walking.{bearing}
 pub record Moves (before after : Peer) : Type 0 where
   pub marks : List ℕ
   pub sent : outItems (after .lists .sent) ≡ bearing stays marks (outItems (before .lists .sent))
-  pub reliable : outItems (after .lists .«send_reliable») ≡ bearing backReliable marks (outItems (before .lists .sent)) ++ outItems (before .lists .«send_reliable»)
+  pub sendReliable : outItems (after .lists .«send_reliable») ≡ bearing backReliable marks (outItems (before .lists .sent)) ++ outItems (before .lists .«send_reliable»)
   pub outgoing : outItems (after .lists .outgoing) ≡ bearing backOutgoing marks (outItems (before .lists .sent)) ++ outItems (before .lists .outgoing)
   pub names : (k : ℕ) → has (usedOut (after .lists)) k ≡ has (usedOut (before .lists)) k
   pub slots : (k : ℕ)

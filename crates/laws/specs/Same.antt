@@ -53,7 +53,7 @@ pub record View : Type 0 where
   pub trips : Trips
   pub flow : Flow
   pub sent : ListView Outgoing
-  pub reliable : ListView Outgoing
+  pub sendReliable : ListView Outgoing
   pub outgoing : ListView Outgoing
   pub dispatched : ListView Incoming
   pub unsequenced : Unsequenced
@@ -92,7 +92,7 @@ view p =
       trips = p .trips;
       flow = p .flow;
       sent = outView (p .outgoing) (p .lists .sent);
-      reliable = outView (p .outgoing) (p .lists .«send_reliable»);
+      sendReliable = outView (p .outgoing) (p .lists .«send_reliable»);
       outgoing = outView (p .outgoing) (p .lists .outgoing);
       dispatched = inView (p .incoming) (p .lists .dispatched);
       unsequenced = p .unsequenced;

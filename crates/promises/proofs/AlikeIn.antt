@@ -164,7 +164,7 @@ module _ (c d : Channel) (e : channelShape c ≡ channelShape d) where
           lists =
               record {
                 sent = lined .sent;
-                reliable = lined .reliable;
+                sendReliable = lined .sendReliable;
                 outgoing = lined .outgoing;
                 dispatched =
                     in-kept (l .dispatched) (m .dispatched) (movedTo incoming k (inItems (c .held)) (inItems (l .dispatched)))
@@ -258,7 +258,7 @@ module _ (p q : Peer) (k : Like p q) (w : Within p q) where
         rebuilt-like p q k (k .standing) (k .totals) (k .times) (k .loss) (k .throttling) (k .trips) (k .flow)
         (record {
           sent = k .lists .sent;
-          reliable = k .lists .reliable;
+          sendReliable = k .lists .sendReliable;
           outgoing = k .lists .outgoing;
           dispatched =
               in-kept (p .lists .dispatched) (q .lists .dispatched) (without (inItems (p .lists .dispatched)) 0) (without (inItems (q .lists .dispatched)) 0)
@@ -382,7 +382,7 @@ module _ (p q : Peer) (k : Like p q) (w : Within p q) where
         delivered-lined =
             record {
               sent = k .lists .sent;
-              reliable = k .lists .reliable;
+              sendReliable = k .lists .sendReliable;
               outgoing = k .lists .outgoing;
               dispatched =
                   in-kept (p .lists .dispatched) (q .lists .dispatched) (pushed incoming (inItems (p .lists .dispatched)) n)

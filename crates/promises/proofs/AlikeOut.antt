@@ -117,20 +117,20 @@ shorter-like l m e =
 module _ (l m : Lists) (e : Lined l m) where
   queue-same : (r : Queue) → outItems (listOf r l) ≡ outItems (listOf r m)
   queue-same queue.Outgoing = out-items (l .outgoing) (m .outgoing) (e .outgoing)
-  queue-same queue.Reliable = out-items (l .«send_reliable») (m .«send_reliable») (e .reliable)
+  queue-same queue.Reliable = out-items (l .«send_reliable») (m .«send_reliable») (e .sendReliable)
 
   without-lined : (r : Queue) → Lined (withoutHead r l) (withoutHead r m)
   without-lined queue.Outgoing =
       record {
         sent = e .sent;
-        reliable = e .reliable;
+        sendReliable = e .sendReliable;
         outgoing = shorter-like (l .outgoing) (m .outgoing) (e .outgoing);
         dispatched = e .dispatched;
       }
   without-lined queue.Reliable =
       record {
         sent = e .sent;
-        reliable = shorter-like (l .«send_reliable») (m .«send_reliable») (e .reliable);
+        sendReliable = shorter-like (l .«send_reliable») (m .«send_reliable») (e .sendReliable);
         outgoing = e .outgoing;
         dispatched = e .dispatched;
       }
@@ -143,7 +143,7 @@ module _ (l m : Lists) (e : Lined l m) where
       go true =
           record {
             sent = longer-like (l .sent) (m .sent) n (e .sent);
-            reliable = without-lined r .reliable;
+            sendReliable = without-lined r .sendReliable;
             outgoing = without-lined r .outgoing;
             dispatched = without-lined r .dispatched;
           }
@@ -215,9 +215,9 @@ with-lined l m e x n = go (toReliable x)
     go : (b : Bool) → Lined (pick b (withReliableList l (longer (l .«send_reliable») n)) (withOutgoingList l (longer (l .outgoing) n)))
         (pick b (withReliableList m (longer (m .«send_reliable») n)) (withOutgoingList m (longer (m .outgoing) n)))
     go true =
-        record { sent = e .sent; reliable = longer-like (l .«send_reliable») (m .«send_reliable») n (e .reliable); outgoing = e .outgoing; dispatched = e .dispatched }
+        record { sent = e .sent; sendReliable = longer-like (l .«send_reliable») (m .«send_reliable») n (e .sendReliable); outgoing = e .outgoing; dispatched = e .dispatched }
     go false =
-        record { sent = e .sent; reliable = e .reliable; outgoing = longer-like (l .outgoing) (m .outgoing) n (e .outgoing); dispatched = e .dispatched }
+        record { sent = e .sent; sendReliable = e .sendReliable; outgoing = longer-like (l .outgoing) (m .outgoing) n (e .outgoing); dispatched = e .dispatched }
 
 with-names : (l : Lists) (x : Piece) (n s : ℕ) → times (usedOut (listsWith l x n)) s ≤ one n s + times (usedOut l) s
 with-names l x n s = go (toReliable x)

@@ -69,7 +69,7 @@ module _ (l m : Lists) (e : Lined l m) (a b : List Outgoing) (h : Agree noOutgoi
       ap₃ (λ (x y z : Found). orElse x spot.Sent (orElse y spot.Outgoing (orElse z spot.Reliable spot.Nowhere)))
       (by (inSent number channel) (l .sent) (m .sent) (e .sent) (λ s n. omega (arith, n, used-adds l s)))
       (by (inQueue number channel) (l .outgoing) (m .outgoing) (e .outgoing) (λ s n. omega (arith, n, used-adds l s)))
-      (by (inQueue number channel) (l .«send_reliable») (m .«send_reliable») (e .reliable) (λ s n. omega (arith, n, used-adds l s)))
+      (by (inQueue number channel) (l .«send_reliable») (m .«send_reliable») (e .sendReliable) (λ s n. omega (arith, n, used-adds l s)))
     where
       by : (f : Outgoing → ℕ) (x y : OutList) → outShape x ≡ outShape y → ((s : ℕ) → 0 < times (outItems x) s → 0 < times (usedOut l) s)
           → seek (λ (s : ℕ). f (getD a s noOutgoing)) 0 (outItems x) ≡ seek (λ (s : ℕ). f (getD b s noOutgoing)) 0 (outItems y)
@@ -88,7 +88,7 @@ module _ (l m : Lists) (e : Lined l m) (a b : List Outgoing) (h : Agree noOutgoi
   slot-same : (w : Spot) → slotAt w l ≡ slotAt w m
   slot-same (spot.Sent k) = ap (λ (xs : List ℕ). Slot (getD xs k 0)) (out-items (l .sent) (m .sent) (e .sent))
   slot-same (spot.Outgoing k) = ap (λ (xs : List ℕ). Slot (getD xs k 0)) (out-items (l .outgoing) (m .outgoing) (e .outgoing))
-  slot-same (spot.Reliable k) = ap (λ (xs : List ℕ). Slot (getD xs k 0)) (out-items (l .«send_reliable») (m .«send_reliable») (e .reliable))
+  slot-same (spot.Reliable k) = ap (λ (xs : List ℕ). Slot (getD xs k 0)) (out-items (l .«send_reliable») (m .«send_reliable») (e .sendReliable))
   slot-same spot.Nowhere = refl
 
   cut-like : (x y : OutList) (k : ℕ) → outShape x ≡ outShape y → outShape (cut x k) ≡ outShape (cut y k)
@@ -96,11 +96,11 @@ module _ (l m : Lists) (e : Lined l m) (a b : List Outgoing) (h : Agree noOutgoi
 
   without-lined : (w : Spot) → Lined (listsWithout w l) (listsWithout w m)
   without-lined (spot.Sent k) =
-      record { sent = cut-like (l .sent) (m .sent) k (e .sent); reliable = e .reliable; outgoing = e .outgoing; dispatched = e .dispatched }
+      record { sent = cut-like (l .sent) (m .sent) k (e .sent); sendReliable = e .sendReliable; outgoing = e .outgoing; dispatched = e .dispatched }
   without-lined (spot.Outgoing k) =
-      record { sent = e .sent; reliable = e .reliable; outgoing = cut-like (l .outgoing) (m .outgoing) k (e .outgoing); dispatched = e .dispatched }
+      record { sent = e .sent; sendReliable = e .sendReliable; outgoing = cut-like (l .outgoing) (m .outgoing) k (e .outgoing); dispatched = e .dispatched }
   without-lined (spot.Reliable k) =
-      record { sent = e .sent; reliable = cut-like (l .«send_reliable») (m .«send_reliable») k (e .reliable); outgoing = e .outgoing; dispatched = e .dispatched }
+      record { sent = e .sent; sendReliable = cut-like (l .«send_reliable») (m .«send_reliable») k (e .sendReliable); outgoing = e .outgoing; dispatched = e .dispatched }
   without-lined spot.Nowhere = e
 
 -- what is at a place is named
@@ -246,7 +246,7 @@ by-lined : (ms : List ℕ) (l m : Lists) → Lined l m → Lined (listsBy ms l) 
 by-lined ms l m e =
     record {
       sent = out-kept (l .sent) (m .sent) (bearing stays ms (outItems (l .sent))) (bearing stays ms (outItems (m .sent))) (ap (bearing stays ms) items);
-      reliable = ahead-like (l .«send_reliable») (m .«send_reliable») backReliable (e .reliable);
+      sendReliable = ahead-like (l .«send_reliable») (m .«send_reliable») backReliable (e .sendReliable);
       outgoing = ahead-like (l .outgoing) (m .outgoing) backOutgoing (e .outgoing);
       dispatched = e .dispatched;
     }

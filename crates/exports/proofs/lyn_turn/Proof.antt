@@ -47,7 +47,7 @@ use Rattle.throttle.proofs.Throttle.turn.Symbol as turn-def
 use Rattle.throttle.proofs.Throttle.turn.Symbol.{name as #throttle·turn}
 use Rattle.throttle.proofs.Throttle.turn.Met as turn-thm
 use Rattle.exports.specs.Buffers.{TurnCall}
-use Rattle.exports.specs.Codes.{turnCode}
+use Rattle.exports.specs.CodeReplies.{turnCode}
 use Rattle.exports.proofs.Codes.{turn-code}
 use Rattle.exports.proofs.turn_code as number
 use Rattle.exports.proofs.turn_code.Symbol as number-def
