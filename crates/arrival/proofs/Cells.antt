@@ -13,6 +13,7 @@ use lib.ListN.{length, take, drop, getD, set, length-drop, List·getD-append}
 use lib.Seq.{paste, paste-suc, length-paste, drop-paste, length-take-le, length-paste-head, take-at, drop-at, getD-drop, getD-take}
 use borrow.Author.Tests.{leb-true, le-leb, lt-leb}
 use Rattle.numbers.specs.Pick.{pick, both}
+use Rattle.cells.proofs.Pasting.{pasted, pasted-before, pasted-after}
 use Rattle.record.specs.Sizes.{cell}
 use Rattle.arrival.specs.Storing.{filled, withinDatagram}
 
@@ -26,33 +27,6 @@ pub copy-turn : (d e s : List ℕ) (at from j : ℕ) → at + j < length d → f
 copy-turn d e s at from j p q h =
     let more : j < length (drop from s) = rw (length-drop from s) (omega arith) in
     rw (h, add-one, ← getD-drop from s j 0) (paste-suc d at (drop from s) j 0 p more)
-
--- a copy, byte by byte
-module _ (d : List ℕ) (at : ℕ) (s : List ℕ) (n : ℕ) (p : at + n ≤ length d) (q : n ≤ length s) where
-  pasted : take n (drop at (paste d at s n)) ≡ take n s
-  pasted =
-      let rest = take n s ++ drop (at + n) d in
-      ap (λ (l : List ℕ). take n (drop at l)) (append-assoc (take at d) (take n s) (drop (at + n) d))
-      ∙ ap (λ (l : List ℕ). take n l) (drop-at (take at d) rest at (length-take-le at d (omega arith)))
-      ∙ take-at (take n s) (drop (at + n) d) n (length-take-le n s q)
-
-  pasted-before : (i : ℕ) → i < at → getD (paste d at s n) i 0 ≡ getD d i 0
-  pasted-before i h =
-      let head : length (take at d ++ take n s) ≡ at + n = length-paste-head d at s n (omega arith) q in
-      let own : length (take at d) ≡ at = length-take-le at d (omega arith) in
-      List·getD-append (take at d ++ take n s) (drop (at + n) d) 0 i (omega arith)
-      ∙ List·getD-append (take at d) (take n s) 0 i (omega arith)
-      ∙ getD-take at d i 0 h
-
-  pasted-after : (i : ℕ) → at + n ≤ i → getD (paste d at s n) i 0 ≡ getD d i 0
-  pasted-after i h =
-      let j = i - (at + n) in
-      let e : at + n + j ≡ i = add-sub-of-le h in
-      ap (λ (k : ℕ). getD (paste d at s n) k 0) (sym e)
-      ∙ sym (getD-drop (at + n) (paste d at s n) j 0)
-      ∙ ap (λ (l : List ℕ). getD l j 0) (drop-paste d at s n (omega arith) q)
-      ∙ getD-drop (at + n) d j 0
-      ∙ ap (λ (k : ℕ). getD d k 0) e
 
 module _ (store : List ℕ) (s : ℕ) (datagram : List ℕ) (place n : ℕ) where
   pub filled-is : s * cell + n ≤ length store → place + n ≤ length datagram → filled store s datagram place n ≡ paste store (s * cell) (drop place datagram) n

@@ -7,3 +7,4 @@ pub mod Scans
 pub mod Marked
 pub mod Lowest
 pub mod Lengths
+pub mod Pasting

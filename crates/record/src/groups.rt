@@ -1,4 +1,4 @@
-// The groups of a peer's record, in document 01's order: each changes together. Above each field stands its name in the source.
+// The groups of a peer's record, in document 01's order: each changes together. Above each field stand its name in the source and what it is.
 use crate::incoming::InList;
 use crate::outgoing::OutList;
 use command::fields::Command;
@@ -23,11 +23,11 @@ pub struct Ids {
     pub outgoing_peer: u16,
     // incoming_peer_id: its place here
     pub incoming_peer: u16,
-    // connect_id
+    // connect_id: names the connection
     pub connect: u32,
-    // outgoing_session_id
+    // outgoing_session_id: stands in the headers that go out
     pub outgoing_session: u8,
-    // incoming_session_id
+    // incoming_session_id: stands in the headers that come
     pub incoming_session: u8,
 }
 
@@ -39,9 +39,9 @@ pub struct Standing {
 }
 
 pub struct Bandwidth {
-    // incoming_bandwidth
+    // incoming_bandwidth: what the other side can take, bytes a second
     pub incoming: u32,
-    // outgoing_bandwidth
+    // outgoing_bandwidth: what the other side can send, bytes a second
     pub outgoing: u32,
     // incoming_bandwidth_throttle_epoch: since when
     pub incoming_epoch: u32,
@@ -57,9 +57,9 @@ pub struct Totals {
 }
 
 pub struct Times {
-    // last_send_time
+    // last_send_time: when a datagram last went out; no call reads it
     pub last_send: u32,
-    // last_receive_time
+    // last_receive_time: when an acknowledgement last came; 0 before the first
     pub last_receive: u32,
     // next_timeout: when the first sent command is due
     pub next_timeout: u32,
@@ -68,7 +68,7 @@ pub struct Times {
 }
 
 pub struct Loss {
-    // packet_loss_epoch
+    // packet_loss_epoch: since when they are counted
     pub epoch: u32,
     // packets_sent: since the epoch
     pub sent: u32,
@@ -76,36 +76,36 @@ pub struct Loss {
     pub lost: u32,
     // packet_loss: the mean
     pub loss: u32,
-    // packet_loss_variance
+    // packet_loss_variance: of that mean
     pub variance: u32,
 }
 
 pub struct Throttling {
     // packet_throttle: of 32, how many packets go
     pub value: u32,
-    // packet_throttle_limit
+    // packet_throttle_limit: the most that it is raised to
     pub limit: u32,
-    // packet_throttle_counter
+    // packet_throttle_counter: which of the 32 is next
     pub counter: u32,
     // packet_throttle_epoch: since when the round trips are gathered
     pub epoch: u32,
-    // packet_throttle_acceleration
+    // packet_throttle_acceleration: by how much it is raised
     pub acceleration: u32,
-    // packet_throttle_deceleration
+    // packet_throttle_deceleration: by how much it is lowered
     pub deceleration: u32,
-    // packet_throttle_interval
+    // packet_throttle_interval: how long the round trips are gathered
     pub interval: u32,
 }
 
 #[repr(C)]
 pub struct Limits {
-    // ping_interval
+    // ping_interval: no call reads it
     pub ping: u32,
-    // timeout_limit: of attempts
+    // timeout_limit: of attempts, before a peer may be given up
     pub timeout: u32,
-    // timeout_minimum
+    // timeout_minimum: given up past the limit of attempts and this time
     pub minimum: u32,
-    // timeout_maximum
+    // timeout_maximum: given up past this time in any case
     pub maximum: u32,
 }
 
@@ -114,20 +114,20 @@ pub struct Trips {
     pub last: u32,
     // lowest_round_trip_time: of this interval
     pub lowest: u32,
-    // last_round_trip_time_variance
+    // last_round_trip_time_variance: of the interval before, the highest
     pub last_variance: u32,
-    // highest_round_trip_time_variance
+    // highest_round_trip_time_variance: of this interval
     pub highest_variance: u32,
     // round_trip_time: the mean
     pub mean: u32,
-    // round_trip_time_variance
+    // round_trip_time_variance: of that mean
     pub variance: u32,
 }
 
 pub struct Flow {
-    // mtu
+    // mtu: the bytes of the longest datagram
     pub mtu: u32,
-    // window_size
+    // window_size: of reliable data in transit; no call reads it
     pub window: u32,
     // reliable_data_in_transit: bytes sent and not acknowledged
     pub transit: u32,
@@ -147,9 +147,9 @@ pub struct Lists {
 }
 
 pub struct Unsequenced {
-    // flags
+    // flags: bit 1, something is to be received
     pub flags: u16,
-    // reserved
+    // reserved: not used
     pub reserved: u16,
     // incoming_unsequenced_group: where the window begins
     pub incoming: Group,
@@ -160,7 +160,7 @@ pub struct Unsequenced {
 }
 
 pub struct Waiting {
-    // event_data
+    // event_data: of the connect; no call reads it
     pub event: u32,
     // total_waiting_data: bytes stored and not received
     pub total: u32,
@@ -169,51 +169,52 @@ pub struct Waiting {
 }
 
 pub struct Channel {
-    // outgoing_reliable_sequence_number
+    // outgoing_reliable_sequence_number: the last one given
     pub outgoing_reliable: Reliable,
-    // outgoing_unreliable_sequence_number
+    // outgoing_unreliable_sequence_number: the last one given since that
     pub outgoing_unreliable: Unreliable,
     // incoming_reliable_sequence_number: the last dispatched
     pub incoming_reliable: Reliable,
-    // incoming_unreliable_sequence_number
+    // incoming_unreliable_sequence_number: not used, unreliable arrivals are left out
     pub incoming_unreliable: Unreliable,
     // incoming_reliable_commands: arrived, not yet next
     pub held: InList,
 }
 
 pub struct Outgoing {
-    // reliable_sequence_number
+    // reliable_sequence_number: the one that it got
     pub reliable: Reliable,
-    // unreliable_sequence_number
+    // unreliable_sequence_number: the one that it got
     pub unreliable: Unreliable,
-    // sent_time
+    // sent_time: of the last attempt
     pub sent: u32,
-    // round_trip_timeout
+    // round_trip_timeout: how long an answer may take; 0 before the first attempt
     pub timeout: u32,
-    // queue_time
+    // queue_time: the host count when it was queued
     pub queued: u32,
-    // fragment_offset
+    // fragment_offset: where in its packet it begins
     pub offset: u32,
-    // fragment_length
+    // fragment_length: how many bytes of its packet go with it
     pub length: u16,
-    // send_attempts
+    // send_attempts: how often it was sent
     pub attempts: u16,
     // packet, 1 or 0 for whether there is one
     pub packet: bool,
+    // command: byte, channel, number and fields, as they go out
     pub command: Command,
 }
 
 pub struct Incoming {
-    // command.header.command
+    // command.header.command: the whole byte
     pub byte: u8,
-    // command.header.channel_id
+    // command.header.channel_id: the one that it came on
     pub channel: u8,
-    // reliable_sequence_number
+    // reliable_sequence_number: the one that it bears
     pub number: Reliable,
-    // fragment_count
+    // fragment_count: 0 for a packet that came whole
     pub fragments: u32,
-    // fragments_remaining
+    // fragments_remaining: pieces that are not here yet
     pub remaining: u32,
-    // packet.data_length
+    // packet.data_length: bytes in its cell
     pub length: u32,
 }
