@@ -1,6 +1,7 @@
 -- C-11, the bytes of a block: the stored pieces' writes over zeros, in the order in which they were stored. And when such writes are the parts of one packet.
 use Prim.Native.Nat.{ℕ, _+_, _≤_, _<_}
 use mathlib.Core.Path.{_≡_}
+use mathlib.Core.Logic.{_⊎_}
 use mathlib.Core.List.{List, [], _∷_}
 use lib.ListN.{length, take, drop}
 use lib.Seq.{paste}
@@ -23,7 +24,7 @@ pub record PartOf (packet : List ℕ) (w : Write) : Type 0 where
   pub same : w .bytes ≡ take (length (w .bytes)) (drop (w .place) packet)
 
 abbrev pub AllParts : List ℕ → List Write → Type 0
-AllParts packet [] = ⊤
+AllParts packet [] = Unit {0}
 AllParts packet (w ∷ ws) = PartOf packet w × AllParts packet ws
 
 -- byte j is in the write
