@@ -18,3 +18,4 @@ pub mod Sends
 pub mod Steady
 pub mod Loads
 pub mod Carrying
+pub mod Assembling

@@ -8,3 +8,4 @@ pub mod Same
 pub mod Done
 pub mod Steady
 pub mod Transit
+pub mod Assembling
