@@ -40,7 +40,11 @@ awaiting w length = withTotal w (sum 32 (w .total) length)
 abbrev pub withinDatagram : List ℕ → ℕ → ℕ → Bool
 withinDatagram datagram place n = leb (place + n) (length datagram)
 
--- cell s holds n bytes of the datagram from a place on; where the store or the datagram is too short, nothing changes
+-- n bytes of the datagram from a place on, to a place of the store; where the store or the datagram is too short, nothing changes
+abbrev pub laid : List ℕ → ℕ → List ℕ → ℕ → ℕ → List ℕ
+laid store to datagram place n =
+    pick (both (leb (to + n) (length store)) (withinDatagram datagram place n)) (paste store to (drop place datagram) n) store
+
+-- to cell s
 abbrev pub filled : List ℕ → ℕ → List ℕ → ℕ → ℕ → List ℕ
-filled store s datagram place n =
-    pick (both (leb (s * cell + n) (length store)) (withinDatagram datagram place n)) (paste store (s * cell) (drop place datagram) n) store
+filled store s datagram place n = laid store (s * cell) datagram place n

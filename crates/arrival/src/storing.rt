@@ -3,7 +3,7 @@ ghost use mathlib.Core.Path.{_≡_};
 ghost use Prim.Native.Nat.{_+_, _≤_};
 ghost use lib.ListN.{length, drop};
 ghost use lib.Seq.{paste};
-ghost use Rattle.arrival.specs.Storing.{incomingOf, awaiting, filled, freeSlot};
+ghost use Rattle.arrival.specs.Storing.{incomingOf, awaiting, laid, filled, freeSlot};
 ghost use Rattle.cells.specs.Free.{markedAll};
 ghost use Rattle.record.specs.Damage.{below, held};
 ghost use Rattle.places.specs.Whole.{whole, recordLength};
@@ -39,20 +39,27 @@ pub fn awaiting(waiting: Waiting, length: u32) -> Waiting
     w
 }
 
-// So many bytes of the datagram from a place on into cell s, where they are there and it has room.
-pub fn fill(store: &mut [u8], s: u16, datagram: &[u8], place: u32, n: u32)
-    ensures { λ r. ⌜ now (store .exit) ≡ filled (now (store .entry)) s (now (datagram .entry)) place n ⌝ }
+// So many bytes of the datagram from a place on, to a place of the store, where they are there and it has room.
+pub fn lay(store: &mut [u8], to: u32, datagram: &[u8], place: u32, n: u32)
+    ensures { λ r. ⌜ now (store .exit) ≡ laid (now (store .entry)) to (now (datagram .entry)) place n ⌝ }
 {
-    let to = (s as usize) * (CELL as usize);
+    let at = to as usize;
     let from = place as usize;
     let count = n as usize;
-    if store.len() < to + count {
+    if store.len() < at + count {
         return;
     }
     if datagram.len() < from + count {
         return;
     }
-    copy(store, to, datagram, from, count);
+    copy(store, at, datagram, from, count);
+}
+
+// To cell s.
+pub fn fill(store: &mut [u8], s: u16, datagram: &[u8], place: u32, n: u32)
+    ensures { λ r. ⌜ now (store .exit) ≡ filled (now (store .entry)) s (now (datagram .entry)) place n ⌝ }
+{
+    lay(store, s as u32 * CELL, datagram, place, n);
 }
 
 fn copy(store: &mut [u8], to: usize, datagram: &[u8], from: usize, count: usize)

@@ -5,14 +5,15 @@
 use Prim.Native.Nat.{ℕ, _+_, _-_, _≤_, _<_}
 use mathlib.Core.Path.{_≡_, refl, sym, ap, _∙_}
 use mathlib.Core.Bool.{Bool, true, false}
-use mathlib.Core.List.{List, [], _∷_, _++_, append-assoc}
+use mathlib.Core.List.{List, [], _∷_}
 use mathlib.Core.Logic.{_⊎_, inl, inr}
 use native.Mathlib.Nat.{le-refl, add-sub-of-le}
 use native.Mathlib.Omega.{arith}
 use lib.Dec.{ltb}
-use lib.ListN.{length, take, drop, getD, List·getD-append}
-use lib.Seq.{length-take-le, take-length, drop-drop, getD-append-add, getD-take, getD-drop, length-paste, drop-paste, ext-getD}
+use lib.ListN.{length, take, drop, getD}
+use lib.Seq.{length-take-le, drop-drop, getD-take, getD-drop, length-paste, drop-paste, ext-getD}
 use borrow.Author.Tests.{ltb-true, ltb-false}
+use Rattle.cells.proofs.Pasting.{pasted-before, pasted-after, pasted-at}
 use Rattle.blocks.specs.Writing.{Write, written, allWritten, PartOf, AllParts, Reaches, Reached}
 
 -- a write that fits into the store
@@ -30,35 +31,14 @@ module _ (store : List ℕ) (w : Write) (fits : w .place + length (w .bytes) ≤
       let e : end + (n - end) ≡ n = add-sub-of-le h in
       rw e at (sym (drop-drop (n - end) end (written store w)) ∙ ap (drop (n - end)) one-past ∙ drop-drop (n - end) end store)
 
-  one-after : (j : ℕ) → w .place + length (w .bytes) ≤ j → getD (written store w) j 0 ≡ getD store j 0
-  one-after j h = sym (head-drop (written store w)) ∙ ap (λ (l : List ℕ). getD l 0 0) (one-beyond j h) ∙ head-drop store
-    where
-      head-drop : (l : List ℕ) → getD (drop j l) 0 0 ≡ getD l j 0
-      head-drop l = let e : j + 0 ≡ j = omega arith in rw e at (getD-drop j l 0 0)
-
-  -- what stands before it, its own bytes, the rest
-  abbrev rest : List ℕ
-  rest = drop (w .place + length (w .bytes)) store
-
-  in-parts : written store w ≡ take (w .place) store ++ (w .bytes ++ rest)
-  in-parts =
-      append-assoc (take (w .place) store) (take (length (w .bytes)) (w .bytes)) rest
-      ∙ ap (λ (l : List ℕ). take (w .place) store ++ (l ++ rest)) (take-length (w .bytes))
-
-  front : length (take (w .place) store) ≡ w .place
-  front = length-take-le (w .place) store (omega arith)
-
   one-before : (j : ℕ) → j < w .place → getD (written store w) j 0 ≡ getD store j 0
-  one-before j h =
-      ap (λ (l : List ℕ). getD l j 0) in-parts
-      ∙ List·getD-append (take (w .place) store) (w .bytes ++ rest) 0 j (omega (arith, front))
-      ∙ getD-take (w .place) store j 0 h
+  one-before = pasted-before store (w .place) (w .bytes) (length (w .bytes)) fits (le-refl (length (w .bytes)))
+
+  one-after : (j : ℕ) → w .place + length (w .bytes) ≤ j → getD (written store w) j 0 ≡ getD store j 0
+  one-after = pasted-after store (w .place) (w .bytes) (length (w .bytes)) fits (le-refl (length (w .bytes)))
 
   one-bytes : (k : ℕ) → k < length (w .bytes) → getD (written store w) (w .place + k) 0 ≡ getD (w .bytes) k 0
-  one-bytes k h =
-      ap (λ (l : List ℕ). getD l (w .place + k) 0) in-parts
-      ∙ (rw front at (getD-append-add (take (w .place) store) (w .bytes ++ rest) k 0))
-      ∙ List·getD-append (w .bytes) rest 0 k h
+  one-bytes = pasted-at store (w .place) (w .bytes) (length (w .bytes)) fits (le-refl (length (w .bytes)))
 
 module _ (packet : List ℕ) where
   -- a part's byte is the packet's

@@ -11,7 +11,7 @@ use Rattle.numbers.specs.declared.counters.Group.{Group}
 use Rattle.numbers.specs.declared.refusals.Refusal.the-variants.{NotStored}
 use Rattle.record.specs.Lists.{incoming, inItems}
 use Rattle.cells.specs.declared.Free.the-variants.{Lowest}
-use Rattle.record.specs.Sizes.{storeLength}
+use Rattle.record.specs.Sizes.{cell, storeLength}
 use Rattle.record.specs.Damage.{below}
 use Rattle.record.specs.Fresh.{noIncoming}
 use Rattle.record.specs.declared.groups.Lists.{Lists}
@@ -24,7 +24,7 @@ use Rattle.peer.specs.declared.settings.Settings.{Settings}
 use Rattle.peer.specs.declared.Peer.{Peer}
 use Rattle.peer.proofs.InClauses.{incoming-clauses, total-low}
 use Rattle.arrival.specs.Storing.{freeSlot}
-use Rattle.arrival.proofs.Cells.{filled-length, filled-payload, filled-others}
+use Rattle.arrival.proofs.Cells.{laid-length, laid-payload, laid-others}
 use Rattle.dispatch.proofs.Moving.{dispatch-order}
 use Rattle.arrival.proofs.Admitted.{Admitted, not-passed, not-refused}
 use Rattle.arrival.specs.Arrivals.{arrivedSlot, storedAt}
@@ -55,9 +55,9 @@ module _ (a : Arrival) (datagram : List ℕ) (x : State) (n : ℕ)
         free = free;
         holds = getD-set-same (p .incoming) n (arrivedSlot a) noIncoming (omega (arith, exists, whole .incoming));
         slots = λ k other. getD-set-other (p .incoming) n k (arrivedSlot a) noIncoming other;
-        payload = filled-payload (x .store) n datagram (a .place) (a .length) (omega (arith, exists, short, long)) (may .inside);
-        bytes = λ i out. filled-others (x .store) n datagram (a .place) (a .length) i out;
-        length = filled-length (x .store) n datagram (a .place) (a .length);
+        payload = laid-payload (x .store) (n * cell) datagram (a .place) (a .length) (omega (arith, exists, short, long)) (may .inside);
+        bytes = λ i out. laid-others (x .store) (n * cell) datagram (a .place) (a .length) i out;
+        length = laid-length (x .store) (n * cell) datagram (a .place) (a .length);
         total = omega (arith, low, short);
       }
 
