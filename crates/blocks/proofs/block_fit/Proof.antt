@@ -1,38 +1,61 @@
+-- `block_fit` asks one rule after the other. What remains and what is marked make the count: asked as a difference, which is one where no more remains than the count.
+use Prim.Native.Nat.{_+_}
+use mathlib.Core.Path.{_∙_}
+use native.Mathlib.Omega.{arith}
 use borrow.Author.Needs.{needs}
+use borrow.Author.Tests.{le-leb, lt-leb, eq-eqb, ne-eqb}
+use Rattle.blocks.specs.Marks.{markedCount}
+use Rattle.blocks.proofs.Broken.{broken}
 use Rattle.blocks.proofs.block_fit.Statement.{statement}
 use Rattle.blocks.proofs.block_fit.Tie as tie
-use Rattle.blocks.proofs.block_fit.Reads as reads
-use Rattle.blocks.proofs.block_fit.Lts as lts
-use Rattle.blocks.proofs.marked_count.Reads as marked-count-reads
-use Rattle.blocks.proofs.none_from.Reads as none-from-reads
 
--- src/lib.rt:140:9
 returns : tie.Need-returns
-returns c = ?
+returns c = simp (lt-leb _ _ (c .if1 .taken))
 
--- src/lib.rt:143:9
 returns-2 : tie.Need-returns-2
-returns-2 c = ?
+returns-2 c = simp (lt-leb _ _ (c .if2 .taken), broken)
 
--- src/lib.rt:146:9
 returns-3 : tie.Need-returns-3
-returns-3 c = ?
+returns-3 c = simp (lt-leb _ _ (c .if3 .taken), broken)
 
--- src/lib.rt:148:8
+returns-4 : tie.Need-returns-4
+returns-4 c =
+    let a = c .before .before .before .before .before .before .before .before .args in
+    let more = c .if4 .taken in
+    simp (ne-eqb (a .slot .remaining + markedCount (a .m)) (a .slot .fragments) (λ e. omega arith), broken)
+
 marked-count-requires : tie.Need-marked-count-requires
 marked-count-requires c κs = search needs
 
--- src/lib.rt:149:9
-returns-4 : tie.Need-returns-4
-returns-4 c = ?
+returns-5 : tie.Need-returns-5
+returns-5 c =
+    let counted = c .before .before in
+    let a = counted .before .before .before .before .before .before .before .before .before .args in
+    let other = c .if5 .taken in
+    let count = counted .marked-count .ensures in
+    simp (ne-eqb (a .slot .remaining + markedCount (a .m)) (a .slot .fragments) (λ e. other (omega arith)), broken)
 
--- src/lib.rt:151:5
 none-from-requires : tie.Need-none-from-requires
 none-from-requires c κs = search needs
 
--- src/lib.rt:136:1
-returns-5 : tie.Need-returns-5
-returns-5 c = ?
+returns-6 : tie.Need-returns-6
+returns-6 c =
+    let counted = c .before .before .before in
+    let enough = counted .before in
+    let small = enough .before .before in
+    let some = small .before .before in
+    let few = some .before .before in
+    let a = few .before .before .args in
+    let same = c .before .if5 .left in
+    let count = counted .marked-count .ensures in
+    let no-more = enough .if4 .left in
+    c .none-from .ensures
+    ∙ simp (
+      le-leb _ _ (few .if1 .left),
+      le-leb _ _ (some .if2 .left),
+      le-leb _ _ (small .if3 .left),
+      eq-eqb (a .slot .remaining + markedCount (a .m)) (a .slot .fragments) (omega arith),
+    )
 
 pub block-fit-spec : {M : Type 1} → statement M
 block-fit-spec =
@@ -41,7 +64,8 @@ block-fit-spec =
     returns
     returns-2
     returns-3
-    marked-count-requires
     returns-4
+    marked-count-requires
+    returns-5
     none-from-requires
-    returns-5)
+    returns-6)
