@@ -1,8 +1,8 @@
--- A rule that is broken makes a conjunction false, whatever stands before it. By cases.
+-- A rule that is broken makes a conjunction false, whatever stands before it.
 use mathlib.Core.Path.{_≡_, refl}
-use mathlib.Core.Bool.{Bool, true, false}
+use mathlib.Core.Bool.{Bool, false}
 use Rattle.numbers.specs.Pick.{both}
+use Rattle.numbers.proofs.BoolLaws.{both-false}
 
 pub broken : (a : Bool) → both a false ≡ false
-broken true = refl
-broken false = refl
+broken a = both-false a false refl
