@@ -1,7 +1,7 @@
 -- C-11, "the block is complete exactly when all its pieces are marked": of marks and a slot that belong together. A new block's belong together, and a piece
 -- that is marked and counted off keeps them so.
 -- The argument: what remains and what is marked below the count make the count, since nothing past it is marked.
-use mathlib.Core.Path.{_≡_, refl, sym, _∙_}
+use mathlib.Core.Path.{_≡_, sym, _∙_}
 use mathlib.Core.Bool.{Bool, true, false}
 use Prim.Native.Nat.{ℕ, _+_, _-_, _^_, _≤_, _<_}
 use native.Mathlib.Nat.{zero-add}
@@ -32,8 +32,7 @@ block-rules a b c d e h =
 -- those of `fieldsFit` that a new block needs
 field-rules : (a b c d e f g : Bool) → both (both a b) (both c (both (both d e) (both f g))) ≡ true → (b ≡ true) × (d ≡ true) × (f ≡ true)
 field-rules a b c d e f g h =
-    let x = both-right c (both (both d e) (both f g)) (both-right (both a b) (both c (both (both d e) (both f g))) h) in
-    (
+    let x = both-right c (both (both d e) (both f g)) (both-right (both a b) (both c (both (both d e) (both f g))) h) in (
       both-right a b (both-left (both a b) (both c (both (both d e) (both f g))) h),
       both-left d e (both-left (both d e) (both f g) x),
       both-left f g (both-right (both d e) (both f g) x),
@@ -61,13 +60,13 @@ module _ (m : Marks) (slot : Incoming) (fit : blockFit m slot ≡ true) where
   rules : Fits m slot
   rules =
       let r =
-        block-rules
-          (leb (slot .fragments) mostPieces)
-          (leb 1 (slot .length))
-          (leb (slot .length) mostBytes)
-          (eqb (slot .remaining + markedCount m) (slot .fragments))
-          (eqb (markedFrom m (slot .fragments) (mostPieces - slot .fragments)) 0)
-          fit in
+      block-rules
+      (leb (slot .fragments) mostPieces)
+      (leb 1 (slot .length))
+      (leb (slot .length) mostBytes)
+      (eqb (slot .remaining + markedCount m) (slot .fragments))
+      (eqb (markedFrom m (slot .fragments) (mostPieces - slot .fragments)) 0)
+      fit in
       record {
         few = leb-true _ _ (r .0);
         some = leb-true 1 (slot .length) (r .1);
@@ -100,7 +99,7 @@ module _ (m : Marks) (slot : Incoming) (fit : blockFit m slot ≡ true) where
       let f = rules in
       let inside : k < mostPieces = omega arith in
       let more = count-with m k inside new in
-      let past = count-outside m k inside (slot .fragments) (mostPieces - slot .fragments) (λ i l g e. omega arith) in
+      let past = count-outside m k inside (mostPieces - slot .fragments) (slot .fragments) (λ i l g e. omega arith) in
       let left : (slot .remaining ≡ 0 → ⊥) = (λ e. never (sym new ∙ complete e k h)) in
       let less : minus 32 (slot .remaining) 1 ≡ slot .remaining - 1 = omega (arith, left) in
       fits (withPiece m k) (oneLess slot) record {
@@ -117,15 +116,15 @@ module _ (m : Marks) (slot : Incoming) (fit : blockFit m slot ≡ true) where
 pub new-fit : (packet byte channel : ℕ) (start : Reliable) (f : Fragment) → fieldsFit packet f ≡ true → blockFit noMarks (blockOf byte channel start f) ≡ true
 new-fit packet byte channel start f fit =
     let r =
-      field-rules
-        (leb 1 (f .count))
-        (leb (f .count) mostPieces)
-        (ltb (f .number) (f .count))
-        (leb (f .total) mostBytes)
-        (leb (f .total) packet)
-        (ltb (f .offset) (f .total))
-        (leb (f .length) (f .total - f .offset))
-        fit in
+    field-rules
+    (leb 1 (f .count))
+    (leb (f .count) mostPieces)
+    (ltb (f .number) (f .count))
+    (leb (f .total) mostBytes)
+    (leb (f .total) packet)
+    (ltb (f .offset) (f .total))
+    (leb (f .length) (f .total - f .offset))
+    fit in
     let begins : f .offset < f .total = ltb-true (f .offset) (f .total) (r .2) in
     let nothing : (n k : ℕ) → markedFrom noMarks k n ≡ 0 = (λ n k. all-alike false noMarks n k (λ i l h. marked-none i)) in
     fits noMarks (blockOf byte channel start f) record {

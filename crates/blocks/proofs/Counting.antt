@@ -2,15 +2,14 @@
 -- The argument: a count over a run is by induction on its length; a word's set bits from bit k on are bit k and those from k + 1 on.
 use mathlib.Core.Path.{_≡_, refl, sym, _∙_, ap, ap₂}
 use mathlib.Core.Bool.{Bool, true, false}
-use Prim.Native.Nat.{ℕ, zero, suc, _+_, _-_, _*_, _/_, _%_, _^_, _≤_, _<_}
+use Prim.Native.Nat.{ℕ, zero, suc, _+_, _-_, _/_, _%_, _^_, _≤_, _<_}
 use native.Mathlib.Nat.{add-zero, zero-add, suc-add, add-assoc, div-eq-of-lt, div-one, mod-eq-of-lt, pow-suc}
-use native.Mathlib.Numerals.{add-one}
 use native.Mathlib.Omega.{arith}
 use lib.Arith.{lt-one}
 use lib.Count.{ones, ones-step}
-use lib.Dec.{eqb, ltb}
+use lib.Dec.{eqb}
 use lib.Pow.{shr-shr, shr-le}
-use borrow.Author.Tests.{lt-ltb, le-ltb, eq-eqb, ne-eqb, eqb-true, eqb-false}
+use borrow.Author.Tests.{lt-ltb, le-ltb, ne-eqb, eqb-true, eqb-false}
 use Rattle.numbers.specs.Pick.{pick, both}
 use Rattle.numbers.specs.Bits.{bit}
 use Rattle.blocks.specs.Marks.{mostPieces, pieceMarked, markedFrom, markedCount}
@@ -95,7 +94,7 @@ module _ (m : Marks) (low : m .low < 2 ^ 32) (high : m .high < 2 ^ 32) where
       let join : k + (32 - k) ≡ 0 + 32 = omega arith in
       let first = count-word m 0 (m .low) (λ i l. rw (add-zero i) (piece-low m i l)) low (32 - k) k (omega arith) in
       rw (parts, split m (32 - k) k 32, join)
-        (ap₂ (λ (x y : ℕ). x + y) (rw (add-zero k) at first) (from-high 0 (omega arith) ∙ ap ones (div-one (m .high))))
+      (ap₂ (λ (x y : ℕ). x + y) (rw (add-zero k) at first) (from-high 0 (omega arith) ∙ ap ones (div-one (m .high))))
 
   pub count-ones : ones (m .low) + ones (m .high) ≡ markedCount m
   count-ones = sym (from-low 0 (omega arith) ∙ rw (div-one (m .low)))

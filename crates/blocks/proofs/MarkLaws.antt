@@ -1,8 +1,8 @@
 -- Marking a piece: it is marked then, every other piece is as before, and one more is marked unless it was marked already. With no marks no piece is marked.
 -- The argument: two pieces share a word and a bit of it only if they are the same; counts over a run are by the pieces in it.
-use mathlib.Core.Path.{_≡_, refl, sym, _∙_, ap, ap₂}
+use mathlib.Core.Path.{_≡_, refl, _∙_, ap, ap₂}
 use mathlib.Core.Bool.{Bool, true, false}
-use Prim.Native.Nat.{ℕ, zero, suc, _+_, _-_, _/_, _%_, _^_, _≤_, _<_}
+use Prim.Native.Nat.{ℕ, zero, suc, _+_, _/_, _%_, _≤_, _<_}
 use native.Mathlib.Omega.{arith}
 use lib.Dec.{eqb, leb, ltb}
 use borrow.Author.Tests.{ltb-true, ltb-false, eqb-true, eqb-false, lt-leb, eq-eqb, ne-eqb}
@@ -123,8 +123,8 @@ at-most m zero k = omega arith
 at-most m (suc n) k = omega (arith, at-most-one (pieceMarked m k), at-most m n (k + 1))
 
 module _ (m : Marks) (j : ℕ) (few : j < mostPieces) where
-  pub count-outside : (k n : ℕ) → ((i : ℕ) → k ≤ i → i < k + n → i ≡ j → ⊥) → markedFrom (withPiece m j) k n ≡ markedFrom m k n
-  count-outside k n f = same-count (withPiece m j) m n k (λ i l h. marked-with m j i few ∙ rw (ne-eqb i j (f i l h)))
+  pub count-outside : (n k : ℕ) → ((i : ℕ) → k ≤ i → i < k + n → i ≡ j → ⊥) → markedFrom (withPiece m j) k n ≡ markedFrom m k n
+  count-outside n k f = same-count (withPiece m j) m n k (λ i l h. marked-with m j i few ∙ rw (ne-eqb i j (f i l h)))
 
   module _ (new : pieceMarked m j ≡ false) where
     pub count-inside : (n k : ℕ) → k ≤ j → j < k + n → markedFrom (withPiece m j) k n ≡ markedFrom m k n + 1
@@ -136,7 +136,7 @@ module _ (m : Marks) (j : ℕ) (few : j < mostPieces) where
             → pick (pick t true (pieceMarked m k)) 1 0 + markedFrom (withPiece m j) (k + 1) n ≡ pick (pieceMarked m k) 1 0 + markedFrom m (k + 1) n + 1
         go true t later =
             let here = eqb-true k j t in
-            rw (count-outside (k + 1) n (λ i a b e. omega arith), here, new) (omega arith)
+            rw (count-outside n (k + 1) (λ i a b e. omega arith), here, new) (omega arith)
         go false t later =
             let other = eqb-false k j t in
             let rest = later (omega (arith, other)) (omega arith) in

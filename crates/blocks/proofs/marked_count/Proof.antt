@@ -1,5 +1,4 @@
 -- `marked_count` adds up the set bits of the two words: each is at most 32, and together they are the marked pieces.
-use Prim.Native.Nat.{_^_, _<_}
 use native.Mathlib.Omega.{arith}
 use lib.Count.{ones-le}
 use borrow.Author.Needs.{needs}

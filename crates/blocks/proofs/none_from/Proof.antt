@@ -1,9 +1,8 @@
 -- `none_from` answers whether no piece from k on is marked: a word shifted by k is 0 exactly when it has no bit from k on.
 use mathlib.Core.Path.{sym, _∙_}
 use native.Mathlib.Omega.{arith}
-use lib.Dec.{eqb}
 use borrow.Author.Needs.{needs}
-use borrow.Author.Tests.{eq-eqb, ne-eqb, not-true, not-false}
+use borrow.Author.Tests.{eq-eqb, ne-eqb}
 use Rattle.blocks.proofs.Counting.{none-low, none-high, none-past}
 use Rattle.blocks.proofs.none_from.Statement.{statement}
 use Rattle.blocks.proofs.none_from.Tie as tie

@@ -1,6 +1,4 @@
 -- `one_less` takes one off what remains, modulo 2^32.
-use Prim.Native.Nat.{_^_, _<_}
-use mathlib.Core.Path.{sym}
 use native.Mathlib.Omega.{arith}
 use borrow.Author.Needs.{needs}
 use Rattle.numbers.proofs.ModuloLaws.{minus-of}

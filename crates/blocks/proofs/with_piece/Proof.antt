@@ -1,5 +1,5 @@
 -- `with_piece` sets the bit of the word that has the piece, and leaves the marks where there is no such piece.
-use mathlib.Core.Path.{_≡_, sym, _∙_}
+use mathlib.Core.Path.{_≡_}
 use Prim.Native.Nat.{_-_, _/_, _%_}
 use native.Mathlib.Omega.{arith}
 use borrow.Author.Needs.{needs}
