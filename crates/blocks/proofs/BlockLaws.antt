@@ -3,7 +3,7 @@
 -- The argument: what remains and what is marked below the count make the count, since nothing past it is marked.
 use mathlib.Core.Path.{_≡_, sym, _∙_}
 use mathlib.Core.Bool.{Bool, true, false}
-use Prim.Native.Nat.{ℕ, _+_, _-_, _^_, _≤_, _<_}
+use Prim.Native.Nat.{ℕ, _+_, _-_, _≤_, _<_}
 use native.Mathlib.Nat.{zero-add}
 use native.Mathlib.Omega.{arith}
 use lib.Dec.{eqb, leb, ltb}
@@ -94,8 +94,9 @@ module _ (m : Marks) (slot : Incoming) (fit : blockFit m slot ≡ true) where
 
   -- ---- what keeps marks and slot together
 
-  pub piece-fit : slot .remaining < 2 ^ 32 → (k : ℕ) → k < slot .fragments → pieceMarked m k ≡ false → blockFit (withPiece m k) (oneLess slot) ≡ true
-  piece-fit small k h new =
+  -- what remains is at most 64, so that one less of it does not wrap
+  pub piece-fit : (k : ℕ) → k < slot .fragments → pieceMarked m k ≡ false → blockFit (withPiece m k) (oneLess slot) ≡ true
+  piece-fit k h new =
       let f = rules in
       let inside : k < mostPieces = omega arith in
       let more = count-with m k inside new in
