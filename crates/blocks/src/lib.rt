@@ -78,13 +78,19 @@ fn none_from(m: Marks, k: u32) -> bool
 pub fn fields_fit(packet: u32, f: Fragment) -> bool
     ensures { λ r. ⌜ r ≡ fieldsFit packet f ⌝ }
 {
-    if f.count < 1 || PIECES < f.count {
+    if f.count < 1 {
+        return false;
+    }
+    if PIECES < f.count {
         return false;
     }
     if f.count <= f.number {
         return false;
     }
-    if BYTES < f.total || packet < f.total {
+    if BYTES < f.total {
+        return false;
+    }
+    if packet < f.total {
         return false;
     }
     if f.total <= f.offset {
@@ -139,7 +145,10 @@ pub fn block_fit(m: Marks, slot: Incoming) -> bool
     if PIECES < slot.fragments {
         return false;
     }
-    if slot.length < 1 || BYTES < slot.length {
+    if slot.length < 1 {
+        return false;
+    }
+    if BYTES < slot.length {
         return false;
     }
     if slot.fragments < slot.remaining {

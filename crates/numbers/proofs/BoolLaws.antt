@@ -25,3 +25,6 @@ both-assoc false b c = refl
 pub both-with-true : (a : Bool) → both a true ≡ a
 both-with-true true = refl
 both-with-true false = refl
+
+pub both-with-false : (a : Bool) → both a false ≡ false
+both-with-false a = both-false a false refl
