@@ -14,9 +14,10 @@ use Rattle.numbers.specs.declared.counters.Reliable.{Reliable}
 use Rattle.numbers.proofs.BoolLaws.{both-left, both-right}
 use Rattle.command.specs.declared.fields.Fragment.{Fragment}
 use Rattle.record.specs.declared.groups.Incoming.{Incoming}
-use Rattle.blocks.specs.Marks.{mostPieces, noMarks, pieceMarked, withPiece, markedFrom, markedCount}
-use Rattle.blocks.specs.Blocks.{mostBytes, fieldsFit, blockOf, oneLess, blockFit}
-use Rattle.blocks.specs.declared.Marks.{Marks}
+use Rattle.record.specs.Marks.{mostPieces, noMarks, pieceMarked, withPiece, markedFrom, markedCount}
+use Rattle.record.specs.Blocks.{mostBytes, blockFit}
+use Rattle.blocks.specs.Blocks.{fieldsFit, blockOf, oneLess}
+use Rattle.record.specs.declared.groups.Marks.{Marks}
 use Rattle.blocks.proofs.Counting.{split}
 use Rattle.blocks.proofs.MarkLaws.{marked-none, all-alike, count-outside, count-with, full}
 

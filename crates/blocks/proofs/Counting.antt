@@ -12,8 +12,8 @@ use lib.Pow.{shr-shr, shr-le}
 use borrow.Author.Tests.{lt-ltb, le-ltb, ne-eqb, eqb-true, eqb-false}
 use Rattle.numbers.specs.Pick.{pick, both}
 use Rattle.numbers.specs.Bits.{bit}
-use Rattle.blocks.specs.Marks.{mostPieces, pieceMarked, markedFrom, markedCount}
-use Rattle.blocks.specs.declared.Marks.{Marks}
+use Rattle.record.specs.Marks.{mostPieces, pieceMarked, markedFrom, markedCount}
+use Rattle.record.specs.declared.groups.Marks.{Marks}
 
 -- ---- the pieces of each word
 

@@ -10,8 +10,8 @@ use Rattle.numbers.specs.Pick.{pick, both}
 use Rattle.numbers.specs.Bits.{bit, withBit}
 use Rattle.numbers.proofs.BitLaws.{bit-with, bit-zero}
 use Rattle.numbers.proofs.BoolLaws.{both-left, both-right, both-false}
-use Rattle.blocks.specs.Marks.{mostPieces, noMarks, pieceMarked, withPiece, markedFrom, markedCount}
-use Rattle.blocks.specs.declared.Marks.{Marks}
+use Rattle.record.specs.Marks.{mostPieces, noMarks, pieceMarked, withPiece, markedFrom, markedCount}
+use Rattle.record.specs.declared.groups.Marks.{Marks}
 
 same-test : (a b c d : ℕ) → (a ≡ b → c ≡ d) → (c ≡ d → a ≡ b) → eqb a b ≡ eqb c d
 same-test a b c d f g = go (eqb c d) refl

@@ -1,18 +1,14 @@
--- C-11: what a piece's fields may be, the slot of a block, and when marks and slot belong together.
-use Prim.Native.Nat.{ℕ, _+_, _-_}
-use mathlib.Core.Bool.{Bool, not}
+-- C-11: what a piece's fields may be, and the slot of a block.
+use Prim.Native.Nat.{ℕ, _-_}
+use mathlib.Core.Bool.{Bool}
 use lib.Dec.{eqb, leb, ltb}
 use Rattle.numbers.specs.Pick.{both}
 use Rattle.numbers.specs.Modulo.{minus}
 use Rattle.numbers.specs.declared.counters.Reliable.{Reliable}
 use Rattle.command.specs.declared.fields.Fragment.{Fragment}
 use Rattle.record.specs.declared.groups.Incoming.{Incoming}
-use Rattle.blocks.specs.Marks.{mostPieces, markedFrom, markedCount}
-use Rattle.blocks.specs.declared.Marks.{Marks}
-
--- "A block of up to 32,768 bytes"
-abbrev pub mostBytes : ℕ
-mostBytes = 32768
+use Rattle.record.specs.Marks.{mostPieces}
+use Rattle.record.specs.Blocks.{mostBytes}
 
 -- "count is 1 to 64, number below count, offset below total, length at most total minus offset"; a total is held to the maximum packet size too, as in the
 -- source. Else 14.
@@ -25,10 +21,6 @@ fieldsFit packet f =
 -- "The first piece fixes start, count and total": a later one that is unlike it gets 14
 abbrev pub likeFirst : Fragment → Incoming → Bool
 likeFirst f slot = both (eqb (f .count) (slot .fragments)) (eqb (f .total) (slot .length))
-
--- a block is a slot whose fragments are not 0: a packet that came whole has none
-abbrev pub isBlock : Incoming → Bool
-isBlock slot = not (eqb (slot .fragments) 0)
 
 -- the slot of a block before any piece is marked: count as fragments, all of them remaining, total as length
 abbrev pub blockOf : ℕ → ℕ → Reliable → Fragment → Incoming
@@ -46,9 +38,3 @@ oneLess slot =
       remaining = minus 32 (slot .remaining) 1;
       length = slot .length;
     }
-
--- "Damaged now: .. over 64 pieces, a total .. of 0 or above 32,768, marks .. unlike what remains or past the count", turned round
-abbrev pub blockFit : Marks → Incoming → Bool
-blockFit m slot =
-    both (both (leb (slot .fragments) mostPieces) (both (leb 1 (slot .length)) (leb (slot .length) mostBytes)))
-    (both (eqb (slot .remaining + markedCount m) (slot .fragments)) (eqb (markedFrom m (slot .fragments) (mostPieces - slot .fragments)) 0))

@@ -2,12 +2,16 @@
 ghost use mathlib.Core.Path.{_≡_};
 ghost use lib.Dec.{eqb};
 ghost use Prim.Native.Nat.{_-_};
-ghost use Rattle.blocks.specs.Marks.{mostPieces, pieceMarked, withPiece, markedFrom, markedCount};
-ghost use Rattle.blocks.specs.Blocks.{fieldsFit, likeFirst, isBlock, blockOf, oneLess, blockFit};
+ghost use Rattle.record.specs.Marks.{mostPieces, pieceMarked, withPiece, markedFrom, markedCount};
+ghost use Rattle.record.specs.Blocks.{isBlock, blockFit};
+ghost use Rattle.record.specs.Damage.{kindFit, oneBlock};
+ghost use Rattle.blocks.specs.Blocks.{fieldsFit, likeFirst, blockOf, oneLess};
 use command::fields::Fragment;
 use numbers::bits;
 use numbers::counters::Reliable;
+use record::groups::CELL;
 use record::groups::Incoming;
+use record::groups::Marks;
 
 // "count is 1 to 64"
 pub const PIECES: u32 = 64;
@@ -17,12 +21,6 @@ pub const BYTES: u32 = 32768;
 
 // The pieces of a word.
 const WORD: u32 = 32;
-
-// Piece k is bit k of the low word, or bit k - 32 of the high one.
-pub struct Marks {
-    pub low: u32,
-    pub high: u32,
-}
 
 pub fn piece_marked(m: Marks, k: u32) -> bool
     ensures { λ r. ⌜ r ≡ pieceMarked m k ⌝ }
@@ -158,4 +156,27 @@ pub fn block_fit(m: Marks, slot: Incoming) -> bool
         return false;
     }
     none_from(m, slot.fragments)
+}
+
+// A block's numbers and marks belong together; a packet that came whole fits its cell.
+pub fn kind_fit(m: Marks, slot: Incoming) -> bool
+    ensures { λ r. ⌜ r ≡ kindFit m slot ⌝ }
+{
+    if is_block(slot) {
+        return block_fit(m, slot);
+    }
+    slot.length <= CELL
+}
+
+// Of so many blocks: one at most, and no mark without one.
+pub fn one_block(m: Marks, n: u32) -> bool
+    ensures { λ r. ⌜ r ≡ oneBlock m n ⌝ }
+{
+    if n != 0 {
+        return n == 1;
+    }
+    if m.low != 0 {
+        return false;
+    }
+    m.high == 0
 }

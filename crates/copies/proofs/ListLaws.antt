@@ -110,7 +110,7 @@ pub lists-made : (ws : List ℕ) (a b c : OutList) (d : InList) → a ≡ outLis
 unfolding made parts numbers sizes
 lists-made ws a b c d ea eb ec ed = rw (ea, eb, ec, ed)
 
-module _ (ws : List ℕ) (l : length ws ≡ 1234) (r : List ℕ) where
+module _ (ws : List ℕ) (l : length ws ≡ 1236) (r : List ℕ) where
   pub row-sent : length r ≡ 33 → whole (paste ws 43 r 33) ≡ withLists (whole ws) (withSentList (whole ws .lists) (outListFrom r))
   unfolding made parts numbers sizes place
   row-sent h = row-put ws 1 43 33 r l (omega arith) refl refl (omega arith) h
@@ -136,7 +136,7 @@ lists-put x p₀ p₁ p₂ p₃ p₄ e₁ e₂ e₃ e₄ =
     (e₃ ∙ ap (λ (p : Peer). withLists p (withOutgoingList (p .lists) (x .outgoing))) (e₂ ∙ ap (λ (p : Peer). withLists p (withReliableList (p .lists) (x .«send_reliable»))) e₁))
 
 -- ---- a channel
-pub channel-made : (ws : List ℕ) (i : ℕ) (n : Numbers) (d : InList) → i < 8 → length ws ≡ 1234 → n ≡ numbersOf (channelAt (whole ws) i) → d ≡ inListFrom (rowAt (194 + i * 17 + 4) 12 ws)
+pub channel-made : (ws : List ℕ) (i : ℕ) (n : Numbers) (d : InList) → i < 8 → length ws ≡ 1236 → n ≡ numbersOf (channelAt (whole ws) i) → d ≡ inListFrom (rowAt (194 + i * 17 + 4) 12 ws)
     → _≡_ {A = Channel} (record { «outgoing_reliable» = n .«outgoing_reliable»; «outgoing_unreliable» = n .«outgoing_unreliable»; «incoming_reliable» = n .«incoming_reliable»; «incoming_unreliable» = n .«incoming_unreliable»; held = d })
     (channelAt (whole ws) i)
 channel-made ws i n d h l en ed = rw (en, ed ∙ sym (held-is ws i h l))

@@ -77,7 +77,7 @@ peer-made p ids standing bandwidth totals times loss throttling limits trips flo
 low8 : (x y : ℕ) → x ≡ y → y < 256 → x % 256 ≡ y
 low8 x y e h = omega arith
 
-module _ (ws : List ℕ) (l : length ws ≡ 1234) where
+module _ (ws : List ℕ) (l : length ws ≡ 1236) where
   pub put-ids : (x : Ids) (a b c d : ℕ) → a ≡ x .«outgoing_peer» → x .«outgoing_peer» < 65536 → b ≡ x .«incoming_peer» → x .«incoming_peer» < 65536
       → c ≡ x .«outgoing_session» → x .«outgoing_session» < 256 → d ≡ x .«incoming_session» → x .«incoming_session» < 256
       → whole (sets ws 0 (a ∷ b ∷ x .connect ∷ c ∷ d ∷ [])) ≡ withFixed (whole ws) x (whole ws .bandwidth) (whole ws .limits)

@@ -14,6 +14,7 @@ use Rattle.record.specs.declared.groups.Lists.{Lists}
 use Rattle.record.specs.declared.groups.Channel.{Channel}
 use Rattle.record.specs.declared.groups.Outgoing.{Outgoing}
 use Rattle.record.specs.declared.groups.Incoming.{Incoming}
+use Rattle.record.specs.declared.groups.Marks.{Marks}
 use Rattle.record.specs.Damage.{all, outFit, tried, below, ranged, listsFit, heldFit, outSound, inSound, partsSound}
 use Rattle.record.specs.Fresh.{noOutgoing}
 use Rattle.damage.specs.CodeInWalks.{passes}
@@ -98,8 +99,8 @@ grade-passes slots count b s =
     let o = getD slots s noOutgoing in
     ap (λ (w : ℕ). enough w b) (slot-grade-at slots count s) ∙ enough-is (outFit (o ∷ []) count 0) (tried (o ∷ []) 0) b
 
-pub grade-sound : (mtu count total : ℕ) (l : Lists) (cs : List Channel) (out : List Outgoing) (inn : List Incoming)
-    → gradeSound mtu count total l cs (map (slotGrade count) out) inn ≡ partsSound mtu count total l cs out inn
-grade-sound mtu count total l cs out inn =
+pub grade-sound : (mtu count total : ℕ) (l : Lists) (cs : List Channel) (out : List Outgoing) (inn : List Incoming) (m : Marks)
+    → gradeSound mtu count total l cs (map (slotGrade count) out) inn m ≡ partsSound mtu count total l cs out inn m
+grade-sound mtu count total l cs out inn m =
     let e = out-same (gradePasses (map (slotGrade count) out)) (outPasses out count) (grade-passes out count) l 3 0 (replicate outgoing 0) ∙ sym (out-is out l count) in
-    ap (λ (b : Bool). both (ranged mtu count) (both (both (listsFit l) (heldFit (below cs count))) (both b (inSound inn l (below cs count) count total)))) e
+    ap (λ (b : Bool). both (ranged mtu count) (both (both (listsFit l) (heldFit (below cs count))) (both b (inSound m inn l (below cs count) count total)))) e

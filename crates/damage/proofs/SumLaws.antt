@@ -1,4 +1,4 @@
--- The lengths that a walk sums: a turn, the end, and the bound of each.
+-- The lengths that a walk sums and the blocks that it counts: over lists joined, and the bound of each length.
 -- The argument: what is left to sum is the length of the slot at place k and what is left after it.
 use Prim.Native.Nat.{ℕ, _+_, _≤_, _<_}
 use mathlib.Core.Path.{_≡_, refl}
@@ -6,10 +6,12 @@ use mathlib.Core.List.{List, [], _∷_, _++_}
 use mathlib.Core.Bool.{Bool, true, false}
 use native.Mathlib.Omega.{arith}
 use lib.ListN.{length}
-use borrow.Author.Tests.{leb-true}
 use Rattle.numbers.specs.Pick.{both}
 use Rattle.record.specs.declared.groups.Incoming.{Incoming}
-use Rattle.record.specs.Damage.{lengths}
+use Rattle.record.specs.declared.groups.Marks.{Marks}
+use Rattle.record.specs.Blocks.{mostBytes}
+use Rattle.record.specs.Damage.{lengths, blocks}
+use Rattle.record.proofs.KindLaws.{kind-low}
 use Rattle.damage.specs.CodeInWalks.{inTest}
 
 pub sum-append : (slots : List Incoming) (xs ys : List ℕ) → lengths slots (xs ++ ys) ≡ lengths slots xs + lengths slots ys
@@ -17,9 +19,14 @@ unfolding lengths
 sum-append slots [] ys = omega arith
 sum-append slots (x ∷ xs) ys = omega (arith, sum-append slots xs ys)
 
+pub blocks-append : (slots : List Incoming) (xs ys : List ℕ) → blocks slots (xs ++ ys) ≡ blocks slots xs + blocks slots ys
+unfolding blocks
+blocks-append slots [] ys = omega arith
+blocks-append slots (x ∷ xs) ys = omega (arith, blocks-append slots xs ys)
+
 -- a slot that passes is not long
-pub pass-short : (count : ℕ) (own : Bool) (k : ℕ) (i : Incoming) → inTest count own k i ≡ true → i .length ≤ 4096
-pass-short count own k i e = leb-true (i .length) 4096 (go _ _ _ e)
+pub pass-short : (marks : Marks) (count : ℕ) (own : Bool) (k : ℕ) (i : Incoming) → inTest marks count own k i ≡ true → i .length ≤ mostBytes
+pass-short marks count own k i e = kind-low marks i (go _ _ _ e)
   where
     go : (a b d : Bool) → both (both a b) d ≡ true → a ≡ true
     go true b d q = refl

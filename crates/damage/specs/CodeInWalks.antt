@@ -11,6 +11,7 @@ use Rattle.cells.specs.Free.{isMarked, markedAll}
 use Rattle.record.specs.Lists.{inItems}
 use Rattle.record.specs.declared.groups.Channel.{Channel}
 use Rattle.record.specs.declared.groups.Incoming.{Incoming}
+use Rattle.record.specs.declared.groups.Marks.{Marks}
 use Rattle.record.specs.Fresh.{noIncoming}
 use Rattle.record.specs.Damage.{inFit}
 
@@ -20,15 +21,15 @@ passes f m [] = true
 passes f m (x ∷ xs) = both (ltb x (length m)) (both (not (isMarked m x)) (both (f x) (passes f (set m x 1) xs)))
 
 -- the rule's tests of one slot, which is a pool by itself here, and of slot s of a pool; one of channel k's own list has that channel
-abbrev pub inTest : ℕ → Bool → ℕ → Incoming → Bool
-inTest count own k i = both (inFit (i ∷ []) count 0) (pick own (eqb (i .channel) k) true)
+abbrev pub inTest : Marks → ℕ → Bool → ℕ → Incoming → Bool
+inTest marks count own k i = both (inFit marks (i ∷ []) count 0) (pick own (eqb (i .channel) k) true)
 
-abbrev pub inPasses : List Incoming → ℕ → Bool → ℕ → ℕ → Bool
-inPasses slots count own k s = inTest count own k (getD slots s noIncoming)
+abbrev pub inPasses : Marks → List Incoming → ℕ → Bool → ℕ → ℕ → Bool
+inPasses marks slots count own k s = inTest marks count own k (getD slots s noIncoming)
 
 -- the lists of the channels from k on, each walked from the marks of those before it
-unfoldable pub heldPass : List Incoming → ℕ → ℕ → List ℕ → List Channel → Bool
-heldPass slots count k m [] = true
-heldPass slots count k m (c ∷ cs) =
-    both (passes (inPasses slots count true k) m (inItems (c .held)))
-    (heldPass slots count (k + 1) (markedAll m (inItems (c .held))) cs)
+unfoldable pub heldPass : Marks → List Incoming → ℕ → ℕ → List ℕ → List Channel → Bool
+heldPass marks slots count k m [] = true
+heldPass marks slots count k m (c ∷ cs) =
+    both (passes (inPasses marks slots count true k) m (inItems (c .held)))
+    (heldPass marks slots count (k + 1) (markedAll m (inItems (c .held))) cs)

@@ -13,6 +13,7 @@ use Rattle.record.specs.declared.groups.Lists.{Lists}
 use Rattle.record.specs.declared.groups.Channel.{Channel}
 use Rattle.record.specs.declared.groups.Outgoing.{Outgoing}
 use Rattle.record.specs.declared.groups.Incoming.{Incoming}
+use Rattle.record.specs.declared.groups.Marks.{Marks}
 use Rattle.damage.specs.CodeInWalks.{passes}
 use Rattle.record.specs.Fresh.{noOutgoing}
 use Rattle.record.specs.Damage.{below, ranged, listsFit, heldFit, outFit, tried, inSound}
@@ -45,9 +46,9 @@ abbrev pub gradePasses : List ℕ → Bool → ℕ → Bool
 gradePasses ws sent s = enough (getD ws s 0) sent
 
 -- "Damaged means", turned round, with what each slot of the outgoing pool is good for in the pool's place
-abbrev pub gradeSound : ℕ → ℕ → ℕ → Lists → List Channel → List ℕ → List Incoming → Bool
-gradeSound mtu count total lists cs ws inn =
+abbrev pub gradeSound : ℕ → ℕ → ℕ → Lists → List Channel → List ℕ → List Incoming → Marks → Bool
+gradeSound mtu count total lists cs ws inn m =
     let now = below cs count in
     both (ranged mtu count)
     (both (both (listsFit lists) (heldFit now))
-    (both (outPass (gradePasses ws) lists 3 0 (replicate outgoing 0)) (inSound inn lists now count total)))
+    (both (outPass (gradePasses ws) lists 3 0 (replicate outgoing 0)) (inSound m inn lists now count total)))

@@ -1,5 +1,5 @@
 -- What the test reads of the record is where the numbers have it. The argument: the parts computed.
-use Prim.Native.Nat.{ℕ, _+_, _*_, _%_, _<_}
+use Prim.Native.Nat.{ℕ, _+_, _*_, _<_}
 use mathlib.Core.Path.{_≡_, refl, ap, sym, _∙_}
 use mathlib.Core.List.{List}
 use native.Mathlib.Omega.{arith}
@@ -51,6 +51,6 @@ module _ (ws : List ℕ) where
     unfolding inSlotFrom
     length-is = sym (ap (λ (i : Incoming). i .length) slot-is ∙ number-is 5 (omega arith))
 
-    pub channel-is : getD ws (1162 + s * 6 + 1) 0 % 256 ≡ getD (whole ws .incoming) s noIncoming .channel
+    pub fragments-is : getD ws (1162 + s * 6 + 3) 0 ≡ getD (whole ws .incoming) s noIncoming .fragments
     unfolding inSlotFrom
-    channel-is = sym (ap (λ (i : Incoming). i .channel) slot-is ∙ ap (λ (x : ℕ). x % 256) (number-is 1 (omega arith)))
+    fragments-is = sym (ap (λ (i : Incoming). i .fragments) slot-is ∙ number-is 3 (omega arith))

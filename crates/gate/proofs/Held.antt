@@ -16,59 +16,68 @@ use Rattle.record.specs.Lists.{incoming, inItems}
 use Rattle.record.specs.declared.incoming.InList.{InList}
 use Rattle.record.specs.declared.groups.Channel.{Channel}
 use Rattle.record.specs.declared.groups.Incoming.{Incoming}
+use Rattle.record.specs.declared.groups.Marks.{Marks}
 use Rattle.record.specs.Fresh.{noChannel}
-use Rattle.record.specs.Damage.{held, heldFit, lengths}
+use Rattle.record.specs.Damage.{held, heldFit, lengths, blocks, oneBlock}
 use Rattle.damage.specs.CodeInWalks.{passes, inPasses, heldPass}
 use Rattle.damage.proofs.WalkLaws.{middle}
-use Rattle.damage.proofs.HeldLaws.{held-sum}
+use Rattle.damage.proofs.HeldLaws.{held-sum, held-blocks}
 use Rattle.damage.proofs.InLaws.{in-is}
 use Rattle.peer.specs.declared.Peer.{Peer}
 use Rattle.places.specs.Whole.{inListFrom}
-use Rattle.gate.specs.CodeHalves.{Passes, Sums, heldSound, inSide}
+use Rattle.gate.specs.CodeHalves.{Passes, Sums, listBytes, heldSound, inSide}
 
 -- channel k, whose list is in a row
-module _ (slots : List Incoming) (count : ℕ) (cs : List Channel) (n k : ℕ) (long : n ≤ length cs) (h : k < n) (row m : List ℕ)
-    (is : getD cs k noChannel .held ≡ inListFrom row) (ok : Bool) (after : List ℕ) (w : Passes (inPasses slots count true k) 12 m row ok after) where
-  next : heldSound slots count k m (drop k (take n cs)) ≡ both ok (heldSound slots count (k + 1) (markedAll m (itemsOf row)) (drop (k + 1) (take n cs)))
+module _ (marks : Marks) (slots : List Incoming) (count : ℕ) (cs : List Channel) (n k : ℕ) (long : n ≤ length cs) (h : k < n) (row m : List ℕ)
+    (is : getD cs k noChannel .held ≡ inListFrom row) (ok : Bool) (after : List ℕ) (w : Passes (inPasses marks slots count true k) 12 m row ok after) where
+  next : heldSound marks slots count k m (drop k (take n cs)) ≡ both ok (heldSound marks slots count (k + 1) (markedAll m (itemsOf row)) (drop (k + 1) (take n cs)))
   unfolding heldSound
   next =
       rw (part-step cs k n noChannel h (omega arith))
-      (ap (λ (l : InList). both (both (leb (l .len) 12) (passes (inPasses slots count true k) m (inItems l))) (heldSound slots count (k + 1) (markedAll m (inItems l)) (drop (k + 1) (take n cs)))) is
-      ∙ ap (λ (b : Bool). both b (heldSound slots count (k + 1) (markedAll m (itemsOf row)) (drop (k + 1) (take n cs)))) (sym (w .is)))
+      (ap (λ (l : InList). both (both (leb (l .len) 12) (passes (inPasses marks slots count true k) m (inItems l))) (heldSound marks slots count (k + 1) (markedAll m (inItems l)) (drop (k + 1) (take n cs)))) is
+      ∙ ap (λ (b : Bool). both b (heldSound marks slots count (k + 1) (markedAll m (itemsOf row)) (drop (k + 1) (take n cs)))) (sym (w .is)))
 
-  pub held-stop : ok ≡ false → heldSound slots count k m (drop k (take n cs)) ≡ false
-  held-stop e = next ∙ ap (λ (b : Bool). both b (heldSound slots count (k + 1) (markedAll m (itemsOf row)) (drop (k + 1) (take n cs)))) e
+  pub held-stop : ok ≡ false → heldSound marks slots count k m (drop k (take n cs)) ≡ false
+  held-stop e = next ∙ ap (λ (b : Bool). both b (heldSound marks slots count (k + 1) (markedAll m (itemsOf row)) (drop (k + 1) (take n cs)))) e
 
-  pub held-turn : ok ≡ true → heldSound slots count k m (drop k (take n cs)) ≡ heldSound slots count (k + 1) after (drop (k + 1) (take n cs))
+  pub held-turn : ok ≡ true → heldSound marks slots count k m (drop k (take n cs)) ≡ heldSound marks slots count (k + 1) after (drop (k + 1) (take n cs))
   held-turn e =
       next
-      ∙ ap (λ (b : Bool). both b (heldSound slots count (k + 1) (markedAll m (itemsOf row)) (drop (k + 1) (take n cs)))) e
-      ∙ ap (λ (x : List ℕ). heldSound slots count (k + 1) x (drop (k + 1) (take n cs))) (sym (w .marks e))
+      ∙ ap (λ (b : Bool). both b (heldSound marks slots count (k + 1) (markedAll m (itemsOf row)) (drop (k + 1) (take n cs)))) e
+      ∙ ap (λ (x : List ℕ). heldSound marks slots count (k + 1) x (drop (k + 1) (take n cs))) (sym (w .marks e))
 
-  pub held-sums : (t u : ℕ) → Sums slots (itemsOf row) t ok u → ok ≡ true
+  pub held-sums : (t u : ℕ) → Sums (lengths slots) listBytes (itemsOf row) t ok u → ok ≡ true
       → t + lengths slots (held (drop k (take n cs))) ≡ u + lengths slots (held (drop (k + 1) (take n cs)))
   held-sums t u s e =
       held-sum slots cs n k noChannel t u long h (s .is e ∙ ap (λ (l : InList). t + lengths slots (inItems l)) (sym is))
 
-pub held-end : (slots : List Incoming) (count : ℕ) (cs : List Channel) (n k : ℕ) (m : List ℕ) → n ≤ k → heldSound slots count k m (drop k (take n cs)) ≡ true
+  pub held-counts : (t u : ℕ) → Sums (blocks slots) incoming (itemsOf row) t ok u → ok ≡ true
+      → t + blocks slots (held (drop k (take n cs))) ≡ u + blocks slots (held (drop (k + 1) (take n cs)))
+  held-counts t u s e =
+      held-blocks slots cs n k noChannel t u long h (s .is e ∙ ap (λ (l : InList). t + blocks slots (inItems l)) (sym is))
+
+pub held-end : (marks : Marks) (slots : List Incoming) (count : ℕ) (cs : List Channel) (n k : ℕ) (m : List ℕ) → n ≤ k → heldSound marks slots count k m (drop k (take n cs)) ≡ true
 unfolding heldSound
-held-end slots count cs n k m h = rw (part-end cs k n h)
+held-end marks slots count cs n k m h = rw (part-end cs k n h)
 
 -- the lengths, then the walks
-held-both : (slots : List Incoming) (count k : ℕ) (m : List ℕ) (cs : List Channel) → heldSound slots count k m cs ≡ both (heldFit cs) (heldPass slots count k m cs)
+held-both : (marks : Marks) (slots : List Incoming) (count k : ℕ) (m : List ℕ) (cs : List Channel) → heldSound marks slots count k m cs ≡ both (heldFit cs) (heldPass marks slots count k m cs)
 unfolding heldSound heldFit heldPass
-held-both slots count k m [] = refl
-held-both slots count k m (c ∷ cs) =
+held-both marks slots count k m [] = refl
+held-both marks slots count k m (c ∷ cs) =
     let l = c .held in
     let rest = markedAll m (inItems l) in
-    ap (λ (b : Bool). both (both (leb (l .len) 12) (passes (inPasses slots count true k) m (inItems l))) b) (held-both slots count (k + 1) rest cs)
-    ∙ middle (leb (l .len) 12) (passes (inPasses slots count true k) m (inItems l)) (heldFit cs) (heldPass slots count (k + 1) rest cs)
+    ap (λ (b : Bool). both (both (leb (l .len) 12) (passes (inPasses marks slots count true k) m (inItems l))) b) (held-both marks slots count (k + 1) rest cs)
+    ∙ middle (leb (l .len) 12) (passes (inPasses marks slots count true k) m (inItems l)) (heldFit cs) (heldPass marks slots count (k + 1) rest cs)
 
 paired : (d h p g e : Bool) → both (both d h) (both p (both g e)) ≡ both (both d p) (both (both h g) e)
 paired d h p g e = middle d h p (both g e) ∙ ap (λ (b : Bool). both (both d p) b) (sym (both-assoc h g e))
 
 -- the dispatched list, then the rest
 module _ (count : ℕ) (p : Peer) where
+  abbrev marks : Marks
+  marks = p .marks
+
   abbrev slots : List Incoming
   slots = p .incoming
 
@@ -78,42 +87,46 @@ module _ (count : ℕ) (p : Peer) where
   abbrev none : List ℕ
   none = replicate 12 0
 
-  abbrev rest : List ℕ → ℕ → Bool
-  rest m t = both (heldSound slots count 0 m cs) (eqb (p .waiting .total) (t + lengths slots (held cs)))
+  abbrev rest : List ℕ → ℕ → ℕ → Bool
+  rest m t b =
+      both (heldSound marks slots count 0 m cs) (both (eqb (p .waiting .total) (t + lengths slots (held cs))) (oneBlock marks (b + blocks slots (held cs))))
 
   abbrev by-list : InList → Bool
-  by-list l = both (both (leb (l .len) 12) (passes (inPasses slots count false 0) none (inItems l))) (rest (markedAll none (inItems l)) (lengths slots (inItems l)))
+  by-list l = both (both (leb (l .len) 12) (passes (inPasses marks slots count false 0) none (inItems l))) (rest (markedAll none (inItems l)) (lengths slots (inItems l)) (blocks slots (inItems l)))
 
   side-by-list : inSide count p ≡ by-list (p .lists .dispatched)
   side-by-list =
       let l = p .lists .dispatched in
       let d = leb (l .len) 12 in
-      let first = passes (inPasses slots count false 0) none (inItems l) in
+      let first = passes (inPasses marks slots count false 0) none (inItems l) in
       let m = markedAll none (inItems l) in
-      let e = eqb (p .waiting .total) (lengths slots (inItems l) + lengths slots (held cs)) in
-      ap (λ (b : Bool). both (both d (heldFit cs)) b) (in-is slots (p .lists) cs count (p .waiting .total))
-      ∙ paired d (heldFit cs) first (heldPass slots count 0 m cs) e
-      ∙ ap (λ (b : Bool). both (both d first) (both b e)) (sym (held-both slots count 0 m cs))
+      let e = both (eqb (p .waiting .total) (lengths slots (inItems l) + lengths slots (held cs))) (oneBlock marks (blocks slots (inItems l) + blocks slots (held cs))) in
+      ap (λ (b : Bool). both (both d (heldFit cs)) b) (in-is marks slots (p .lists) cs count (p .waiting .total))
+      ∙ paired d (heldFit cs) first (heldPass marks slots count 0 m cs) e
+      ∙ ap (λ (b : Bool). both (both d first) (both b e)) (sym (held-both marks slots count 0 m cs))
 
   -- in its row
   module _ (row : List ℕ) (is : p .lists .dispatched ≡ inListFrom row) (ok : Bool) (after : List ℕ)
-      (w : Passes (inPasses slots count false 0) 12 none row ok after) where
-    side-is : inSide count p ≡ both ok (rest (markedAll none (itemsOf row)) (lengths slots (itemsOf row)))
+      (w : Passes (inPasses marks slots count false 0) 12 none row ok after) where
+    side-is : inSide count p ≡ both ok (rest (markedAll none (itemsOf row)) (lengths slots (itemsOf row)) (blocks slots (itemsOf row)))
     side-is =
         side-by-list ∙ ap by-list is
-        ∙ ap (λ (b : Bool). both b (rest (markedAll none (itemsOf row)) (lengths slots (itemsOf row)))) (sym (w .is))
+        ∙ ap (λ (b : Bool). both b (rest (markedAll none (itemsOf row)) (lengths slots (itemsOf row)) (blocks slots (itemsOf row)))) (sym (w .is))
 
     pub dispatched-no : ok ≡ false → false ≡ inSide count p
-    dispatched-no e = sym (side-is ∙ ap (λ (b : Bool). both b (rest (markedAll none (itemsOf row)) (lengths slots (itemsOf row)))) e)
+    dispatched-no e = sym (side-is ∙ ap (λ (b : Bool). both b (rest (markedAll none (itemsOf row)) (lengths slots (itemsOf row)) (blocks slots (itemsOf row)))) e)
 
     -- what the function that asks the rest answers
-    pub rest-says : ok ≡ true → (t : ℕ) → Sums slots (itemsOf row) 0 ok t → (r : Bool) → r ≡ rest after t → r ≡ inSide count p
-    rest-says e t s r q =
+    pub rest-says : ok ≡ true → (t b : ℕ) → Sums (lengths slots) listBytes (itemsOf row) 0 ok t → Sums (blocks slots) incoming (itemsOf row) 0 ok b
+        → (r : Bool) → r ≡ rest after t b → r ≡ inSide count p
+    rest-says e t b s z r q =
         let sum : t ≡ lengths slots (itemsOf row) = omega (arith, s .is e) in
+        let count : b ≡ blocks slots (itemsOf row) = omega (arith, z .is e) in
         q
         ∙ sym (
         side-is
-        ∙ ap (λ (b : Bool). both b (rest (markedAll none (itemsOf row)) (lengths slots (itemsOf row)))) e
-        ∙ ap (λ (x : List ℕ). rest x (lengths slots (itemsOf row))) (sym (w .marks e))
-        ∙ ap (rest after) (sym sum)
+        ∙ ap (λ (b : Bool). both b (rest (markedAll none (itemsOf row)) (lengths slots (itemsOf row)) (blocks slots (itemsOf row)))) e
+        ∙ ap (λ (x : List ℕ). rest x (lengths slots (itemsOf row)) (blocks slots (itemsOf row))) (sym (w .marks e))
+        ∙ ap (λ (x : ℕ). rest after x (blocks slots (itemsOf row))) (sym sum)
+        ∙ ap (rest after t) (sym count)
         )

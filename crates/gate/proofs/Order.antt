@@ -32,11 +32,11 @@ unfolding sound
 sound-is p =
     let count = p .standing .channels in
     let now = below (p .channels) count in
-    sym (grade-sound (p .flow .mtu) count (p .waiting .total) (p .lists) (p .channels) (p .outgoing) (p .incoming))
+    sym (grade-sound (p .flow .mtu) count (p .waiting .total) (p .lists) (p .channels) (p .outgoing) (p .incoming) (p .marks))
     ∙ ap (both (ranged (p .flow .mtu) count))
     (halves (leb (p .lists .sent .len) outgoing) (leb (p .lists .«send_reliable» .len) outgoing) (leb (p .lists .outgoing .len) outgoing)
     (leb (p .lists .dispatched .len) incoming) (heldFit now) (outPass (gradePasses (map (slotGrade count) (p .outgoing))) (p .lists) 3 0 (replicate outgoing 0))
-    (inSound (p .incoming) (p .lists) now count (p .waiting .total)))
+    (inSound (p .marks) (p .incoming) (p .lists) now count (p .waiting .total)))
 
 -- by the record's numbers
 pub sound-at : (ws : List ℕ) → sound (whole ws) ≡ both (ranged (getD ws 39 0) (getD ws 6 0)) (both (outSide (getD ws 6 0) (whole ws)) (inSide (getD ws 6 0) (whole ws)))

@@ -1,15 +1,19 @@
--- The lengths that the walks sum. The argument: where a walk stopped nothing is said of its sum.
-use Prim.Native.Nat.{ℕ}
+-- What the walks sum. The argument: where a walk stopped nothing is said of its sum.
+use Prim.Native.Nat.{ℕ, _≤_}
 use mathlib.Core.Path.{_≡_}
-use mathlib.Core.Bool.{false}
+use mathlib.Core.Bool.{Bool, true, false}
 use mathlib.Core.List.{List}
 use native.Mathlib.Omega.{arith}
-use Rattle.record.specs.declared.groups.Incoming.{Incoming}
+use Rattle.numbers.specs.Pick.{pick}
 use Rattle.gate.specs.CodeHalves.{Sums}
 
-pub sums-stop : (slots : List Incoming) (xs : List ℕ) (from total : ℕ) → Sums slots xs from false total
-sums-stop slots xs from total =
+pub sums-stop : (f : List ℕ → ℕ) (most : ℕ) (xs : List ℕ) (from total : ℕ) → Sums f most xs from false total
+sums-stop f most xs from total =
     record {
       is = λ q. let z : _≡_ {A = ℕ} 0 1 = cc in absurd (omega arith);
       low = λ q. let z : _≡_ {A = ℕ} 0 1 = cc in absurd (omega arith);
     }
+
+pub at-most-one : (b : Bool) → pick b 1 0 ≤ 1
+at-most-one true = omega arith
+at-most-one false = omega arith

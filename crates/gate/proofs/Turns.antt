@@ -8,13 +8,15 @@ use native.Mathlib.Omega.{arith}
 use lib.Dec.{leb}
 use lib.ListN.{length, getD, set, drop}
 use borrow.Author.Tests.{lt-ltb, le-ltb, ne-eqb, le-leb, lt-leb}
+use Rattle.numbers.specs.Pick.{pick}
 use Rattle.numbers.proofs.BoolLaws.{both-true, both-false}
 use Rattle.cells.specs.Free.{markedAll}
 use Rattle.cells.proofs.Views.{rest-step, rest-end}
 use Rattle.lists.specs.Rows.{low, lenOf, itemsOf, rowAt}
 use Rattle.lists.proofs.Placed.{row-is, items-length, item-at}
 use Rattle.record.specs.Fresh.{noIncoming}
-use Rattle.record.specs.Damage.{lengths}
+use Rattle.record.specs.Blocks.{isBlock}
+use Rattle.record.specs.Damage.{lengths, blocks}
 use Rattle.record.specs.declared.groups.Incoming.{Incoming}
 use Rattle.damage.specs.CodeInWalks.{passes}
 use Rattle.gate.specs.CodeHalves.{Passes}
@@ -67,6 +69,10 @@ module _ (f : ℕ → Bool) (ws : List ℕ) (at n v : ℕ) (i : Listed ws at n v
     unfolding lengths
     summed-end slots h = ap (lengths slots) (rest-end items k (omega (arith, length-is)))
 
+    pub counted-end : (slots : List Incoming) → v ≤ k → blocks slots (drop k items) ≡ 0
+    unfolding blocks
+    counted-end slots h = ap (blocks slots) (rest-end items k (omega (arith, length-is)))
+
     -- the slot s at place k
     module _ (h : k < v) (s : ℕ) (q : s ≡ low (getD ws (at + 1 + k) 0)) where
       there : k < length items
@@ -106,3 +112,7 @@ module _ (f : ℕ → Bool) (ws : List ℕ) (at n v : ℕ) (i : Listed ws at n v
       pub summed : (slots : List Incoming) → lengths slots (drop k items) ≡ getD slots s noIncoming .length + lengths slots (drop (k + 1) items)
       unfolding lengths
       summed slots = rw (rest-step items k 0 there, slot-is)
+
+      pub counted : (slots : List Incoming) → blocks slots (drop k items) ≡ pick (isBlock (getD slots s noIncoming)) 1 0 + blocks slots (drop (k + 1) items)
+      unfolding blocks
+      counted slots = rw (rest-step items k 0 there, slot-is)

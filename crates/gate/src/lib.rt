@@ -16,6 +16,7 @@ use peer::gate::Gate;
 use peer::gate::Lent;
 use peer::settings::Settings;
 use record::groups::CHANNELS;
+use record::groups::SECOND;
 use record::groups::STORE;
 
 // Where the record has its channel count and its MTU.
@@ -41,6 +42,15 @@ fn is_fit(settings: Settings, lent: Lent) -> bool
                 return false;
             }
             length == STORE
+        }
+        Lent::Both { store, second } => {
+            if !fit {
+                return false;
+            }
+            if store != STORE {
+                return false;
+            }
+            second == SECOND
         }
     }
 }

@@ -43,7 +43,7 @@ no-channels : channelsFrom (replicate 136 0) ≡ replicate 8 noChannel
 unfolding rowsFrom channelFrom noChannel
 no-channels = refl
 
-pub cleared-channels : (ws : List ℕ) → length ws ≡ 1234 → whole (paste ws 194 (replicate 136 0) 136) ≡ withChannels (whole ws) (replicate 8 noChannel)
+pub cleared-channels : (ws : List ℕ) → length ws ≡ 1236 → whole (paste ws 194 (replicate 136 0) 136) ≡ withChannels (whole ws) (replicate 8 noChannel)
 cleared-channels ws l = put-channels ws l (replicate 136 0) (length-replicate {A = ℕ} 136 0) ∙ ap (withChannels (whole ws)) no-channels
 
 -- ---- the groups that only a reset reads or writes
@@ -55,7 +55,7 @@ kept-is ws a b c d ea eb ec ed = rw (ea, eb, ec, ed)
 low : (n : ℕ) (r x : ℕ) → r ≡ x → x < n → r % n ≡ x
 low n r x e h = ap (λ (k : ℕ). k % n) e ∙ mod-eq-of-lt h
 
-module _ (ws : List ℕ) (l : length ws ≡ 1234) where
+module _ (ws : List ℕ) (l : length ws ≡ 1236) where
   pub put-ids : (k : Kept) (a b c d : ℕ) → a ≡ 4095 → b ≡ k .«incoming_peer» → k .«incoming_peer» < 65536 → c ≡ k .«outgoing_session» → k .«outgoing_session» < 256
       → d ≡ k .«incoming_session» → k .«incoming_session» < 256 → whole (sets ws 0 (a ∷ b ∷ 0 ∷ c ∷ d ∷ [])) ≡ withIds (whole ws) (freshIds k)
   unfolding made parts numbers sizes place
@@ -82,11 +82,11 @@ module _ (mtu : ℕ) (k : Kept) where
       let q = withFlow (withTrips (withLimits (withThrottling (withIds p (freshIds k)) (fresh .throttling)) (fresh .limits)) (fresh .trips)) (fresh .flow) in
       withWaiting (withUnsequenced q (withReserved (q .unsequenced) (k .reserved))) (fresh .waiting)
 
-  of-zeros : refreshed (whole (replicate 1234 0)) ≡ fresh
+  of-zeros : refreshed (whole (replicate 1236 0)) ≡ fresh
   unfolding made parts numbers sizes rowsFrom slotFrom inSlotFrom channelFrom decoded noLists noChannel noOutgoing noIncoming freshPeer
   of-zeros = refl
 
-  pub refreshes : (ws : List ℕ) (t u v w x y z : Peer) → ws ≡ replicate 1234 0 → t ≡ withIds (whole ws) (freshIds k) → u ≡ withThrottling t (fresh .throttling)
+  pub refreshes : (ws : List ℕ) (t u v w x y z : Peer) → ws ≡ replicate 1236 0 → t ≡ withIds (whole ws) (freshIds k) → u ≡ withThrottling t (fresh .throttling)
       → v ≡ withLimits u (fresh .limits) → w ≡ withTrips v (fresh .trips) → x ≡ withFlow w (fresh .flow) → y ≡ withUnsequenced x (withReserved (x .unsequenced) (k .reserved))
       → z ≡ withWaiting y (fresh .waiting) → z ≡ fresh
   refreshes ws t u v w x y z o a b c d e f g =

@@ -47,6 +47,7 @@ module _ (p q : Peer) where
     pub total : q .waiting .total ≡ p .waiting .total
     pub channels : q .channels ≡ p .channels
     pub incoming : q .incoming ≡ p .incoming
+    pub marks : q .marks ≡ p .marks
 
   module _ (w : Clauses p) (a : Aside) (fits : listsFit (q .lists) ≡ true)
       (named : (k : ℕ) → times (usedOut (q .lists)) k ≤ times (usedOut (p .lists)) k)
@@ -71,5 +72,5 @@ module _ (p q : Peer) where
               (same-fit (p .standing .channels) k
               ∙ all-at (outFit (p .outgoing) (p .standing .channels)) (usedOut (p .lists)) (w .fit) k (omega (arith, named k, h))));
           sent = at-all (tried (q .outgoing)) (outItems (q .lists .sent)) tries;
-          arrived = rw (a .incoming, a .dispatched, a .channels, a .standing, a .total) (w .arrived);
+          arrived = rw (a .marks, a .incoming, a .dispatched, a .channels, a .standing, a .total) (w .arrived);
         })

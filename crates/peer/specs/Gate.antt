@@ -3,14 +3,14 @@ use mathlib.Core.Bool.{Bool}
 use lib.Dec.{eqb}
 use Rattle.numbers.specs.Pick.{pick, both}
 use Rattle.numbers.specs.declared.refusals.Refusal.the-variants.{OutOfRange, Damaged}
-use Rattle.record.specs.Sizes.{storeLength}
+use Rattle.record.specs.Sizes.{storeLength, secondLength}
 use Rattle.peer.specs.Settings.{fitSettings}
 use Rattle.peer.specs.Damage.{sound}
 use Rattle.peer.specs.Outcome.{Outcome, unchanged}
 use Rattle.peer.specs.declared.settings.Settings.{Settings}
 use Rattle.peer.specs.declared.Peer.{Peer}
 use Rattle.peer.specs.declared.gate.Lent.{Lent}
-use Rattle.peer.specs.declared.gate.Lent.the-variants.{Nothing, Store}
+use Rattle.peer.specs.declared.gate.Lent.the-variants.{Nothing, Store, Both}
 use Rattle.peer.specs.declared.gate.Gate.{Gate}
 use Rattle.peer.specs.declared.gate.Gate.the-variants.{Open, Shut}
 
@@ -18,6 +18,7 @@ use Rattle.peer.specs.declared.gate.Gate.the-variants.{Open, Shut}
 abbrev pub fits : Settings → Lent → Bool
 fits s Nothing = fitSettings s
 fits s (Store length) = both (fitSettings s) (eqb length storeLength)
+fits s (Both length second) = both (fitSettings s) (both (eqb length storeLength) (eqb second secondLength))
 
 abbrev pub gateOf : Bool → Bool → Gate
 gateOf fit good = pick fit (pick good Open (Shut Damaged)) (Shut OutOfRange)

@@ -1,4 +1,4 @@
--- What a call comes to: its answer, and what it leaves, the record or the record and the store that was lent.
+-- What a call comes to: its answer, and what it leaves, the record or the record and the stores that were lent.
 use Prim.Native.Nat.{ℕ}
 use mathlib.Core.Path.{_≡_}
 use mathlib.Core.List.{List, []}
@@ -6,10 +6,11 @@ use Rattle.numbers.specs.Answers.{Answer, done, refused}
 use Rattle.numbers.specs.declared.refusals.Refusal.{Refusal}
 use Rattle.peer.specs.declared.Peer.{Peer}
 
--- the record, and the bytes of the store that was lent
+-- the record, and the bytes of the store that was lent; C-11: and of the second store
 pub record State : Type 0 where
   pub peer : Peer
   pub store : List ℕ
+  pub second : List ℕ
 
 pub record Outcome (A : Type 0) : Type 0 where
   pub answer : Answer

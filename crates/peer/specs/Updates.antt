@@ -13,11 +13,12 @@ use Rattle.record.specs.declared.groups.Waiting.{Waiting}
 use Rattle.record.specs.declared.groups.Channel.{Channel}
 use Rattle.record.specs.declared.groups.Outgoing.{Outgoing}
 use Rattle.record.specs.declared.groups.Incoming.{Incoming}
+use Rattle.record.specs.declared.groups.Marks.{Marks}
 use Rattle.peer.specs.declared.Peer.{Peer}
 
 -- all the groups that a call may change
-abbrev pub rebuilt : Peer → Standing → Totals → Times → Loss → Throttling → Trips → Flow → Lists → Unsequenced → Waiting → List Channel → List Outgoing → List Incoming → Peer
-rebuilt p standing totals times loss throttling trips flow lists unsequenced waiting channels outgoing incoming =
+abbrev pub rebuilt : Peer → Standing → Totals → Times → Loss → Throttling → Trips → Flow → Lists → Unsequenced → Waiting → List Channel → List Outgoing → List Incoming → Marks → Peer
+rebuilt p standing totals times loss throttling trips flow lists unsequenced waiting channels outgoing incoming marks =
     record {
       ids = p .ids;
       standing = standing;
@@ -35,12 +36,13 @@ rebuilt p standing totals times loss throttling trips flow lists unsequenced wai
       channels = channels;
       outgoing = outgoing;
       incoming = incoming;
+      marks = marks;
     }
 
 -- all but those that only acknowledgement and throttle change
 abbrev pub remade : Peer → Standing → Totals → Times → Loss → Flow → Lists → Unsequenced → Waiting → List Channel → List Outgoing → List Incoming → Peer
 remade p standing totals times loss flow lists unsequenced waiting channels outgoing incoming =
-    rebuilt p standing totals times loss (p .throttling) (p .trips) flow lists unsequenced waiting channels outgoing incoming
+    rebuilt p standing totals times loss (p .throttling) (p .trips) flow lists unsequenced waiting channels outgoing incoming (p .marks)
 
 -- all but the incoming slots
 abbrev pub renewed : Peer → Standing → Totals → Times → Loss → Flow → Lists → Unsequenced → Waiting → List Channel → List Outgoing → Peer
@@ -86,10 +88,15 @@ withArrival p lists unsequenced waiting channels incoming =
 -- the groups that an acknowledgement may change
 abbrev pub withHeard : Peer → Times → Throttling → Trips → Flow → Lists → Peer
 withHeard p times throttling trips flow lists =
-    rebuilt p (p .standing) (p .totals) times (p .loss) throttling trips flow lists (p .unsequenced) (p .waiting) (p .channels) (p .outgoing) (p .incoming)
+    rebuilt p (p .standing) (p .totals) times (p .loss) throttling trips flow lists (p .unsequenced) (p .waiting) (p .channels) (p .outgoing) (p .incoming) (p .marks)
 
 abbrev pub withThrottling : Peer → Throttling → Peer
 withThrottling p x = withHeard p (p .times) x (p .trips) (p .flow) (p .lists)
+
+-- C-11: the marks
+abbrev pub withMarks : Peer → Marks → Peer
+withMarks p x =
+    rebuilt p (p .standing) (p .totals) (p .times) (p .loss) (p .throttling) (p .trips) (p .flow) (p .lists) (p .unsequenced) (p .waiting) (p .channels) (p .outgoing) (p .incoming) x
 
 -- and a timeout check
 abbrev pub withChecked : Peer → Times → Loss → Flow → Lists → List Outgoing → Peer

@@ -179,6 +179,7 @@ impl Peer {
         channels: [fresh::NO_CHANNEL; CHANNELS],
         outgoing: [fresh::NO_OUTGOING; OUTGOING],
         incoming: [fresh::NO_INCOMING; INCOMING],
+        marks: fresh::NO_MARKS,
     };
 
     // The reset record.

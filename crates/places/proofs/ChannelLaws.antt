@@ -54,7 +54,7 @@ pub channels-is : (ws : List ℕ) → whole ws .channels ≡ channelsFrom (secti
 unfolding made parts numbers sizes
 channels-is ws = refl
 
-module _ (ws : List ℕ) (l : length ws ≡ 1234) where
+module _ (ws : List ℕ) (l : length ws ≡ 1236) where
   pub put-channels : (row : List ℕ) → length row ≡ 136 → whole (paste ws 194 row 136) ≡ withChannels (whole ws) (channelsFrom row)
   unfolding made parts numbers sizes place
   put-channels row m = row-put ws 8 194 136 row l (omega arith) refl refl (omega arith) m
@@ -94,21 +94,21 @@ module _ (ws : List ℕ) (l : length ws ≡ 1234) where
         ∙ ap (λ (cs : List Channel). withChannels (whole ws) (set cs i (channelFrom (paste own k row m)))) (sym (channels-is ws))
 
 -- ---- its list
-pub held-is : (ws : List ℕ) (i : ℕ) → i < 8 → length ws ≡ 1234 → channelAt (whole ws) i .held ≡ inListFrom (section (194 + i * 17 + 4) 13 ws)
+pub held-is : (ws : List ℕ) (i : ℕ) → i < 8 → length ws ≡ 1236 → channelAt (whole ws) i .held ≡ inListFrom (section (194 + i * 17 + 4) 13 ws)
 unfolding channelFrom
 held-is ws i h l =
     let rest : length (drop 4 (own ws l i h)) ≤ 13 = rw (length-drop) (omega (arith, own-length ws l i h)) in
     ap (λ (c : Channel). c .held) (channel-is ws l i h)
     ∙ ap inListFrom (sym (take-all 13 (drop 4 (own ws l i h)) rest) ∙ section-section (194 + i * 17) 17 4 13 ws (omega arith))
 
-pub put-held : (ws : List ℕ) (i : ℕ) (row : List ℕ) → i < 8 → length row ≡ 13 → length ws ≡ 1234
+pub put-held : (ws : List ℕ) (i : ℕ) (row : List ℕ) → i < 8 → length row ≡ 13 → length ws ≡ 1236
     → whole (paste ws (194 + i * 17 + 4) row 13) ≡ withChannels (whole ws) (set (whole ws .channels) i (withHeld (channelAt (whole ws) i) (inListFrom row)))
 put-held ws i row h m l =
     put-channel-part ws l i h 4 13 row (omega arith) m
     ∙ ap (λ (c : Channel). withChannels (whole ws) (set (whole ws .channels) i c)) (row-held (own ws l i h) row (own-length ws l i h) m ∙ ap (λ (c : Channel). withHeld c (inListFrom row)) (sym (channel-is ws l i h)))
 
 -- ---- its numbers
-pub numbers-is : (ws : List ℕ) (i a b c d : ℕ) → i < 8 → length ws ≡ 1234
+pub numbers-is : (ws : List ℕ) (i a b c d : ℕ) → i < 8 → length ws ≡ 1236
     → a ≡ getD ws (194 + i * 17) 0 % 65536 → b ≡ getD ws (194 + i * 17 + 1) 0 % 65536 → c ≡ getD ws (194 + i * 17 + 2) 0 % 65536 → d ≡ getD ws (194 + i * 17 + 3) 0 % 65536
     → numbersOf (channelAt (whole ws) i)
     ≡ record { «outgoing_reliable» = record { 0 = a }; «outgoing_unreliable» = record { 0 = b }; «incoming_reliable» = record { 0 = c }; «incoming_unreliable» = record { 0 = d } }
@@ -119,7 +119,7 @@ numbers-is ws i a b c d h l ea eb ec ed =
     ap numbersOf (channel-is ws l i h)
     ∙ rw (ea, eb, ec, ed, n0, channel-number ws l i h 1 (omega arith), channel-number ws l i h 2 (omega arith), channel-number ws l i h 3 (omega arith))
 
-module _ (ws : List ℕ) (i : ℕ) (r : Reliable) (u : Unreliable) (h : i < 8) (l : length ws ≡ 1234) (hr : r .0 < 65536) (hu : u .0 < 65536) where
+module _ (ws : List ℕ) (i : ℕ) (r : Reliable) (u : Unreliable) (h : i < 8) (l : length ws ≡ 1236) (hr : r .0 < 65536) (hu : u .0 < 65536) where
   -- two numbers, one by one: the channel that comes of it is `to` of what it was
   pair : (to : Channel → Channel) (at k : ℕ) → at ≡ 194 + i * 17 + k → k + 2 ≤ 17 → channelFrom (paste (own ws l i h) k (r .0 ∷ u .0 ∷ []) 2) ≡ to (channelFrom (own ws l i h))
       → whole (set (set ws at (r .0)) (at + 1) (u .0)) ≡ withChannels (whole ws) (set (whole ws .channels) i (to (channelAt (whole ws) i)))

@@ -10,6 +10,7 @@ use Rattle.numbers.specs.declared.counters.Group.{Group}
 use Rattle.lists.specs.Rows.{section}
 use Rattle.record.specs.declared.groups.Flow.{Flow}
 use Rattle.record.specs.declared.groups.Loss.{Loss}
+use Rattle.record.specs.declared.groups.Marks.{Marks}
 use Rattle.record.specs.declared.groups.Standing.{Standing}
 use Rattle.record.specs.declared.groups.Throttling.{Throttling}
 use Rattle.record.specs.declared.groups.Times.{Times}
@@ -17,7 +18,7 @@ use Rattle.record.specs.declared.groups.Totals.{Totals}
 use Rattle.record.specs.declared.groups.Trips.{Trips}
 use Rattle.record.specs.declared.groups.Waiting.{Waiting}
 use Rattle.record.specs.Updates.{withFlags, withOutgoingGroup}
-use Rattle.peer.specs.Updates.{withStanding, withTotals, withTimes, withLoss, withThrottling, withFlow, withUnsequenced, withWaiting}
+use Rattle.peer.specs.Updates.{withStanding, withTotals, withTimes, withLoss, withThrottling, withFlow, withUnsequenced, withWaiting, withMarks}
 use Rattle.places.specs.Whole.{sizes, numbers, parts, made, whole}
 use Rattle.places.specs.Updates.{withTrips}
 use Rattle.places.proofs.Written.{place, numbers-put}
@@ -55,6 +56,10 @@ module _ (ws : List ℕ) where
   unfolding made parts numbers sizes
   trips-is = refl
 
+  pub marks-is : whole ws .marks ≡ record { low = getD ws 1234 0; high = getD ws 1235 0 }
+  unfolding made parts numbers sizes
+  marks-is = refl
+
   pub waiting-is : whole ws .waiting ≡ record { event = getD ws 191 0; total = getD ws 192 0; queued = getD ws 193 0 }
   unfolding made parts numbers sizes
   waiting-is = refl
@@ -76,7 +81,7 @@ module _ (ws : List ℕ) where
   unfolding made parts numbers sizes
   unsequenced-is f v i o w ef ev ei eo ew = rw (ef, ev, ei, eo, ew)
 
-  module _ (l : length ws ≡ 1234) where
+  module _ (l : length ws ≡ 1236) where
     pub put-standing : (x : Standing) → whole (sets ws 5 (x .state ∷ x .channels ∷ [])) ≡ withStanding (whole ws) x
     unfolding made parts numbers sizes place
     put-standing x = numbers-put ws 0 43 5 5 (x .state ∷ x .channels ∷ []) l (omega arith) refl refl (omega arith) (omega arith)
@@ -104,6 +109,10 @@ module _ (ws : List ℕ) where
     pub put-waiting : (x : Waiting) → whole (sets ws 191 (x .event ∷ x .total ∷ x .queued ∷ [])) ≡ withWaiting (whole ws) x
     unfolding made parts numbers sizes place
     put-waiting x = numbers-put ws 7 3 0 191 (x .event ∷ x .total ∷ x .queued ∷ []) l (omega arith) refl refl (omega arith) (omega arith)
+
+    pub put-marks : (x : Marks) → whole (sets ws 1234 (x .low ∷ x .high ∷ [])) ≡ withMarks (whole ws) x
+    unfolding made parts numbers sizes place
+    put-marks x = numbers-put ws 11 2 0 1234 (x .low ∷ x .high ∷ []) l (omega arith) refl refl (omega arith) (omega arith)
 
     pub put-flow : (x : Flow) (r : ℕ) → r ≡ x .«own_number» .0 → x .«own_number» .0 < 65536 → whole (sets ws 39 (x .mtu ∷ x .window ∷ x .transit ∷ r ∷ [])) ≡ withFlow (whole ws) x
     unfolding made parts numbers sizes place

@@ -25,7 +25,7 @@ pub in-pool-is : (ws : List ℕ) → whole ws .incoming ≡ inSlotsOf (section 1
 unfolding made parts numbers sizes
 in-pool-is ws = refl
 
-module _ (ws row : List ℕ) (l : length ws ≡ 1234) where
+module _ (ws row : List ℕ) (l : length ws ≡ 1236) where
   pub put-pool : length row ≡ 832 → whole (paste ws 330 row 832) ≡ withOutgoing (whole ws) (slotsOf row)
   unfolding made parts numbers sizes place
   put-pool m = row-put ws 9 330 832 row l (omega arith) refl refl (omega arith) m

@@ -20,7 +20,7 @@ use Rattle.places.proofs.Written.{place, numbers-put, row-put}
 pub words-are : (ws w : List ℕ) → w ≡ paste (replicate 32 0) 0 (drop 159 ws) 32 → w ≡ section 159 32 ws
 words-are ws w e = e ∙ paste-over (replicate 32 0) (drop 159 ws) 32 refl
 
-module _ (ws : List ℕ) (l : length ws ≡ 1234) where
+module _ (ws : List ℕ) (l : length ws ≡ 1236) where
   pub put-words : (row : List ℕ) → length row ≡ 32 → whole (paste ws 159 row 32) ≡ withUnsequenced (whole ws) (withWindow (whole ws .unsequenced) (whole ws .unsequenced .incoming) row)
   unfolding made parts numbers sizes place
   put-words row m = row-put ws 6 159 32 row l (omega arith) refl refl (omega arith) m

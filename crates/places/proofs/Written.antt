@@ -92,7 +92,7 @@ parts-sets ss i n (y ∷ ys) ws j h e l f =
     ∙ set-set (parts ss 0 ws) i (set (getD (parts ss 0 ws) i []) j y) (sets (set (getD (parts ss 0 ws) i []) j y) (suc j) ys)
 
 -- numbers j and on of part i of the record
-pub numbers-put : (ws : List ℕ) (i n j at : ℕ) (ys : List ℕ) → length ws ≡ 1234 → i < length sizes → sizeAt sizes i ≡ each n → place sizes 0 i + j ≡ at → place sizes 0 i + n ≤ 1234 → j + length ys ≤ n
+pub numbers-put : (ws : List ℕ) (i n j at : ℕ) (ys : List ℕ) → length ws ≡ 1236 → i < length sizes → sizeAt sizes i ≡ each n → place sizes 0 i + j ≡ at → place sizes 0 i + n ≤ 1236 → j + length ys ≤ n
     → whole (sets ws at ys) ≡ made (set (parts sizes 0 ws) i (sets (getD (parts sizes 0 ws) i []) j ys))
 numbers-put ws i n j at ys l h e p f m =
     ap (λ (k : ℕ). whole (sets ws k ys)) (sym p) ∙ ap made (parts-sets sizes i n ys ws j h e m (omega (arith, l, f)))
@@ -131,7 +131,7 @@ parts-paste (s ∷ ss) k (suc i) n ws r h e f l =
     rw (part-before ws r (place ss (k + extent s) i) n f l s k (place-low ss (k + extent s) i), parts-paste ss (k + extent s) i n ws r (le-of-suc-le-suc h) e f l)
 
 -- part i of the record, a row at its place and of its size
-pub row-put : (ws : List ℕ) (i at n : ℕ) (r : List ℕ) → length ws ≡ 1234 → i < length sizes → sizeAt sizes i ≡ row n → place sizes 0 i ≡ at → at + n ≤ 1234 → length r ≡ n
+pub row-put : (ws : List ℕ) (i at n : ℕ) (r : List ℕ) → length ws ≡ 1236 → i < length sizes → sizeAt sizes i ≡ row n → place sizes 0 i ≡ at → at + n ≤ 1236 → length r ≡ n
     → whole (paste ws at r n) ≡ made (set (parts sizes 0 ws) i r)
 row-put ws i at n r l h e p f m =
     ap (λ (k : ℕ). whole (paste ws k r n)) (sym p) ∙ ap made (parts-paste sizes 0 i n ws r h e (omega (arith, l, p, f)) m)

@@ -52,4 +52,5 @@ withFixed p ids bandwidth limits =
       channels = p .channels;
       outgoing = p .outgoing;
       incoming = p .incoming;
+      marks = p .marks;
     }

@@ -1,5 +1,5 @@
 -- The record as the numbers that the caller lends: "The record's order" (document 01) at full size, every list with all its cells, every channel and every
--- slot. An outgoing slot has one number more, its fields' kind, so that any record can be written down. Any 1,234 numbers are a record: each is read modulo its width.
+-- slot. An outgoing slot has one number more, its fields' kind, so that any record can be written down. Any 1,236 numbers are a record: each is read modulo its width.
 use Prim.Native.Nat.{ℕ, zero, suc, _+_, _%_}
 use mathlib.Core.List.{List, [], _∷_}
 use lib.ListN.{getD, drop}
@@ -21,12 +21,12 @@ extent (each n) = n
 extent (row n) = n
 
 -- "`ENetPeer`'s fields" up to the outgoing reliable number (0); the lists sent (43), send-reliable (76), outgoing (109), dispatched (142); flags, reserved,
--- incoming group, outgoing group (155); the 32 words (159); event data, waiting total, host count (191); channels (194); outgoing slots (330); incoming slots (1162)
+-- incoming group, outgoing group (155); the 32 words (159); event data, waiting total, host count (191); channels (194); outgoing slots (330); incoming slots (1162); C-11: the two words of marks (1234)
 unfoldable pub sizes : List Size
-sizes = each 43 ∷ row 33 ∷ row 33 ∷ row 33 ∷ row 13 ∷ each 4 ∷ row 32 ∷ each 3 ∷ row 136 ∷ row 832 ∷ row 72 ∷ []
+sizes = each 43 ∷ row 33 ∷ row 33 ∷ row 33 ∷ row 13 ∷ each 4 ∷ row 32 ∷ each 3 ∷ row 136 ∷ row 832 ∷ row 72 ∷ each 2 ∷ []
 
 abbrev pub recordLength : ℕ
-recordLength = 1234
+recordLength = 1236
 
 -- n numbers from place k on
 unfoldable pub numbers : ℕ → ℕ → List ℕ → List ℕ
@@ -127,6 +127,7 @@ made s =
       channels = channelsFrom (getD s 8 []);
       outgoing = slotsOf (getD s 9 []);
       incoming = inSlotsOf (getD s 10 []);
+      marks = record { low = at s 11 0; high = at s 11 1 };
     }
 
 abbrev pub whole : List ℕ → Peer

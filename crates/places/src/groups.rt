@@ -2,7 +2,7 @@
 ghost use mathlib.Core.Path.{_≡_};
 ghost use lib.ListN.{length};
 ghost use Rattle.record.specs.Updates.{withFlags, withOutgoingGroup};
-ghost use Rattle.peer.specs.Updates.{withStanding, withTotals, withTimes, withLoss, withThrottling, withFlow, withUnsequenced, withWaiting};
+ghost use Rattle.peer.specs.Updates.{withStanding, withTotals, withTimes, withLoss, withThrottling, withFlow, withUnsequenced, withWaiting, withMarks};
 ghost use Rattle.places.specs.Whole.{whole, recordLength};
 ghost use Rattle.places.specs.Updates.{withTrips};
 use numbers::counters::Group;
@@ -12,6 +12,7 @@ use numbers::widths::wide16;
 use record::groups::Flow;
 use record::groups::Limits;
 use record::groups::Loss;
+use record::groups::Marks;
 use record::groups::Standing;
 use record::groups::Throttling;
 use record::groups::Times;
@@ -240,4 +241,23 @@ pub fn put_outgoing_group(words: &mut [u32], x: Group)
     ensures { λ _. ⌜ whole (now (words .exit)) ≡ withUnsequenced (whole (now (words .entry))) (withOutgoingGroup (whole (now (words .entry)) .unsequenced) x) ⌝ }
 {
     words[158] = wide16(x.0);
+}
+
+// C-11: the marks of a block's pieces.
+pub fn marks(words: &[u32]) -> Marks
+    requires { ⌜ length (now words) ≡ recordLength ⌝ }
+    ensures { λ r. ⌜ r ≡ whole (now (words .entry)) .marks ⌝ }
+{
+    Marks {
+        low: words[1234],
+        high: words[1235],
+    }
+}
+
+pub fn put_marks(words: &mut [u32], x: Marks)
+    requires { ⌜ length (now words) ≡ recordLength ⌝ }
+    ensures { λ _. ⌜ whole (now (words .exit)) ≡ withMarks (whole (now (words .entry))) x ⌝ }
+{
+    words[1234] = x.low;
+    words[1235] = x.high;
 }

@@ -5,7 +5,7 @@ pub mod pools;
 pub mod window;
 
 // How many numbers a record has.
-pub const RECORD: usize = 1234;
+pub const RECORD: usize = 1236;
 
 // The lists sent, send-reliable, outgoing and dispatched.
 pub const SENT: usize = 43;
@@ -30,3 +30,6 @@ pub const HELD: usize = 4;
 pub const POOL: usize = 330;
 
 pub const IN_POOL: usize = 1162;
+
+// C-11: the marks of a block's pieces.
+pub const MARKS: usize = 1234;

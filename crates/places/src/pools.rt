@@ -8,8 +8,8 @@ ghost use Rattle.pool.specs.Slots.{briefOf};
 ghost use Rattle.places.specs.Whole.{whole, recordLength};
 ghost use Rattle.places.specs.Updates.{withIncoming};
 use crate::IN_POOL;
+use crate::MARKS;
 use crate::POOL;
-use crate::RECORD;
 use pool::Brief;
 use record::groups::Incoming;
 use record::groups::Outgoing;
@@ -51,7 +51,7 @@ pub fn incoming_at(words: &[u32], i: usize) -> Incoming
     requires { ⌜ length (now words) ≡ recordLength ⌝ }
     ensures { λ r. ⌜ r ≡ getD (whole (now (words .entry)) .incoming) i noIncoming ⌝ }
 {
-    pool::in_slot_at(&words[IN_POOL..RECORD], i)
+    pool::in_slot_at(&words[IN_POOL..MARKS], i)
 }
 
 // Incoming slot i becomes this one; past the pool's end nothing changes.
@@ -59,5 +59,5 @@ pub fn put_incoming(words: &mut [u32], i: usize, slot: Incoming)
     requires { ⌜ length (now words) ≡ recordLength ⌝ }
     ensures { λ _. ⌜ whole (now (words .exit)) ≡ withIncoming (whole (now (words .entry))) (set (whole (now (words .entry)) .incoming) i slot) ⌝ }
 {
-    pool::put_in(&mut words[IN_POOL..RECORD], i, slot);
+    pool::put_in(&mut words[IN_POOL..MARKS], i, slot);
 }

@@ -16,7 +16,7 @@ use Rattle.places.proofs.ChannelLaws.{held-is, put-held}
 use Rattle.queues.specs.Queues.{heldOf, heldPlace, putHeld}
 use Rattle.queues.proofs.QueueLaws.{in-kept}
 
-module _ (ws : List ℕ) (l : length ws ≡ 1234) (i : ℕ) (h : i < 8) (at : ℕ) (e : at ≡ heldPlace i) where
+module _ (ws : List ℕ) (l : length ws ≡ 1236) (i : ℕ) (h : i < 8) (at : ℕ) (e : at ≡ heldPlace i) where
   list-is : inListFrom (rowAt at 12 ws) ≡ heldOf (whole ws) i
   list-is = ap (λ (j : ℕ). inListFrom (rowAt j 12 ws)) e ∙ sym (held-is ws i h l)
 

@@ -48,7 +48,7 @@ place-low out.Reliable = omega arith
 place-low out.Outgoing = omega arith
 
 -- its row is among the numbers
-pub place-fits : (o : Out) (at n : ℕ) → at ≡ placeOf o → n ≡ 1234 → at + 32 + 1 ≤ n
+pub place-fits : (o : Out) (at n : ℕ) → at ≡ placeOf o → n ≡ 1236 → at + 32 + 1 ≤ n
 place-fits o at n e l = omega (arith, place-low o)
 
 pub out-is : (ws : List ℕ) (o : Out) → outListFrom (rowAt (placeOf o) 32 ws) ≡ outOf o (whole ws .lists)
@@ -57,7 +57,7 @@ out-is ws out.Sent = refl
 out-is ws out.Reliable = refl
 out-is ws out.Outgoing = refl
 
-put-out : (ws : List ℕ) → length ws ≡ 1234 → (o : Out) (r : List ℕ) → length r ≡ 33 → whole (paste ws (placeOf o) r 33) ≡ putOut o (whole ws) (outListFrom r)
+put-out : (ws : List ℕ) → length ws ≡ 1236 → (o : Out) (r : List ℕ) → length r ≡ 33 → whole (paste ws (placeOf o) r 33) ≡ putOut o (whole ws) (outListFrom r)
 unfolding made parts numbers sizes place
 put-out ws l out.Sent r h = row-put ws 1 43 33 r l (omega arith) refl refl (omega arith) h
 put-out ws l out.Reliable r h = row-put ws 2 76 33 r l (omega arith) refl refl (omega arith) h
@@ -69,7 +69,7 @@ module _ (o : Out) (at : ℕ) (e : at ≡ placeOf o) where
   out-items ws = rw e (ap outItems (out-is ws o))
 
   -- after any operation on it
-  pub out-kept : (ws : List ℕ) → length ws ≡ 1234 → (rule : List ℕ → List ℕ) (after : List ℕ) → Keeps at 32 ws (rule (itemsOf (rowAt at 32 ws))) after
+  pub out-kept : (ws : List ℕ) → length ws ≡ 1236 → (rule : List ℕ → List ℕ) (after : List ℕ) → Keeps at 32 ws (rule (itemsOf (rowAt at 32 ws))) after
       → whole after ≡ putOut o (whole ws) (outKeep (outOf o (whole ws .lists)) (rule (outItems (outOf o (whole ws .lists)))))
   out-kept ws l rule after k =
       kept OutList (λ (n : ℕ) (c : List ℕ). record { len = n; slots = c }) (putOut o (whole ws)) ws at 32
@@ -77,14 +77,14 @@ module _ (o : Out) (at : ℕ) (e : at ≡ placeOf o) where
       ∙ ap (λ (x : OutList). putOut o (whole ws) (outKeep x (rule (outItems x)))) (ap (λ (j : ℕ). outListFrom (rowAt j 32 ws)) e ∙ out-is ws o)
 
   -- cut short of all its slots it names none; then it is filled
-  emptied : (ws : List ℕ) → length ws ≡ 1234 → (mid : List ℕ) → Keeps at 32 ws (drop 32 (itemsOf (rowAt at 32 ws))) mid
+  emptied : (ws : List ℕ) → length ws ≡ 1236 → (mid : List ℕ) → Keeps at 32 ws (drop 32 (itemsOf (rowAt at 32 ws))) mid
       → whole mid ≡ putOut o (whole ws) (outKeep (outOf o (whole ws .lists)) [])
   emptied ws l mid k =
       let n : length (itemsOf (rowAt at 32 ws)) ≡ min (low (getD ws at 0)) 32 = items-length ws at 32 (place-fits o at (length ws) e l) in
       let none : drop 32 (outItems (outOf o (whole ws .lists))) ≡ [] = ap (drop 32) (sym (out-items ws)) ∙ rest-end (itemsOf (rowAt at 32 ws)) 32 (omega (arith, n)) in
       out-kept ws l (drop 32) mid k ∙ ap (λ (xs : List ℕ). putOut o (whole ws) (outKeep (outOf o (whole ws .lists)) xs)) none
 
-  pub replaced : (ws mid after : List ℕ) → length ws ≡ 1234 → length mid ≡ 1234 → (k : ℕ) (run : List ℕ) → k ≤ 32
+  pub replaced : (ws mid after : List ℕ) → length ws ≡ 1236 → length mid ≡ 1236 → (k : ℕ) (run : List ℕ) → k ≤ 32
       → Keeps at 32 ws (drop 32 (itemsOf (rowAt at 32 ws))) mid → Keeps at 32 mid (movedTo 32 k (map low run) (itemsOf (rowAt at 32 mid))) after
       → whole after ≡ putOut o (whole ws) (outKeep (outOf o (whole ws .lists)) (map low (take k run)))
   replaced ws mid after l m k run h cut app =
@@ -121,7 +121,7 @@ module _ (ws : List ℕ) where
   pub dispatched-items : itemsOf (rowAt 142 12 ws) ≡ inItems (whole ws .lists .dispatched)
   dispatched-items = ap inItems dispatched-is
 
-  module _ (l : length ws ≡ 1234) where
+  module _ (l : length ws ≡ 1236) where
     put-dispatched : (r : List ℕ) → length r ≡ 13 → whole (paste ws 142 r 13) ≡ putDispatched (whole ws) (inListFrom r)
     unfolding made parts numbers sizes place
     put-dispatched r h = row-put ws 4 142 13 r l (omega arith) refl refl (omega arith) h

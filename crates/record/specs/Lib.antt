@@ -1,6 +1,8 @@
 pub mod Sizes
 pub mod Channels
 pub mod Fresh
+pub mod Marks
+pub mod Blocks
 pub mod Rows
 pub mod Updates
 pub mod Damage

@@ -16,3 +16,7 @@ cell = 4096
 
 abbrev pub storeLength : ℕ
 storeLength = incoming * cell
+
+-- C-11: "a second lent store of that size": up to 32,768 bytes
+abbrev pub secondLength : ℕ
+secondLength = 32768

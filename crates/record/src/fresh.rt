@@ -3,6 +3,7 @@ use crate::INCOMING;
 use crate::OUTGOING;
 use crate::groups::Channel;
 use crate::groups::Incoming;
+use crate::groups::Marks;
 use crate::groups::Outgoing;
 use crate::incoming::InList;
 use crate::outgoing::OutList;
@@ -59,3 +60,6 @@ pub const NO_INCOMING: Incoming = Incoming {
     remaining: 0,
     length: 0,
 };
+
+// "0 with no block"
+pub const NO_MARKS: Marks = Marks { low: 0, high: 0 };

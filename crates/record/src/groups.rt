@@ -18,6 +18,9 @@ pub const CELL: u32 = 4096;
 
 pub const STORE: usize = 49152;
 
+// C-11: the bytes of the second store, in which a block is put together.
+pub const SECOND: usize = 32768;
+
 pub struct Ids {
     // outgoing_peer_id: ours at the other side
     pub outgoing_peer: u16,
@@ -217,4 +220,12 @@ pub struct Incoming {
     pub remaining: u32,
     // packet.data_length: bytes in its cell
     pub length: u32,
+}
+
+// C-11: which pieces of the block are stored. Piece k is bit k of the low word, or bit k - 32 of the high one.
+pub struct Marks {
+    // fragments: of pieces 0 to 31
+    pub low: u32,
+    // fragments: of pieces 32 to 63
+    pub high: u32,
 }

@@ -4,7 +4,7 @@ use mathlib.Core.Path.{_∙_}
 use native.Mathlib.Omega.{arith}
 use borrow.Author.Needs.{needs}
 use borrow.Author.Tests.{le-leb, lt-leb, eq-eqb, ne-eqb}
-use Rattle.blocks.specs.Marks.{markedCount}
+use Rattle.record.specs.Marks.{markedCount}
 use Rattle.numbers.proofs.BoolLaws.{both-with-false}
 use Rattle.blocks.proofs.block_fit.Statement.{statement}
 use Rattle.blocks.proofs.block_fit.Tie as tie

@@ -5,8 +5,9 @@ use lib.Dec.{leb}
 use borrow.Author.Needs.{needs}
 use borrow.Author.Tests.{le-leb, lt-leb, lt-ltb, le-ltb}
 use Rattle.command.specs.declared.fields.Fragment.{Fragment}
-use Rattle.blocks.specs.Marks.{mostPieces}
-use Rattle.blocks.specs.Blocks.{mostBytes, fieldsFit}
+use Rattle.record.specs.Marks.{mostPieces}
+use Rattle.record.specs.Blocks.{mostBytes}
+use Rattle.blocks.specs.Blocks.{fieldsFit}
 use Rattle.numbers.proofs.BoolLaws.{both-with-false}
 use Rattle.blocks.proofs.fields_fit.Statement.{statement}
 use Rattle.blocks.proofs.fields_fit.Tie as tie

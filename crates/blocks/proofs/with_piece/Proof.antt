@@ -4,7 +4,7 @@ use Prim.Native.Nat.{_-_, _/_, _%_}
 use native.Mathlib.Omega.{arith}
 use borrow.Author.Needs.{needs}
 use borrow.Author.Tests.{ne-eqb}
-use Rattle.blocks.specs.Marks.{withPiece}
+use Rattle.record.specs.Marks.{withPiece}
 use Rattle.blocks.proofs.with_piece.Statement.{statement}
 use Rattle.blocks.proofs.with_piece.Tie as tie
 

@@ -82,7 +82,7 @@ returns-3 c =
     let a = at-start .args in
     let p = whole (a .words .now) in
     let asked : AtGate (a .settings) Nothing p = record { gate = g .ask .result; is = g .ask .ensures } in
-    let l : length (at-put-flow .put-flow .last .0) ≡ 1234 = search needs in
+    let l : length (at-put-flow .put-flow .last .0) ≡ 1236 = search needs in
     let n : s .standing .result .channels ≡ p .standing .channels = ap (λ (s : Standing). s .channels) (s .standing .ensures) in
     let may = ap (beginFits (a .mtu) (a .count)) (sym n) ∙ sym (at-begin-fits .begin-fits .ensures) ∙ not-false _ (at-put-standing .before .before .if1 .left) in
     let done = begins-by (a .mtu) (a .count) p (whole (at-put-standing .put-standing .last .0)) (whole (at-put-flow .put-flow .last .0)) (whole (c .clear .last .0))

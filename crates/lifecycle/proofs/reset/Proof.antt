@@ -26,8 +26,8 @@ refresh-requires : tie.Need-refresh-requires
 refresh-requires c κs =
     let at-kept = c .before .before .before in
     let at-start = at-kept .before .before .before .before .before in
-    let l : length (at-start .args .words .now) ≡ 1234 = search needs in
-    (search needs, c .before .clear .ensures ∙ cleared (at-start .args .words .now) 1234 l)
+    let l : length (at-start .args .words .now) ≡ 1236 = search needs in
+    (search needs, c .before .clear .ensures ∙ cleared (at-start .args .words .now) 1236 l)
 
 returns-2 : tie.Need-returns-2
 returns-2 c =

@@ -49,8 +49,8 @@ returns c =
     let ws = at-start .args .words .now in
     let v = o .put-outgoing .last .0 in
     let w = n .put-incoming .last .0 in
-    let lv : length v ≡ 1234 = at-words .words .given ∙ at-start .pre .0 in
-    let lw : length w ≡ 1234 = at-words2 .words2 .given ∙ lv in
+    let lv : length v ≡ 1236 = at-words .words .given ∙ at-start .pre .0 in
+    let lw : length w ≡ 1236 = at-words2 .words2 .given ∙ lv in
     let e : whole (at-put-in .put-in .last .0) ≡ withChannels (whole w) (set (whole w .channels) i (withHeld (channelAt (whole w) i) (x .held))) =
     list-in InList inListFrom (λ (y : InList). withChannels (whole w) (set (whole w .channels) i (withHeld (channelAt (whole w) i) y))) w (at-put-in .put-in .last .0) (194 + i * 17 + 4) 12
     (λ (r : List ℕ) (h : length r ≡ 13). put-held w i r (at-start .pre .1) h lw) (x .held) (x .held .len) (x .held .slots) (at-put-in .put-in .ensures .1 .0) (at-put-in .put-in .ensures .0) (at-put-in .put-in .ensures .1 .1) in

@@ -27,7 +27,7 @@ zeros =
     }
 
 abbrev Inv-loop : tie.InvT-loop
-Inv-loop words₀ all i₀ words i = (i ≤ 8) × (length words ≡ 1234) × (whole words ≡ withChannels (whole words₀) (paste (whole words₀ .channels) 0 all i))
+Inv-loop words₀ all i₀ words i = (i ≤ 8) × (length words ≡ 1236) × (whole words ≡ withChannels (whole words₀) (paste (whole words₀ .channels) 0 all i))
 
 abbrev μ-loop : tie.MeasureT-loop
 μ-loop words₀ all i₀ words i = 8 - i

@@ -17,7 +17,7 @@ use Rattle.copies.proofs.writing.put_incoming.Statement.{statement}
 use Rattle.copies.proofs.writing.put_incoming.Tie as tie
 
 abbrev Inv-loop : tie.InvT-loop
-Inv-loop words₀ all i₀ words i = (i ≤ 12) × (length words ≡ 1234) × (whole words ≡ withIncoming (whole words₀) (paste (whole words₀ .incoming) 0 all i))
+Inv-loop words₀ all i₀ words i = (i ≤ 12) × (length words ≡ 1236) × (whole words ≡ withIncoming (whole words₀) (paste (whole words₀ .incoming) 0 all i))
 
 abbrev μ-loop : tie.MeasureT-loop
 μ-loop words₀ all i₀ words i = 12 - i

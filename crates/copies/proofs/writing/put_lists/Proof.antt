@@ -41,9 +41,9 @@ returns c =
     let v = s .put-out .last .0 in
     let w = r .put-out2 .last .0 in
     let u = o .put-out3 .last .0 in
-    let lv : length v ≡ 1234 = at-words .words .given ∙ at-start .pre in
-    let lw : length w ≡ 1234 = at-words2 .words2 .given ∙ lv in
-    let lu : length u ≡ 1234 = at-words3 .words3 .given ∙ lw in
+    let lv : length v ≡ 1236 = at-words .words .given ∙ at-start .pre in
+    let lw : length w ≡ 1236 = at-words2 .words2 .given ∙ lv in
+    let lu : length u ≡ 1236 = at-words3 .words3 .given ∙ lw in
     let es : whole (s .put-out .last .0) ≡ withLists (whole ws) (withSentList (whole ws .lists) (x .sent)) =
     list-in OutList outListFrom (λ (y : OutList). withLists (whole ws) (withSentList (whole ws .lists) y)) ws (s .put-out .last .0) 43 32 (row-sent ws (at-start .pre)) (x .sent) (x .sent .len) (x .sent .slots)
     (s .put-out .ensures .1 .0) (s .put-out .ensures .0) (s .put-out .ensures .1 .1) in

@@ -17,7 +17,7 @@ use Rattle.copies.proofs.writing.put_outgoing.Statement.{statement}
 use Rattle.copies.proofs.writing.put_outgoing.Tie as tie
 
 abbrev Inv-loop : tie.InvT-loop
-Inv-loop words₀ all i₀ words i = (i ≤ 32) × (length words ≡ 1234) × (whole words ≡ withOutgoing (whole words₀) (paste (whole words₀ .outgoing) 0 all i))
+Inv-loop words₀ all i₀ words i = (i ≤ 32) × (length words ≡ 1236) × (whole words ≡ withOutgoing (whole words₀) (paste (whole words₀ .outgoing) 0 all i))
 
 abbrev μ-loop : tie.MeasureT-loop
 μ-loop words₀ all i₀ words i = 32 - i

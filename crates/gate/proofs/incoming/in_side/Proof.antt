@@ -38,7 +38,8 @@ held-sound-requires : tie.Need-held-sound-requires
 held-sound-requires c κs =
     let b = to-start c in
     let w = to-list-sound c .list-sound in
-    (b .pre .0, (b .pre .1, (search needs, omega (arith, w .ensures .1 .low (not-false (w .result .ok) (c .before .if1 .left))))))
+    let ok = not-false (w .result .ok) (c .before .if1 .left) in
+    (b .pre .0, (b .pre .1, (search needs, (omega (arith, w .ensures .1 .0 .low ok), omega (arith, w .ensures .1 .1 .low ok)))))
 
 returns-2 : tie.Need-returns-2
 returns-2 c =
@@ -47,7 +48,7 @@ returns-2 c =
     let a = b .args in
     let ws = a .words .now in
     let w = to-list-sound at-marks3 .list-sound in
-    rest-says (a .count) (whole ws) (rowAt 142 12 ws) (dispatched-is ws) (w .result .ok) (w .last .1 .1 .1 .1 .1 .0) (w .ensures .0) (not-false (w .result .ok) (at-marks3 .before .if1 .left)) (w .result .total) (w .ensures .1) (c .before .held-sound .result) (c .before .held-sound .ensures)
+    rest-says (a .count) (whole ws) (rowAt 142 12 ws) (dispatched-is ws) (w .result .ok) (w .last .1 .1 .1 .1 .1 .0) (w .ensures .0) (not-false (w .result .ok) (at-marks3 .before .if1 .left)) (w .result .total) (w .result .blocks) (w .ensures .1 .0) (w .ensures .1 .1) (c .before .held-sound .result) (c .before .held-sound .ensures)
 
 pub in-side-spec : {M : Type 1} → statement M
 in-side-spec =

@@ -1,32 +1,43 @@
--- A turn of the walk at a time, as of an outgoing list, with the lengths summed on the way.
-use Prim.Native.Nat.{_+_, _*_, _-_, _≤_}
+-- A turn of the walk at a time, as of an outgoing list, with the lengths summed and the blocks counted on the way.
+use Prim.Native.Nat.{ℕ, _+_, _*_, _-_, _≤_}
 use mathlib.Core.Path.{_≡_, refl}
 use mathlib.Core.Bool.{true, false}
+use mathlib.Core.List.{List}
 use native.Mathlib.Omega.{arith}
 use lib.ListN.{length, getD, drop, length-set}
 use borrow.Author.Needs.{needs}
 use borrow.Author.Tests.{not-true, not-false}
 use Rattle.lists.specs.Rows.{rowAt, itemsOf}
 use Rattle.record.specs.Fresh.{noIncoming}
-use Rattle.record.specs.Damage.{lengths}
+use Rattle.record.specs.Blocks.{isBlock}
+use Rattle.record.specs.declared.groups.Incoming.{Incoming}
+use Rattle.record.specs.Damage.{lengths, blocks}
 use Rattle.damage.specs.CodeInWalks.{inPasses}
 use Rattle.damage.proofs.SumLaws.{pass-short}
+use Rattle.gate.specs.CodeHalves.{Sums, listBytes}
 use Rattle.places.specs.Whole.{whole}
-use Rattle.gate.proofs.Turns.{Listed, Left, left-all, long, end, past, twice, unfit, turn, summed, summed-end}
+use Rattle.gate.proofs.Turns.{Listed, Left, left-all, long, end, past, twice, unfit, turn, summed, summed-end, counted, counted-end}
 use Rattle.gate.proofs.Stops.{says}
-use Rattle.gate.proofs.Sums.{sums-stop}
+use Rattle.gate.proofs.Sums.{sums-stop, at-most-one}
 use Rattle.gate.proofs.incoming.list_sound.Statement.{statement}
 use Rattle.gate.proofs.incoming.list_sound.Tie as tie
 
 abbrev Inv-loop : tie.InvT-loop
-Inv-loop words at count own k marks₀ from total₀ n first j₀ marks total j =
+Inv-loop words at count own k marks₀ from before total₀ blocks₀ n first j₀ marks total blocks′ j =
     (j ≤ n) × (length marks ≡ 12)
-    × Left (inPasses (whole words .incoming) count own k) marks₀ (itemsOf (rowAt at 12 words)) marks j
+    × Left (inPasses (whole words .marks) (whole words .incoming) count own k) marks₀ (itemsOf (rowAt at 12 words)) marks j
     × (from + lengths (whole words .incoming) (itemsOf (rowAt at 12 words)) ≡ total + lengths (whole words .incoming) (drop j (itemsOf (rowAt at 12 words))))
-    × (total ≤ from + 4096 * j)
+    × (total ≤ from + 32768 * j)
+    × (before + blocks (whole words .incoming) (itemsOf (rowAt at 12 words)) ≡ blocks′ + blocks (whole words .incoming) (drop j (itemsOf (rowAt at 12 words))))
+    × (blocks′ ≤ before + j)
 
 abbrev μ-loop : tie.MeasureT-loop
-μ-loop words at count own k marks₀ from total₀ n first j₀ marks total j = n - j
+μ-loop words at count own k marks₀ from before total₀ blocks₀ n first j₀ marks total blocks′ j = n - j
+
+-- a walk that stopped says nothing of its sums
+stops : (slots : List Incoming) (xs : List ℕ) (from total before found : ℕ)
+    → Sums (lengths slots) listBytes xs from false total × Sums (blocks slots) 12 xs before false found
+stops slots xs from total before found = (sums-stop (lengths slots) listBytes xs from total, sums-stop (blocks slots) 12 xs before found)
 
 -- the places before `narrow2`
 abbrev to-loop : tie.After-narrow2 Inv-loop μ-loop → tie.At-loop Inv-loop μ-loop
@@ -54,15 +65,15 @@ returns c =
     let ws = a .words .now in
     let v = c .before .narrow in
     let slots = whole ws .incoming in
-    let f = inPasses slots (a .count) (a .own) (a .k) in
+    let f = inPasses (whole ws .marks) slots (a .count) (a .own) (a .k) in
     let i : Listed ws (a .at) 12 (v .result) = record { room = omega (arith, at-start .pre .0, at-start .pre .1 .0); is = v .ensures } in
-    (long f ws (a .at) 12 (v .result) i (a .marks .now) (a .marks .now) (c .if1 .taken), sums-stop slots (itemsOf (rowAt (a .at) 12 ws)) (a .from) (a .from))
+    (long f ws (a .at) 12 (v .result) i (a .marks .now) (a .marks .now) (c .if1 .taken), stops slots (itemsOf (rowAt (a .at) 12 ws)) (a .from) (a .from) (a .before) (a .before))
 
 add-first : tie.Need-add-first Inv-loop μ-loop
 add-first c = search needs
 
 loop-holds : tie.Need-loop-holds Inv-loop μ-loop
-loop-holds c = (search needs, search needs, left-all _ _ _, refl, search needs)
+loop-holds c = (search needs, search needs, left-all _ _ _, refl, search needs, refl, search needs)
 
 add-narrow : tie.Need-add-narrow Inv-loop μ-loop
 add-narrow c = search needs
@@ -87,11 +98,11 @@ returns-2 c =
     let ws = a .words .now in
     let v = to-narrow at-narrow2 .narrow in
     let slots = whole ws .incoming in
-    let f = inPasses slots (a .count) (a .own) (a .k) in
+    let f = inPasses (whole ws .marks) slots (a .count) (a .own) (a .k) in
     let i : Listed ws (a .at) 12 (v .result) = record { room = omega (arith, b .pre .0, b .pre .1 .0); is = v .ensures } in
     let m = to-loop at-narrow2 .loop in
     let s = at-narrow2 .narrow2 in
-    (past f ws (a .at) 12 (v .result) i (omega arith) (a .marks .now) (m .marks) (m .j) (m .inv .2) (omega arith) (s .result) (s .ensures) (omega arith), sums-stop slots (itemsOf (rowAt (a .at) 12 ws)) (a .from) (m .total))
+    (past f ws (a .at) 12 (v .result) i (omega arith) (a .marks .now) (m .marks) (m .j) (m .inv .2) (omega arith) (s .result) (s .ensures) (omega arith), stops slots (itemsOf (rowAt (a .at) 12 ws)) (a .from) (m .total) (a .before) (m .blocks))
 
 slice-read-if3 : tie.Need-slice-read-if3 Inv-loop μ-loop
 slice-read-if3 c = search needs
@@ -107,11 +118,11 @@ returns-3 c =
     let ws = a .words .now in
     let v = to-narrow at-narrow2 .narrow in
     let slots = whole ws .incoming in
-    let f = inPasses slots (a .count) (a .own) (a .k) in
+    let f = inPasses (whole ws .marks) slots (a .count) (a .own) (a .k) in
     let i : Listed ws (a .at) 12 (v .result) = record { room = omega (arith, b .pre .0, b .pre .1 .0); is = v .ensures } in
     let m = to-loop at-narrow2 .loop in
     let s = at-narrow2 .narrow2 in
-    (twice f ws (a .at) 12 (v .result) i (omega arith) (a .marks .now) (m .marks) (m .j) (m .inv .2) (omega arith) (s .result) (s .ensures) (omega arith) (c .if3 .taken), sums-stop slots (itemsOf (rowAt (a .at) 12 ws)) (a .from) (m .total))
+    (twice f ws (a .at) 12 (v .result) i (omega arith) (a .marks .now) (m .marks) (m .j) (m .inv .2) (omega arith) (s .result) (s .ensures) (omega arith) (c .if3 .taken), stops slots (itemsOf (rowAt (a .at) 12 ws)) (a .from) (m .total) (a .before) (m .blocks))
 
 in-passes-requires : tie.Need-in-passes-requires Inv-loop μ-loop
 in-passes-requires c κs = search needs
@@ -128,12 +139,12 @@ returns-4 c =
     let ws = a .words .now in
     let v = to-narrow at-narrow2 .narrow in
     let slots = whole ws .incoming in
-    let f = inPasses slots (a .count) (a .own) (a .k) in
+    let f = inPasses (whole ws .marks) slots (a .count) (a .own) (a .k) in
     let i : Listed ws (a .at) 12 (v .result) = record { room = omega (arith, b .pre .0, b .pre .1 .0); is = v .ensures } in
     let m = to-loop at-narrow2 .loop in
     let s = at-narrow2 .narrow2 in
     let bad : f (s .result) ≡ false = says (c .before .in-passes .result) (f (s .result)) false (c .before .in-passes .ensures) (not-true _ (c .if4 .taken)) in
-    (unfit f ws (a .at) 12 (v .result) i (omega arith) (a .marks .now) (m .marks) (m .j) (m .inv .2) (omega arith) (s .result) (s .ensures) (omega arith) (at-if3 .if3 .left) bad, sums-stop slots (itemsOf (rowAt (a .at) 12 ws)) (a .from) (m .total))
+    (unfit f ws (a .at) 12 (v .result) i (omega arith) (a .marks .now) (m .marks) (m .j) (m .inv .2) (omega arith) (s .result) (s .ensures) (omega arith) (at-if3 .if3 .left) bad, stops slots (itemsOf (rowAt (a .at) 12 ws)) (a .from) (m .total) (a .before) (m .blocks))
 
 length-at-requires : tie.Need-length-at-requires Inv-loop μ-loop
 length-at-requires c κs = search needs
@@ -147,13 +158,23 @@ add-total c =
     let ws = a .words .now in
     let v = to-narrow at-narrow2 .narrow in
     let slots = whole ws .incoming in
-    let f = inPasses slots (a .count) (a .own) (a .k) in
+    let f = inPasses (whole ws .marks) slots (a .count) (a .own) (a .k) in
     let i : Listed ws (a .at) 12 (v .result) = record { room = omega (arith, b .pre .0, b .pre .1 .0); is = v .ensures } in
     let m = to-loop at-narrow2 .loop in
     let s = at-narrow2 .narrow2 in
     let good : f (s .result) ≡ true = says (at-in-passes .in-passes .result) (f (s .result)) true (at-in-passes .in-passes .ensures) (not-false _ (c .before .if4 .left)) in
-    let short = pass-short (a .count) (a .own) (a .k) (getD slots (s .result) noIncoming) good in
+    let short = pass-short (whole ws .marks) (a .count) (a .own) (a .k) (getD slots (s .result) noIncoming) good in
     omega (arith, c .length-at .ensures)
+
+block-at-requires : tie.Need-block-at-requires Inv-loop μ-loop
+block-at-requires c κs = search needs
+
+add-blocks : tie.Need-add-blocks Inv-loop μ-loop
+add-blocks c =
+    let at-narrow2 = c .before .before .before .before .before .before .before in
+    let b = to-start at-narrow2 in
+    let slots = whole (b .args .words .now) .incoming in
+    omega (arith, c .block-at .ensures, at-most-one (isBlock (getD slots (at-narrow2 .narrow2 .result) noIncoming)))
 
 slice-write-marks : tie.Need-slice-write-marks Inv-loop μ-loop
 slice-write-marks c = search needs
@@ -166,7 +187,7 @@ loop-less c = search needs
 
 loop-again : tie.Need-loop-again Inv-loop μ-loop
 loop-again c =
-    let at-in-passes = c .before .before in
+    let at-in-passes = c .before .before .before in
     let at-narrow2 = at-in-passes .before .before .before .before in
     let at-loop = at-narrow2 .before .before .before in
     let at-narrow = at-loop .before .before in
@@ -175,17 +196,22 @@ loop-again c =
     let ws = a .words .now in
     let v = at-narrow .narrow in
     let slots = whole ws .incoming in
-    let f = inPasses slots (a .count) (a .own) (a .k) in
+    let f = inPasses (whole ws .marks) slots (a .count) (a .own) (a .k) in
     let i : Listed ws (a .at) 12 (v .result) = record { room = omega (arith, at-start .pre .0, at-start .pre .1 .0); is = v .ensures } in
     let m = at-loop .loop in
     let s = at-narrow2 .narrow2 in
-    let good : f (s .result) ≡ true = says (at-in-passes .in-passes .result) (f (s .result)) true (at-in-passes .in-passes .ensures) (not-false _ (c .before .if4 .left)) in
-    let short = pass-short (a .count) (a .own) (a .k) (getD slots (s .result) noIncoming) good in
+    let good : f (s .result) ≡ true = says (at-in-passes .in-passes .result) (f (s .result)) true (at-in-passes .in-passes .ensures) (not-false _ (c .before .before .if4 .left)) in
+    let short = pass-short (whole ws .marks) (a .count) (a .own) (a .k) (getD slots (s .result) noIncoming) good in
     let sum = summed f ws (a .at) 12 (v .result) i (omega arith) (a .marks .now) (m .marks) (m .j) (m .inv .2) (omega arith) (s .result) (s .ensures) slots in
-    let length-is = c .length-at .ensures in (
+    let count = counted f ws (a .at) 12 (v .result) i (omega arith) (a .marks .now) (m .marks) (m .j) (m .inv .2) (omega arith) (s .result) (s .ensures) slots in
+    let few = at-most-one (isBlock (getD slots (s .result) noIncoming)) in
+    let block-is = c .block-at .ensures in
+    let length-is = c .before .length-at .ensures in (
       omega arith,
       simp length-set (m .inv .1),
       turn f ws (a .at) 12 (v .result) i (omega arith) (a .marks .now) (m .marks) (m .j) (m .inv .2) (omega arith) (s .result) (s .ensures) (omega arith) (at-in-passes .before .if3 .left) good,
+      omega arith,
+      omega arith,
       omega arith,
       omega arith,
     )
@@ -201,11 +227,14 @@ returns-5 c =
     let ws = a .words .now in
     let v = at-narrow .narrow in
     let slots = whole ws .incoming in
-    let f = inPasses slots (a .count) (a .own) (a .k) in
+    let f = inPasses (whole ws .marks) slots (a .count) (a .own) (a .k) in
     let i : Listed ws (a .at) 12 (v .result) = record { room = omega (arith, at-start .pre .0, at-start .pre .1 .0); is = v .ensures } in
     let m = c .before .loop in
     let sum = summed-end f ws (a .at) 12 (v .result) i (omega arith) (a .marks .now) (m .marks) (m .j) (m .inv .2) slots (omega arith) in
-    (end f ws (a .at) 12 (v .result) i (omega arith) (a .marks .now) (m .marks) (m .j) (m .inv .2) (omega arith), record { is = λ q. omega arith; low = λ q. omega arith })
+    let count = counted-end f ws (a .at) 12 (v .result) i (omega arith) (a .marks .now) (m .marks) (m .j) (m .inv .2) slots (omega arith) in (
+      end f ws (a .at) 12 (v .result) i (omega arith) (a .marks .now) (m .marks) (m .j) (m .inv .2) (omega arith),
+      (record { is = λ q. omega arith; low = λ q. omega arith }, record { is = λ q. omega arith; low = λ q. omega arith }),
+    )
 
 pub list-sound-spec : {M : Type 1} → statement M
 list-sound-spec =
@@ -233,6 +262,8 @@ list-sound-spec =
     returns-4
     length-at-requires
     add-total
+    block-at-requires
+    add-blocks
     slice-write-marks
     add-j
     loop-less

@@ -4,7 +4,7 @@ use mathlib.Core.Bool.{Bool}
 use lib.Dec.{eqb, ltb}
 use Rattle.numbers.specs.Pick.{pick, both}
 use Rattle.numbers.specs.Bits.{bit, withBit}
-use Rattle.blocks.specs.declared.Marks.{Marks}
+use Rattle.record.specs.declared.groups.Marks.{Marks}
 
 abbrev pub mostPieces : ℕ
 mostPieces = 64
