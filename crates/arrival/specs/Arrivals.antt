@@ -92,4 +92,5 @@ storedAt s a datagram x lists unsequenced channels =
     record {
       peer = withArrival p lists unsequenced (awaiting (p .waiting) (a .length)) channels (set (p .incoming) s (arrivedSlot a));
       store = filled (x .store) s datagram (a .place) (a .length);
+      second = x .second;
     }

@@ -52,10 +52,10 @@ room-of true room n e = let z : _≡_ {A = ℕ} 0 1 = cc in absurd (omega arith)
 room-of false room n e = e
 
 -- ws and g are what the code answered
-module _ (s : Settings) (a : Arrival) (datagram : List ℕ) (p : Peer) (store : List ℕ)
+module _ (s : Settings) (a : Arrival) (datagram : List ℕ) (p : Peer) (store second : List ℕ)
     (g : AtGate s (Store (length store)) p) where
   abbrev found : State
-  found = record { peer = p; store = store }
+  found = record { peer = p; store = store; second = second }
 
   abbrev outcome : Outcome State
   outcome = arrivesReliable s a datagram found
@@ -122,6 +122,7 @@ module _ (s : Settings) (a : Arrival) (datagram : List ℕ) (p : Peer) (store : 
               (record {
                 peer = withArrival p (d .lists) (d .unsequenced) waiting (set (p .channels) (a .channel) (d .channel)) (set (p .incoming) n slot);
                 store = cells;
+                second = second;
               })
           arrive-stored longer slot d waiting cells h i u x y =
               went reply.Stored _ (rw t (record { answer = refl; after = rw (whole, i, x, y) }))

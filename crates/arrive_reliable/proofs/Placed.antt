@@ -68,15 +68,15 @@ settled p q r t u i n s slot waiting h eq er et eu =
     ∙ ap (λ (cs : List Channel). withArrival p (d .lists) (d .unsequenced) waiting cs slots) (set-set (p .channels) i own (d .channel))
 
 -- g is what the gate answered
-module _ (s : Settings) (a : Arrival) (datagram : List ℕ) (p : Peer) (store : List ℕ) (g : AtGate s (Store (length store)) p) where
+module _ (s : Settings) (a : Arrival) (datagram : List ℕ) (p : Peer) (store second : List ℕ) (g : AtGate s (Store (length store)) p) where
   abbrev found : State
-  found = record { peer = p; store = store }
+  found = record { peer = p; store = store; second = second }
 
   abbrev outcome : Outcome State
   outcome = arrivesReliable s a datagram found
 
   pub lent-shut : (why : Refusal) → g .gate ≡ Shut why → Came answerOf outcome (reply.Refused why) found
-  lent-shut why q = arrive-shut s a datagram p store g why q
+  lent-shut why q = arrive-shut s a datagram p store second g why q
 
   -- m is what the second gate answered
   module _ (opens : g .gate ≡ Open) (standing : Standing) (st : standing ≡ p .standing) (m : Gate) (is : m ≡ arrivalGate sendReliable a s standing (length datagram)) where
@@ -84,11 +84,11 @@ module _ (s : Settings) (a : Arrival) (datagram : List ℕ) (p : Peer) (store : 
     same = is ∙ ap (λ (x : Standing). arrivalGate sendReliable a s x (length datagram)) st
 
     pub lent-refused : (why : Refusal) → m ≡ Shut why → Came answerOf outcome (reply.Refused why) found
-    lent-refused why q = arrive-refused s a datagram p store g opens m same why q
+    lent-refused why q = arrive-refused s a datagram p store second g opens m same why q
 
     module _ (may : m ≡ Open) where
       pub lent-channel : a .channel < channels
-      lent-channel = channel-exists s a datagram p store g opens m same may
+      lent-channel = channel-exists s a datagram p store second g opens m same may
 
       -- f is what becomes of it
       module _ (f : Fate) (w : f ≡ fateOn s a p) where
@@ -103,14 +103,14 @@ module _ (s : Settings) (a : Arrival) (datagram : List ℕ) (p : Peer) (store : 
 
         pub lent-left : OneOf others (tagOf the-type f) → (r : Reply) → r ≡ replyOf f → Came answerOf outcome r found
         lent-left k r q =
-            arrive-left s a datagram p store g opens m same may free refl room refl (channelOf a p) refl passed refl f w k r q
+            arrive-left s a datagram p store second g opens m same may free refl room refl (channelOf a p) refl passed refl f w k r q
 
         pub lent-stored : (n : ℕ) → f ≡ fate.Stored n → (slot : Incoming) (before waiting : Waiting) (cells : List ℕ) (q : Peer) → slot ≡ arrivedSlot a → before ≡ p .waiting
             → waiting ≡ awaiting before (a .length) → cells ≡ filled store n datagram (a .place) (a .length) → q ≡ settledOn (a .channel) (a .number .0) n slot waiting p
-            → Came answerOf outcome reply.Stored (record { peer = q; store = cells })
+            → Came answerOf outcome reply.Stored (record { peer = q; store = cells; second = second })
         lent-stored n t slot before waiting cells q ei eb ew ec done =
             let longer = heldWith (p .incoming) (channelOf a p) (a .number .0) n in
-            subst (λ (y : Peer). Came answerOf outcome reply.Stored (record { peer = y; store = cells })) (sym done)
-            (arrive-stored s a datagram p store g opens m same may free refl room refl (channelOf a p) refl passed refl f w n t
+            subst (λ (y : Peer). Came answerOf outcome reply.Stored (record { peer = y; store = cells; second = second })) (sym done)
+            (arrive-stored s a datagram p store second g opens m same may free refl room refl (channelOf a p) refl passed refl f w n t
             longer slot (dispatchedBy (set (p .incoming) n slot) longer (p .lists) (p .unsequenced)) waiting cells refl ei refl
             (ew ∙ ap (λ (x : Waiting). awaiting x (a .length)) eb) ec)

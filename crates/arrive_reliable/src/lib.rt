@@ -3,7 +3,8 @@ pub mod holding;
 
 ghost use mathlib.Core.Path.{_≡_};
 ghost use Rattle.arrive_reliable.specs.Calls.{fateOf, fateOn, arrivesReliable};
-ghost use Prim.Native.Nat.{_<_};
+ghost use Prim.Native.Nat.{ℕ, _<_};
+ghost use mathlib.Core.List.{List};
 ghost use lib.ListN.{length};
 ghost use Rattle.record.specs.Sizes.{channels};
 ghost use Rattle.peer.specs.Outcome.{Came};
@@ -68,7 +69,7 @@ pub fn arrive(
     datagram: &[u8],
     a: Arrival,
 ) -> Reply
-    ensures { λ r. ⌜ Came answerOf (arrivesReliable settings a (now (datagram .entry)) (record { peer = whole (now (words .entry)); store = now (store .entry) })) r (record { peer = whole (now (words .exit)); store = now (store .exit) }) ⌝ }
+    ensures { λ r. ⌜ ((second : List ℕ) → Came answerOf (arrivesReliable settings a (now (datagram .entry)) (record { peer = whole (now (words .entry)); store = now (store .entry); second = second })) r (record { peer = whole (now (words .exit)); store = now (store .exit); second = second })) ⌝ }
 {
     let asked = gate::ask(words, settings, Lent::Store(store.len()));
     if let Gate::Shut(why) = asked {

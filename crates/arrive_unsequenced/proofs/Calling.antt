@@ -42,10 +42,10 @@ abbrev pub others : List ℕ
 others = 0 ∷ 1 ∷ []
 
 -- ws and g are what the code answered
-module _ (s : Settings) (a : Arrival) (group : Group) (datagram : List ℕ) (p : Peer) (store : List ℕ)
+module _ (s : Settings) (a : Arrival) (group : Group) (datagram : List ℕ) (p : Peer) (store second : List ℕ)
     (g : AtGate s (Store (length store)) p) where
   abbrev found : State
-  found = record { peer = p; store = store }
+  found = record { peer = p; store = store; second = second }
 
   abbrev outcome : Outcome State
   outcome = arrivesUnsequenced s a group datagram found
@@ -97,6 +97,6 @@ module _ (s : Settings) (a : Arrival) (group : Group) (datagram : List ℕ) (p :
             → slot ≡ arrivedSlot a → lists ≡ delivered (p .lists) n → waiting ≡ awaiting (p .waiting) (a .length)
             → cells ≡ filled store n datagram (a .place) (a .length)
             → Came answerOf outcome reply.Stored
-            (record { peer = withArrival p lists (j .unsequenced) waiting (p .channels) (set (p .incoming) n slot); store = cells })
+            (record { peer = withArrival p lists (j .unsequenced) waiting (p .channels) (set (p .incoming) n slot); store = cells; second = second })
         arrive-stored slot lists waiting cells i l x y =
             went reply.Stored _ (rw t (record { answer = refl; after = rw (i, l, x, y) }))

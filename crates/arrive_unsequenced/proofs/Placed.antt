@@ -65,24 +65,24 @@ delivered-lent p u v z a n old new slot o i w b c d =
     ∙ ap (λ (y : Peer). withIncoming y (set (y .incoming) n (arrivedSlot a))) b)
 
 -- the call: g is the gate's answer, standing what was read of the record, m the second gate's answer
-module _ (s : Settings) (a : Arrival) (group : Group) (datagram : List ℕ) (p : Peer) (store : List ℕ)
+module _ (s : Settings) (a : Arrival) (group : Group) (datagram : List ℕ) (p : Peer) (store second : List ℕ)
     (g : AtGate s (Store (length store)) p) (opens : g .gate ≡ Open)
     (standing : Standing) (b : standing ≡ p .standing) (m : Gate) (is : m ≡ arrivalGate sendUnsequenced a s standing (length datagram)) where
   abbrev Comes : Reply → Peer → List ℕ → Type 0
-  Comes r y cells = Came answerOf (arrivesUnsequenced s a group datagram (record { peer = p; store = store })) r (record { peer = y; store = cells })
+  Comes r y cells = Came answerOf (arrivesUnsequenced s a group datagram (record { peer = p; store = store; second = second })) r (record { peer = y; store = cells; second = second })
 
   may-is : m ≡ arrivalGate sendUnsequenced a s (p .standing) (length datagram)
   may-is = is ∙ ap (λ (x : Standing). arrivalGate sendUnsequenced a s x (length datagram)) b
 
   pub lent-refused : (why : Refusal) → m ≡ Shut why → Comes (reply.Refused why) p store
-  lent-refused = arrive-refused s a group datagram p store g opens m may-is
+  lent-refused = arrive-refused s a group datagram p store second g opens m may-is
 
   -- f and q are what judged it answered and left
   module _ (may : m ≡ Open) (f : Fate) (q : Peer) (t : f ≡ judgedOn s group p .fate) (r : q ≡ withUnsequenced p (judgedOn s group p .unsequenced)) where
     pub lent-left : OneOf others (tagOf the-type f) → (y : Reply) → y ≡ replyOf f → Comes y q store
     lent-left k y z =
         subst (λ (x : Peer). Comes y x store) (sym r)
-        (arrive-left s a group datagram p store g opens m may-is may (freeSlot (p .lists) (p .channels) (p .standing .channels)) refl
+        (arrive-left s a group datagram p store second g opens m may-is may (freeSlot (p .lists) (p .channels) (p .standing .channels)) refl
         (roomOf s p) refl (judgedOn s group p) refl (subst (λ (x : Fate). OneOf others (tagOf the-type x)) t k) y (z ∙ ap replyOf t))
 
     pub lent-stored : (n : ℕ) → f ≡ fate.Stored n → (z : Peer) (cells : List ℕ)
@@ -93,5 +93,5 @@ module _ (s : Settings) (a : Arrival) (group : Group) (datagram : List ℕ) (p :
         subst (λ (x : Peer). Comes reply.Stored x cells)
         (sym (d
         ∙ ap (λ (y : Peer). withArrival y (delivered (y .lists) n) (y .unsequenced) (awaiting (y .waiting) (a .length)) (y .channels) (set (y .incoming) n (arrivedSlot a))) r))
-        (arrive-stored s a group datagram p store g opens m may-is may (freeSlot (p .lists) (p .channels) (p .standing .channels)) refl
+        (arrive-stored s a group datagram p store second g opens m may-is may (freeSlot (p .lists) (p .channels) (p .standing .channels)) refl
         (roomOf s p) refl (judgedOn s group p) refl n (sym t ∙ w) (arrivedSlot a) (delivered (p .lists) n) (awaiting (p .waiting) (a .length)) cells refl refl refl h)

@@ -25,7 +25,7 @@ sendUnsequenced = 9
 
 -- the state with other groups, and nothing else changed
 abbrev pub regrouped : State → Unsequenced → State
-regrouped x unsequenced = record { peer = withUnsequenced (x .peer) unsequenced; store = x .store }
+regrouped x unsequenced = record { peer = withUnsequenced (x .peer) unsequenced; store = x .store; second = x .second }
 
 -- what a fate leaves; the groups are the window's
 abbrev pub unsequencedAfter : Fate → Unsequenced → Arrival → List ℕ → State → State

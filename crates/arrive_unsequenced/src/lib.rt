@@ -1,5 +1,7 @@
 // The unsequenced arrival.
 ghost use mathlib.Core.Path.{_≡_};
+ghost use mathlib.Core.List.{List};
+ghost use Prim.Native.Nat.{ℕ};
 ghost use lib.ListN.{length, set};
 ghost use Rattle.peer.specs.Outcome.{Came};
 ghost use Rattle.peer.specs.Updates.{withUnsequenced, withArrival};
@@ -62,7 +64,7 @@ pub fn arrive(
     a: Arrival,
     group: Group,
 ) -> Reply
-    ensures { λ r. ⌜ Came answerOf (arrivesUnsequenced settings a group (now (datagram .entry)) (record { peer = whole (now (words .entry)); store = now (store .entry) })) r (record { peer = whole (now (words .exit)); store = now (store .exit) }) ⌝ }
+    ensures { λ r. ⌜ ((second : List ℕ) → Came answerOf (arrivesUnsequenced settings a group (now (datagram .entry)) (record { peer = whole (now (words .entry)); store = now (store .entry); second = second })) r (record { peer = whole (now (words .exit)); store = now (store .exit); second = second })) ⌝ }
 {
     let asked = gate::ask(words, settings, Lent::Store(store.len()));
     if let Gate::Shut(why) = asked {

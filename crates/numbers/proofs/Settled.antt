@@ -10,7 +10,7 @@ use Rattle.numbers.specs.Clock.{answerOf, sampled}
 use Rattle.numbers.specs.declared.clock.Trip.{Trip}
 use Rattle.numbers.specs.declared.clock.Trip.the-variants.{PassedOver, Taken}
 use Rattle.numbers.specs.declared.refusals.Refusal.{Refusal}
-use Rattle.numbers.specs.declared.refusals.Refusal.the-variants.{NotConnected, InvalidChannel, PacketTooLarge, FragmentsExceeded, FailedToQueue, NotReceiving, LengthTooLarge, NotStored, BadCommand, NotRemoved, OutOfRange, Damaged}
+use Rattle.numbers.specs.declared.refusals.Refusal.the-variants.{NotConnected, InvalidChannel, PacketTooLarge, FragmentsExceeded, FailedToQueue, NotReceiving, LengthTooLarge, NotStored, BadCommand, NotRemoved, OutOfRange, Damaged, BadFragment}
 
 -- ---- refusals
 table : List Refusal
@@ -27,6 +27,9 @@ table =
     ∷ BadCommand
     ∷ NotRemoved
     ∷ OutOfRange
+    ∷ Damaged
+    ∷ Damaged
+    ∷ BadFragment
     ∷ []
 
 abbrev at : ℕ → Refusal
@@ -46,6 +49,7 @@ at-number BadCommand = refl
 at-number NotRemoved = refl
 at-number OutOfRange = refl
 at-number Damaged = refl
+at-number BadFragment = refl
 
 pub numbers-apart : (a b : Refusal) → numberOf a ≡ numberOf b → a ≡ b
 numbers-apart a b e = sym (at-number a) ∙ ap at e ∙ at-number b
@@ -67,6 +71,7 @@ refused-not-done BadCommand e = omega (arith, e)
 refused-not-done NotRemoved e = omega (arith, e)
 refused-not-done OutOfRange e = omega (arith, e)
 refused-not-done Damaged e = omega (arith, e)
+refused-not-done BadFragment e = omega (arith, e)
 
 -- ---- what is done: the counting numbers that an answer is made of are found again
 pub numbers-of-done : (xs : List ℕ) → numbersOf (done xs) ≡ xs

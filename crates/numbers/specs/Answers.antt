@@ -3,9 +3,9 @@ use Prim.Native.Nat.{ℕ}
 use mathlib.Core.List.{List, [], map}
 use lib.IntN.{ℤ, pos, negsuc}
 use Rattle.numbers.specs.declared.refusals.Refusal.{Refusal}
-use Rattle.numbers.specs.declared.refusals.Refusal.the-variants.{NotConnected, InvalidChannel, PacketTooLarge, FragmentsExceeded, FailedToQueue, NotReceiving, LengthTooLarge, NotStored, BadCommand, NotRemoved, OutOfRange, Damaged}
+use Rattle.numbers.specs.declared.refusals.Refusal.the-variants.{NotConnected, InvalidChannel, PacketTooLarge, FragmentsExceeded, FailedToQueue, NotReceiving, LengthTooLarge, NotStored, BadCommand, NotRemoved, OutOfRange, Damaged, BadFragment}
 
--- the table: 6, 7 and 8 are an arrival's, 10 an acknowledgement's
+-- the table: 6, 7 and 8 are an arrival's, 10 an acknowledgement's; C-11: 14, fields out of range or unlike the first piece's
 abbrev pub numberOf : Refusal → ℕ
 numberOf NotConnected = 1
 numberOf InvalidChannel = 2
@@ -19,6 +19,7 @@ numberOf BadCommand = 9
 numberOf NotRemoved = 10
 numberOf OutOfRange = 11
 numberOf Damaged = 13
+numberOf BadFragment = 14
 
 pub record Answer : Type 0 where
   pub number : ℕ

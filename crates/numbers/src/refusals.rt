@@ -1,4 +1,4 @@
-// Document 01's table of what a call refuses, a case for each of its numbers.
+// Document 01's table of what a call refuses, a case for each of its numbers; 14 is C-11's.
 ghost use mathlib.Core.Path.{_≡_};
 ghost use Rattle.numbers.specs.Answers.{numberOf};
 
@@ -15,6 +15,7 @@ pub enum Refusal {
     NotRemoved,
     OutOfRange,
     Damaged,
+    BadFragment,
 }
 
 impl Refusal {
@@ -34,6 +35,7 @@ impl Refusal {
             Refusal::NotRemoved => 10,
             Refusal::OutOfRange => 11,
             Refusal::Damaged => 13,
+            Refusal::BadFragment => 14,
         }
     }
 }

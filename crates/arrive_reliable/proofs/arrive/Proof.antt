@@ -48,12 +48,12 @@ enum-known-asked : tie.Need-enum-known-asked
 enum-known-asked c = search needs
 
 returns : tie.Need-returns
-returns c =
+returns c second =
     let at-ask = c .before .before .before in
     let k = at-ask .ask in
     let a = to-start at-ask .args in
     let x = c .before .asked .given in
-    lent-shut (a .settings) (a .a) (a .datagram .now) (whole (a .words .now)) (a .store .now) (record { gate = k .result; is = k .ensures }) (x .0 .0) (x .1)
+    lent-shut (a .settings) (a .a) (a .datagram .now) (whole (a .words .now)) (a .store .now) second (record { gate = k .result; is = k .ensures }) (x .0 .0) (x .1)
 
 enum-told : tie.Need-enum-told
 enum-told c = search needs
@@ -68,7 +68,7 @@ enum-known-may : tie.Need-enum-known-may
 enum-known-may c = search needs
 
 returns-2 : tie.Need-returns-2
-returns-2 c =
+returns-2 c second =
     let at-arrival-gate = c .before .before .before in
     let at-enum-told = at-arrival-gate .before .before .before .before in
     let at-ask = at-enum-told .before .before in
@@ -78,7 +78,7 @@ returns-2 c =
     let k = at-ask .ask in
     let a = to-start at-ask .args in
     let x = c .before .may .given in
-    lent-refused (a .settings) (a .a) (a .datagram .now) (whole (a .words .now)) (a .store .now) (record { gate = k .result; is = k .ensures }) o (t .result) (t .ensures) (m .result) (m .ensures) (x .0 .0) (x .1)
+    lent-refused (a .settings) (a .a) (a .datagram .now) (whole (a .words .now)) (a .store .now) second (record { gate = k .result; is = k .ensures }) o (t .result) (t .ensures) (m .result) (m .ensures) (x .0 .0) (x .1)
 
 enum-told-2 : tie.Need-enum-told-2
 enum-told-2 c = search needs
@@ -92,7 +92,7 @@ fate-on-requires c κs =
     let o = to-enum-told c .enum-told .given .1 in
     let k = to-ask c .ask in
     let a = to-start at-ask .args in
-    (search needs, lent-channel (a .settings) (a .a) (a .datagram .now) (whole (a .words .now)) (a .store .now) (record { gate = k .result; is = k .ensures }) o (t .result) (t .ensures) (m .result) (m .ensures) y)
+    (search needs, lent-channel (a .settings) (a .a) (a .datagram .now) (whole (a .words .now)) (a .store .now) (a .store .now) (record { gate = k .result; is = k .ensures }) o (t .result) (t .ensures) (m .result) (m .ensures) y)
 
 enum-known-fate : tie.Need-enum-known-fate
 enum-known-fate c = search needs
@@ -101,7 +101,7 @@ reply-of-requires : tie.Need-reply-of-requires
 reply-of-requires c κs = search needs
 
 returns-3 : tie.Need-returns-3
-returns-3 c =
+returns-3 c second =
     let at-fate-on = c .before .before in
     let at-fate-on-arg2 = at-fate-on .before in
     let at-ask = to-ask at-fate-on-arg2 in
@@ -112,7 +112,7 @@ returns-3 c =
     let o = to-enum-told at-fate-on-arg2 .enum-told .given .1 in
     let k = to-ask at-fate-on-arg2 .ask in
     let a = to-start at-ask .args in
-    lent-left (a .settings) (a .a) (a .datagram .now) (whole (a .words .now)) (a .store .now) (record { gate = k .result; is = k .ensures }) o (t .result) (t .ensures) (m .result) (m .ensures) y (f .result) (f .ensures) (c .before .match3 .keys2)
+    lent-left (a .settings) (a .a) (a .datagram .now) (whole (a .words .now)) (a .store .now) second (record { gate = k .result; is = k .ensures }) o (t .result) (t .ensures) (m .result) (m .ensures) y (f .result) (f .ensures) (c .before .match3 .keys2)
     (c .reply-of .result) (c .reply-of .ensures)
 
 waiting-requires : tie.Need-waiting-requires
@@ -134,13 +134,13 @@ settle-requires c κs =
     let o = to-enum-told at-fate-on-arg2 .enum-told .given .1 in
     let k = to-ask at-fate-on-arg2 .ask in
     let a = to-start at-ask .args in
-    (search needs, lent-channel (a .settings) (a .a) (a .datagram .now) (whole (a .words .now)) (a .store .now) (record { gate = k .result; is = k .ensures }) o (t .result) (t .ensures) (m .result) (m .ensures) y)
+    (search needs, lent-channel (a .settings) (a .a) (a .datagram .now) (whole (a .words .now)) (a .store .now) (a .store .now) (record { gate = k .result; is = k .ensures }) o (t .result) (t .ensures) (m .result) (m .ensures) y)
 
 same-length : tie.Need-same-length
 same-length c = search needs
 
 returns-4 : tie.Need-returns-4
-returns-4 c =
+returns-4 c second =
     let at-struct-known = c .before in
     let at-fate-on-arg2 = to-fate-on-arg2 at-struct-known in
     let at-ask = to-ask at-fate-on-arg2 in
@@ -154,7 +154,7 @@ returns-4 c =
     let n = to-fate at-struct-known .fate .given in
     let w = to-waiting at-struct-known .waiting in
     let z = to-keep at-struct-known .keep in
-    lent-stored (a .settings) (a .a) (a .datagram .now) (whole (a .words .now)) (a .store .now) (record { gate = k .result; is = k .ensures }) o (t .result) (t .ensures) (m .result) (m .ensures) y (f .result) (f .ensures) (n .0 .0) (n .1)
+    lent-stored (a .settings) (a .a) (a .datagram .now) (whole (a .words .now)) (a .store .now) second (record { gate = k .result; is = k .ensures }) o (t .result) (t .ensures) (m .result) (m .ensures) y (f .result) (f .ensures) (n .0 .0) (n .1)
     (z .result .slot) (w .result) (z .result .waiting) (z .last .0) (whole (c .settle .last .0)) (z .ensures .0) (w .ensures) (z .ensures .1 .0) (z .ensures .1 .1) (c .settle .ensures)
 
 pub arrive-spec : {M : Type 1} → statement M

@@ -27,14 +27,14 @@ enum-known-asked : tie.Need-enum-known-asked
 enum-known-asked c = search needs
 
 returns : tie.Need-returns
-returns c =
+returns c second =
     let at-ask = c .before .before .before in
     let b = to-start at-ask in
     let a = b .args in
     let p = whole (a .words .now) in
     let q : AtGate (a .settings) (Store (length (a .store .now))) p = record { gate = at-ask .ask .result; is = at-ask .ask .ensures } in
     let k = c .before .asked .given in
-    arrive-shut (a .settings) (a .a) (a .group) (a .datagram .now) p (a .store .now) q (k .0 .0) (k .1)
+    arrive-shut (a .settings) (a .a) (a .group) (a .datagram .now) p (a .store .now) second q (k .0 .0) (k .1)
 
 enum-told : tie.Need-enum-told
 enum-told c = search needs
@@ -49,7 +49,7 @@ enum-known-may : tie.Need-enum-known-may
 enum-known-may c = search needs
 
 returns-2 : tie.Need-returns-2
-returns-2 c =
+returns-2 c second =
     let at-arrival-gate = c .before .before .before in
     let at-enum-told = at-arrival-gate .before .before .before .before in
     let at-ask = at-enum-told .before .before in
@@ -60,7 +60,7 @@ returns-2 c =
     let p = whole (a .words .now) in
     let q : AtGate (a .settings) (Store (length (a .store .now))) p = record { gate = g .ask .result; is = g .ask .ensures } in
     let k = c .before .may .given in
-    lent-refused (a .settings) (a .a) (a .group) (a .datagram .now) p (a .store .now) q (at-enum-told .enum-told .given .1)
+    lent-refused (a .settings) (a .a) (a .group) (a .datagram .now) p (a .store .now) second q (at-enum-told .enum-told .given .1)
     (t .standing .result) (t .standing .ensures) (at-arrival-gate .arrival-gate .result) (at-arrival-gate .arrival-gate .ensures) (k .0 .0) (k .1)
 
 enum-told-2 : tie.Need-enum-told-2
@@ -76,7 +76,7 @@ reply-of-requires : tie.Need-reply-of-requires
 reply-of-requires c κs = search needs
 
 returns-3 : tie.Need-returns-3
-returns-3 c =
+returns-3 c second =
     let at-judge-on = c .before .before in
     let at-ask = to-ask at-judge-on in
     let n = at-judge-on .before .before in
@@ -88,7 +88,7 @@ returns-3 c =
     let a = b .args in
     let p = whole (a .words .now) in
     let q : AtGate (a .settings) (Store (length (a .store .now))) p = record { gate = g .ask .result; is = g .ask .ensures } in
-    lent-left (a .settings) (a .a) (a .group) (a .datagram .now) p (a .store .now) q (o .enum-told .given .1)
+    lent-left (a .settings) (a .a) (a .group) (a .datagram .now) p (a .store .now) second q (o .enum-told .given .1)
     (t .standing .result) (t .standing .ensures) (m .arrival-gate .result) (m .arrival-gate .ensures) (n .enum-told2 .given .1)
     (at-judge-on .judge-on .result) (whole (at-judge-on .judge-on .last .0)) (at-judge-on .judge-on .ensures .0) (at-judge-on .judge-on .ensures .1) (c .before .match3 .keys2) (c .reply-of .result) (c .reply-of .ensures)
 
@@ -99,7 +99,7 @@ same-length : tie.Need-same-length
 same-length c = search needs
 
 returns-4 : tie.Need-returns-4
-returns-4 c =
+returns-4 c second =
     let at-deliver = c .before .before in
     let at-fate = at-deliver .before .before .before .before in
     let at-judge-on = at-fate .before .before in
@@ -114,7 +114,7 @@ returns-4 c =
     let a = b .args in
     let p = whole (a .words .now) in
     let q : AtGate (a .settings) (Store (length (a .store .now))) p = record { gate = g .ask .result; is = g .ask .ensures } in
-    lent-stored (a .settings) (a .a) (a .group) (a .datagram .now) p (a .store .now) q (o .enum-told .given .1)
+    lent-stored (a .settings) (a .a) (a .group) (a .datagram .now) p (a .store .now) second q (o .enum-told .given .1)
     (t .standing .result) (t .standing .ensures) (m .arrival-gate .result) (m .arrival-gate .ensures) (n .enum-told2 .given .1)
     (j .judge-on .result) (whole (j .judge-on .last .0)) (j .judge-on .ensures .0) (j .judge-on .ensures .1) (at-fate .fate .given .0 .0) (at-fate .fate .given .1)
     (whole (at-deliver .deliver .last .0)) (at-deliver .deliver .last .1 .0) (at-deliver .deliver .ensures .0) (at-deliver .deliver .ensures .1)
