@@ -1,5 +1,5 @@
 -- Soundness through dispatch: a sound record stays sound, whatever goes. The argument: each slot is named as often as before, so the lists
--- still fit their pool and the total is the same; what stays in a channel's list stood there before; numbers and flags are not looked at.
+-- still fit their pool, and the total and the number of blocks are the same; what stays in a channel's list stood there before; numbers and flags are not looked at.
 use Prim.Native.Nat.{ℕ, zero, suc, _+_, _≤_, _<_}
 use mathlib.Core.Path.{_≡_, refl, ap, sym, _∙_}
 use mathlib.Core.List.{List, [], _∷_}
@@ -19,14 +19,15 @@ use Rattle.record.specs.declared.incoming.InList.{InList}
 use Rattle.record.proofs.Keeps.{times, times-append, once-less, exist-less}
 use Rattle.record.proofs.Views.{in-items-keep}
 use Rattle.cells.proofs.Lowest.{free-and-named}
-use Rattle.damage.proofs.SumLaws.{sum-append}
+use Rattle.damage.proofs.SumLaws.{sum-append, blocks-append}
 use Rattle.record.specs.Fresh.{noChannel, noIncoming}
-use Rattle.record.specs.Damage.{all, below, held, heldFit, inFit, inSound, lengths, listsFit, own, usedIn}
+use Rattle.record.specs.Damage.{all, below, held, heldFit, inFit, inSound, lengths, blocks, oneBlock, listsFit, own, usedIn}
 use Rattle.record.specs.Updates.{withDispatched}
 use Rattle.record.specs.declared.groups.Standing.{Standing}
 use Rattle.record.specs.declared.groups.Lists.{Lists}
 use Rattle.record.specs.declared.groups.Channel.{Channel}
 use Rattle.record.specs.declared.groups.Incoming.{Incoming}
+use Rattle.record.specs.declared.groups.Marks.{Marks}
 use Rattle.peer.specs.Damage.{sound}
 use Rattle.peer.specs.Outcome.{Outcome, finished}
 use Rattle.peer.specs.Sounds.{Whole, Sounds}
@@ -81,7 +82,7 @@ own-set slots j (c ∷ cs) (suc i) new e known =
     (λ s h. ⊎-elim (λ there. inl there) (λ is. inr (omega (arith, is))) (known s h)))
 
 -- ---- the incoming pool after a move
-module _ (slots : List Incoming) (l : Lists) (cs : List Channel) (count total : ℕ) (w : InClauses slots l cs count total) where
+module _ (marks : Marks) (slots : List Incoming) (l : Lists) (cs : List Channel) (count total : ℕ) (w : InClauses marks slots l cs count total) where
   -- the slots named are at most 12, so that a channel's list has room at the end of dispatched
   room : (i : ℕ) → i < length cs → length (inItems (l .dispatched)) + length (inItems (getD cs i noChannel .held)) ≤ incoming
   room i h =
@@ -102,17 +103,18 @@ module _ (slots : List Incoming) (l : Lists) (cs : List Channel) (count total : 
     fewer : (s : ℕ) → times used s ≤ times (usedIn l cs) s
     fewer s = omega (arith, same s)
 
-    moved-clauses : InClauses slots m (set cs i new) count total
+    moved-clauses : InClauses marks slots m (set cs i new) count total
     moved-clauses =
         record {
           exists = exist-less (usedIn l cs) used fewer incoming (w .exists);
           single = once-less (usedIn l cs) used fewer (w .single);
           fit =
-              at-all (inFit slots count) used (λ s h. all-at (inFit slots count) (usedIn l cs) (w .fit) s (omega (arith, same s, h)));
+              at-all (inFit marks slots count) used (λ s h. all-at (inFit marks slots count) (usedIn l cs) (w .fit) s (omega (arith, same s, h)));
           own =
               own-set slots 0 cs i new (w .own)
               (λ s h. inl (omega (arith, h, left-less (λ (xs : List ℕ). times xs s) (λ xs ys. times-append xs ys s) l cs i k m new v)));
           total = w .total ∙ sym (used-same (lengths slots) (sum-append slots) l cs i k m new v);
+          block = ap (oneBlock marks) (used-same (blocks slots) (blocks-append slots) l cs i k m new v) ∙ w .block;
         }
 
 -- ---- the record
@@ -144,7 +146,7 @@ module _ (channel : ℕ) (p : Peer) (whole : Whole p) (good : sound p ≡ true) 
   -- dispatched has room for the whole list
   pub room-there : length (inItems (p .lists .dispatched)) + length (inItems (old .held)) ≤ incoming
   room-there =
-      rw old-is at (room (p .incoming) (p .lists) cs (p .standing .channels) (p .waiting .total) (incoming-clauses p good) channel here)
+      rw old-is at (room (p .marks) (p .incoming) (p .lists) cs (p .standing .channels) (p .waiting .total) (incoming-clauses p good) channel here)
 
   module _ (k n : ℕ) where
     abbrev moved : Dispatched
@@ -180,9 +182,9 @@ module _ (channel : ℕ) (p : Peer) (whole : Whole p) (good : sound p ≡ true) 
           fit = w .fit;
           sent = w .sent;
           arrived =
-              ap (λ (xs : List Channel). inSound (p .incoming) (moved .lists) xs count (p .waiting .total)) now
-              ∙ clauses-in (p .incoming) (moved .lists) (set cs channel (moved .channel)) count (p .waiting .total)
-              (moved-clauses (p .incoming) (p .lists) cs count (p .waiting .total) (incoming-clauses p good) channel k (moved .lists) (moved .channel) moves);
+              ap (λ (xs : List Channel). inSound (p .marks) (p .incoming) (moved .lists) xs count (p .waiting .total)) now
+              ∙ clauses-in (p .marks) (p .incoming) (moved .lists) (set cs channel (moved .channel)) count (p .waiting .total)
+              (moved-clauses (p .marks) (p .incoming) (p .lists) cs count (p .waiting .total) (incoming-clauses p good) channel k (moved .lists) (moved .channel) moves);
         })
 
   pub dispatched-sound : sound (dispatchedOn channel p) ≡ true

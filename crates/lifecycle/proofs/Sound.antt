@@ -19,11 +19,11 @@ use Rattle.peer.specs.States.{lastState}
 use Rattle.peer.specs.Settings.{fitSettings}
 use Rattle.numbers.specs.Limits.{mtuFits}
 use Rattle.numbers.specs.declared.refusals.Refusal.the-variants.{OutOfRange}
-use Rattle.record.specs.Sizes.{channels, cell}
+use Rattle.record.specs.Sizes.{channels}
 use Rattle.record.specs.Channels.{isItself, onChannel}
 use Rattle.record.specs.Fresh.{noLists, noChannel, noOutgoing, noIncoming}
 use Rattle.peer.specs.Fresh.{freshPeer}
-use Rattle.record.specs.Damage.{ranged, listsFit, heldFit, held, below, all, own, lengths, outFit, inFit, tried, outSound, inSound, usedOut}
+use Rattle.record.specs.Damage.{ranged, listsFit, heldFit, held, below, all, own, lengths, blocks, oneBlock, outFit, kindFit, inFit, tried, outSound, inSound, usedOut}
 use Rattle.peer.specs.Damage.{sound}
 use Rattle.peer.specs.Outcome.{unchanged, finished}
 use Rattle.peer.specs.Sounds.{Whole, Sounds}
@@ -34,6 +34,7 @@ use Rattle.peer.specs.declared.Peer.{Peer}
 use Rattle.record.specs.declared.groups.Channel.{Channel}
 use Rattle.record.specs.declared.groups.Outgoing.{Outgoing}
 use Rattle.record.specs.declared.groups.Incoming.{Incoming}
+use Rattle.record.specs.declared.groups.Marks.{Marks}
 use Rattle.peer.specs.declared.defaults.Kept.{Kept}
 
 -- set state: soundness does not look at the state
@@ -60,7 +61,7 @@ state-sounds s state = gated-sounds s (setsStateSound state) (state-keeps state)
 
 -- reset: nothing is held
 fresh-sound : (mtu : ℕ) (k : Kept) → mtuFits mtu ≡ true → sound (freshPeer mtu k) ≡ true
-unfolding sound freshPeer noLists heldFit held all own lengths exist once
+unfolding sound freshPeer noLists heldFit held all own lengths blocks exist once
 fresh-sound mtu k fit = rw fit
 
 fresh-whole : (mtu : ℕ) (k : Kept) → Whole (freshPeer mtu k)
@@ -121,9 +122,9 @@ out-more slots count s e = both-true (namesFields c) _ (both-left (namesFields c
     go true = refl
     go false = own-channel
 
-in-more : (slots : List Incoming) (count s : ℕ) → inFit slots 0 s ≡ true → inFit slots count s ≡ true
-in-more slots count s e =
-    let l = leb (getD slots s noIncoming .length) cell in
+in-more : (m : Marks) (slots : List Incoming) (count s : ℕ) → inFit m slots 0 s ≡ true → inFit m slots count s ≡ true
+in-more m slots count s e =
+    let l = kindFit m (getD slots s noIncoming) in
     let z : ltb (getD slots s noIncoming .channel) 0 ≡ true = both-right l _ e in
     absurd (omega (arith, ltb-true (getD slots s noIncoming .channel) 0 z))
 
@@ -152,15 +153,15 @@ module _ (mtu count : ℕ) (p : Peer) (h : sound p ≡ true) (none : p .standing
   -- what the record's soundness says, with no channel
   was : both (ranged (p .flow .mtu) 0)
       (both (both (listsFit (p .lists)) true)
-      (both (outSound (p .outgoing) (p .lists) 0) (inSound (p .incoming) (p .lists) [] 0 (p .waiting .total)))) ≡ true
+      (both (outSound (p .outgoing) (p .lists) 0) (inSound (p .marks) (p .incoming) (p .lists) [] 0 (p .waiting .total)))) ≡ true
   unfolding sound heldFit
   was = rw none at h
 
   was-lists : both (both (listsFit (p .lists)) true)
-      (both (outSound (p .outgoing) (p .lists) 0) (inSound (p .incoming) (p .lists) [] 0 (p .waiting .total))) ≡ true
+      (both (outSound (p .outgoing) (p .lists) 0) (inSound (p .marks) (p .incoming) (p .lists) [] 0 (p .waiting .total))) ≡ true
   was-lists = both-right (ranged (p .flow .mtu) 0) _ was
 
-  was-pools : both (outSound (p .outgoing) (p .lists) 0) (inSound (p .incoming) (p .lists) [] 0 (p .waiting .total)) ≡ true
+  was-pools : both (outSound (p .outgoing) (p .lists) 0) (inSound (p .marks) (p .incoming) (p .lists) [] 0 (p .waiting .total)) ≡ true
   was-pools = both-right (both (listsFit (p .lists)) true) _ was-lists
 
   lists : listsFit (p .lists) ≡ true
@@ -180,26 +181,26 @@ module _ (mtu count : ℕ) (p : Peer) (h : sound p ≡ true) (none : p .standing
   now-held : List Channel
   now-held = below (replicate channels noChannel) count
 
-  inn : inSound (p .incoming) (p .lists) now-held count (p .waiting .total) ≡ true
+  inn : inSound (p .marks) (p .incoming) (p .lists) now-held count (p .waiting .total) ≡ true
   unfolding now-held held
   inn =
       rw (held-none (p .incoming) channels count)
       (let w = both-right (outSound (p .outgoing) (p .lists) 0) _ was-pools in
       let xs = inItems (p .lists .dispatched) ++ [] in
       let named = both (exist incoming xs) (once xs) in
-      let fit = all (inFit (p .incoming) 0) xs in
-      let total = eqb (p .waiting .total) (lengths (p .incoming) xs) in
+      let fit = all (inFit (p .marks) (p .incoming) 0) xs in
+      let rest = both (eqb (p .waiting .total) (lengths (p .incoming) xs)) (oneBlock (p .marks) (blocks (p .incoming) xs)) in
       both-true named _ (both-left named _ w)
-      (both-true _ _ (all-more (inFit (p .incoming) 0) (inFit (p .incoming) count) xs (in-more (p .incoming) count) (both-left fit _ (both-right named _ w)))
-      (both-true _ total (own-none (p .incoming) channels count 0)
-      (both-right (own (p .incoming) 0 []) total (both-right fit (both (own (p .incoming) 0 []) total) (both-right named _ w))))))
+      (both-true _ _ (all-more (inFit (p .marks) (p .incoming) 0) (inFit (p .marks) (p .incoming) count) xs (in-more (p .marks) (p .incoming) count) (both-left fit _ (both-right named _ w)))
+      (both-true _ rest (own-none (p .incoming) channels count 0)
+      (both-right (own (p .incoming) 0 []) rest (both-right fit (both (own (p .incoming) 0 []) rest) (both-right named _ w))))))
 
   begun-sound : sound (begun mtu count p) ≡ true
   unfolding sound now-held
   begun-sound =
       both-true (ranged mtu count) _ (both-true (mtuFits mtu) _ fit few)
       (both-true (both (listsFit (p .lists)) (heldFit now-held)) _ (both-true (listsFit (p .lists)) (heldFit now-held) lists (fit-none (p .incoming) channels count))
-      (both-true (outSound (p .outgoing) (p .lists) count) (inSound (p .incoming) (p .lists) now-held count (p .waiting .total)) out inn))
+      (both-true (outSound (p .outgoing) (p .lists) count) (inSound (p .marks) (p .incoming) (p .lists) now-held count (p .waiting .total)) out inn))
 
 begin-keeps : (mtu count : ℕ) (p : Peer) → Whole p → sound p ≡ true → sound (beginsSound mtu count p .after) ≡ true
 begin-keeps mtu count p l h = go (beginFits mtu count (p .standing .channels)) refl
