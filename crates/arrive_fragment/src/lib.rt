@@ -3,7 +3,8 @@ pub mod searching;
 pub mod storing;
 
 ghost use mathlib.Core.Path.{_≡_};
-ghost use Prim.Native.Nat.{_<_};
+ghost use mathlib.Core.List.{List};
+ghost use Prim.Native.Nat.{ℕ, _<_};
 ghost use lib.ListN.{length};
 ghost use Rattle.cells.specs.declared.First.the-variants.{Slot, Empty};
 ghost use Rattle.record.specs.Sizes.{channels};
@@ -11,7 +12,7 @@ ghost use Rattle.peer.specs.Outcome.{Came};
 ghost use Rattle.places.specs.Whole.{whole, recordLength};
 ghost use Rattle.arrival.specs.Arrivals.{answerOf};
 ghost use Rattle.arrive_fragment.specs.Pieces.{opens, fateBy, fateOn, replyOf};
-ghost use Rattle.arrive_fragment.specs.Calls.{arrivalOf, arrivesFragment};
+ghost use Rattle.arrive_fragment.specs.Calls.{arrivalOf, fragmentAfter, arrivesFragment};
 use arrival::Arrival;
 use arrival::Reply;
 use cells::First;
@@ -144,6 +145,27 @@ fn reply_of(fate: Fate) -> Reply
     }
 }
 
+// What a fate leaves: a first piece begins its block, a later one is added to it.
+fn keep(words: &mut [u32], second: &mut [u8], datagram: &[u8], a: Piece, fate: Fate)
+    requires { ⌜ length (now words) ≡ recordLength ⌝ }
+    requires { ⌜ a .channel < channels ⌝ }
+    ensures { λ _. ⌜ ((store : List ℕ) → fragmentAfter fate a (now (datagram .entry)) (record { peer = whole (now (words .entry)); store = store; second = now (second .entry) }) ≡ record { peer = whole (now (words .exit)); store = store; second = now (second .exit) }) ⌝ }
+{
+    match fate {
+        Fate::Passed => return,
+        Fate::Unfit => return,
+        Fate::NoRoom => return,
+        Fate::First(s) => {
+            storing::begin(words, second, datagram, a, s);
+            return;
+        }
+        Fate::Later(s) => {
+            storing::add(words, second, datagram, a, s);
+            return;
+        }
+    }
+}
+
 // Refused by 11, 13, 9, 6 and 7, in this order; passed over by its start or in state 6; refused by 14; a marked one passed over; a first one refused by 8; or stored.
 pub fn arrive(
     words: &mut [u32; RECORD],
@@ -169,10 +191,6 @@ pub fn arrive(
         return Reply::Refused(why);
     }
     let fate = fate_on(words, settings, a);
-    match fate {
-        Fate::First(s) => storing::begin(words, second, datagram, a, s),
-        Fate::Later(s) => storing::add(words, second, datagram, a, s),
-        _ => {}
-    }
+    keep(words, second, datagram, a, fate);
     reply_of(fate)
 }

@@ -1,19 +1,18 @@
--- What the numbers that a reset or a begin writes make of the record: numbers of 0 one after the other, what is kept, the ids, the limits, the reserved
+-- What the numbers that a reset or a begin writes make of the record: channels of 0, what is kept, the ids, the limits, the reserved
 -- number; then the writes one after the other. The argument: places' `numbers-put` and `put-channels`; a record of zeros is computed.
-use Prim.Native.Nat.{ℕ, suc, _+_, _%_, _<_, _≤_}
+use Prim.Native.Nat.{ℕ, _%_, _<_}
 use mathlib.Core.Path.{_≡_, refl, ap, sym, _∙_}
 use mathlib.Core.List.{List, [], _∷_}
 use native.Mathlib.Nat.{mod-eq-of-lt}
 use native.Mathlib.Omega.{arith}
-use lib.ListN.{length, getD, set, replicate, length-replicate, getD-replicate}
-use lib.Seq.{sets, paste, paste-suc, take-all}
+use lib.ListN.{length, getD, replicate, length-replicate}
+use lib.Seq.{sets, paste}
 use Rattle.wire.specs.Decoded.{decoded}
 use Rattle.record.specs.Fresh.{noLists, noChannel, noOutgoing, noIncoming}
 use Rattle.record.specs.Updates.{withCount, withMtu}
 use Rattle.record.specs.declared.groups.Limits.{Limits}
 use Rattle.pool.specs.Rows.{rowsFrom}
 use Rattle.pool.specs.Slots.{slotFrom, inSlotFrom}
-use Rattle.pool.proofs.Copies.{paste-over}
 use Rattle.peer.specs.Fresh.{freshIds, freshPeer}
 use Rattle.peer.specs.Updates.{withStanding, withThrottling, withFlow, withUnsequenced, withWaiting, withChannels}
 use Rattle.peer.specs.declared.Peer.{Peer}
@@ -24,20 +23,6 @@ use Rattle.places.proofs.Written.{place, numbers-put}
 use Rattle.places.proofs.ChannelLaws.{put-channels}
 use Rattle.lifecycle.specs.Calls.{kept, begun}
 use Rattle.lifecycle.specs.Updates.{withIds, withLimits, withReserved}
-
--- ---- numbers of 0
-pub clear-turn : (d ws : List ℕ) (at n j : ℕ) → at + n ≤ length d → j < n → ws ≡ paste d at (replicate n 0) j → set ws (at + j) 0 ≡ paste d at (replicate n 0) (j + 1)
-clear-turn d ws at n j f h e =
-    let zeros : List ℕ = replicate n 0 in
-    let l : length zeros ≡ n = length-replicate {A = ℕ} n 0 in
-    let q : suc j ≡ j + 1 = omega arith in
-    ap (λ (l : List ℕ). set l (at + j) 0) e
-    ∙ ap (set (paste d at zeros j) (at + j)) (sym (getD-replicate n j 0 0 h))
-    ∙ paste-suc d at zeros j 0 (omega arith) (omega arith)
-    ∙ ap (paste d at zeros) q
-
-pub cleared : (ws : List ℕ) (n : ℕ) → length ws ≡ n → paste ws 0 (replicate n 0) n ≡ replicate n 0
-cleared ws n l = paste-over ws (replicate n 0) n l ∙ take-all n (replicate n 0) (omega (arith, length-replicate {A = ℕ} n 0))
 
 no-channels : channelsFrom (replicate 136 0) ≡ replicate 8 noChannel
 unfolding rowsFrom channelFrom noChannel

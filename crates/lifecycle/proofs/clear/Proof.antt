@@ -5,7 +5,7 @@ use native.Mathlib.Omega.{arith}
 use lib.ListN.{length, replicate, length-set}
 use lib.Seq.{paste, paste-zero}
 use borrow.Author.Needs.{needs}
-use Rattle.lifecycle.proofs.Places.{clear-turn}
+use Rattle.pool.proofs.Copies.{clear-turn}
 use Rattle.lifecycle.proofs.clear.Statement.{statement}
 use Rattle.lifecycle.proofs.clear.Tie as tie
 

@@ -4,7 +4,7 @@ use lib.ListN.{length}
 use borrow.Author.Tests.{not-true, not-false}
 use borrow.Author.Needs.{needs}
 use Rattle.peer.specs.Fresh.{freshPeer}
-use Rattle.lifecycle.proofs.Places.{cleared}
+use Rattle.pool.proofs.Copies.{cleared}
 use Rattle.lifecycle.proofs.reset.Statement.{statement}
 use Rattle.lifecycle.proofs.reset.Tie as tie
 
