@@ -13,6 +13,7 @@ use Rattle.record.specs.declared.groups.Flow.{Flow}
 use Rattle.record.specs.declared.groups.Unsequenced.{Unsequenced}
 use Rattle.record.specs.declared.groups.Ids.{Ids}
 use Rattle.record.specs.declared.groups.Incoming.{Incoming}
+use Rattle.record.specs.declared.groups.Marks.{Marks}
 use Rattle.record.specs.declared.groups.Limits.{Limits}
 use Rattle.record.specs.declared.groups.Lists.{Lists}
 use Rattle.record.specs.declared.groups.Loss.{Loss}
@@ -25,7 +26,7 @@ use Rattle.record.specs.declared.groups.Trips.{Trips}
 use Rattle.record.specs.declared.groups.Waiting.{Waiting}
 use Rattle.pool.specs.Slots.{slotFrom, inSlotFrom}
 use Rattle.pool.proofs.Rows.{rows-length}
-use Rattle.peer.specs.Updates.{rebuilt, withStanding, withTotals, withTimes, withLoss, withThrottling, withFlow, withLists, withUnsequenced, withWaiting, withChannels, withOutgoing}
+use Rattle.peer.specs.Updates.{rebuilt, withStanding, withTotals, withTimes, withLoss, withThrottling, withFlow, withLists, withUnsequenced, withWaiting, withChannels, withOutgoing, withMarks}
 use Rattle.peer.specs.declared.Peer.{Peer}
 use Rattle.places.specs.Updates.{withTrips, withIncoming}
 use Rattle.places.specs.Whole.{sizes, numbers, parts, made, whole}
@@ -48,9 +49,9 @@ unfolding made parts numbers sizes
 ids-made ws a b c d ea eb ec ed = rw (ea, eb, ec, ed)
 
 pub peer-made : (p : Peer) (ids : Ids) (standing : Standing) (bandwidth : Bandwidth) (totals : Totals) (times : Times) (loss : Loss) (throttling : Throttling) (limits : Limits) (trips : Trips) (flow : Flow) (lists : Lists)
-    (unsequenced : Unsequenced) (waiting : Waiting) (channels : List Channel) (outgoing : List Outgoing) (incoming : List Incoming)
+    (unsequenced : Unsequenced) (waiting : Waiting) (channels : List Channel) (outgoing : List Outgoing) (incoming : List Incoming) (marks : Marks)
     → ids ≡ p .ids → standing ≡ p .standing → bandwidth ≡ p .bandwidth → totals ≡ p .totals → times ≡ p .times → loss ≡ p .loss → throttling ≡ p .throttling → limits ≡ p .limits → trips ≡ p .trips
-    → flow ≡ p .flow → lists ≡ p .lists → unsequenced ≡ p .unsequenced → waiting ≡ p .waiting → channels ≡ p .channels → outgoing ≡ p .outgoing → incoming ≡ p .incoming
+    → flow ≡ p .flow → lists ≡ p .lists → unsequenced ≡ p .unsequenced → waiting ≡ p .waiting → channels ≡ p .channels → outgoing ≡ p .outgoing → incoming ≡ p .incoming → marks ≡ p .marks
     → _≡_ {A = Peer}
     (record {
       ids = ids;
@@ -69,9 +70,10 @@ pub peer-made : (p : Peer) (ids : Ids) (standing : Standing) (bandwidth : Bandwi
       channels = channels;
       outgoing = outgoing;
       incoming = incoming;
+      marks = marks;
     }) p
-peer-made p ids standing bandwidth totals times loss throttling limits trips flow lists unsequenced waiting channels outgoing incoming e0 e1 e2 e3 e4 e5 e6 e7 e8 e9 e10 e11 e12 e13 e14 e15 =
-    rw (e0, e1, e2, e3, e4, e5, e6, e7, e8, e9, e10, e11, e12, e13, e14, e15)
+peer-made p ids standing bandwidth totals times loss throttling limits trips flow lists unsequenced waiting channels outgoing incoming marks e0 e1 e2 e3 e4 e5 e6 e7 e8 e9 e10 e11 e12 e13 e14 e15 e16 =
+    rw (e0, e1, e2, e3, e4, e5, e6, e7, e8, e9, e10, e11, e12, e13, e14, e15, e16)
 
 -- ---- written
 low8 : (x y : ℕ) → x ≡ y → y < 256 → x % 256 ≡ y
@@ -102,7 +104,7 @@ fixed-put p₀ p₁ p₂ p₃ i b l e₁ e₂ e₃ =
 -- the seven groups of numbers beside them
 abbrev pub numbered : Peer → Standing → Totals → Times → Loss → Throttling → Trips → Flow → Peer
 numbered p standing totals times loss throttling trips flow =
-    rebuilt p standing totals times loss throttling trips flow (p .lists) (p .unsequenced) (p .waiting) (p .channels) (p .outgoing) (p .incoming)
+    rebuilt p standing totals times loss throttling trips flow (p .lists) (p .unsequenced) (p .waiting) (p .channels) (p .outgoing) (p .incoming) (p .marks)
 
 pub numbered-put : (p₀ p₁ p₂ p₃ p₄ p₅ p₆ p₇ : Peer) (standing : Standing) (totals : Totals) (times : Times) (loss : Loss) (throttling : Throttling) (trips : Trips) (flow : Flow)
     → p₁ ≡ withStanding p₀ standing → p₂ ≡ withTotals p₁ totals → p₃ ≡ withTimes p₂ times → p₄ ≡ withLoss p₃ loss → p₅ ≡ withThrottling p₄ throttling → p₆ ≡ withTrips p₅ trips → p₇ ≡ withFlow p₆ flow
@@ -119,11 +121,14 @@ numbered-put p₀ p₁ p₂ p₃ p₄ p₅ p₆ p₇ standing totals times loss 
     (e₃ ∙ ap (λ (p : Peer). withTimes p times) (e₂ ∙ ap (λ (p : Peer). withTotals p totals) e₁)))))
 
 -- all of them
-pub peer-put : (x p₀ p₁ p₂ p₃ p₄ p₅ p₆ p₇ p₈ : Peer) → p₁ ≡ withFixed p₀ (x .ids) (x .bandwidth) (x .limits)
+pub peer-put : (x p₀ p₁ p₂ p₃ p₄ p₅ p₆ p₇ p₈ p₉ : Peer) → p₁ ≡ withFixed p₀ (x .ids) (x .bandwidth) (x .limits)
     → p₂ ≡ numbered p₁ (x .standing) (x .totals) (x .times) (x .loss) (x .throttling) (x .trips) (x .flow) → p₃ ≡ withLists p₂ (x .lists) → p₄ ≡ withUnsequenced p₃ (x .unsequenced)
-    → p₅ ≡ withWaiting p₄ (x .waiting) → p₆ ≡ withChannels p₅ (x .channels) → p₇ ≡ withOutgoing p₆ (x .outgoing) → p₈ ≡ withIncoming p₇ (x .incoming) → p₈ ≡ x
-peer-put x p₀ p₁ p₂ p₃ p₄ p₅ p₆ p₇ p₈ e₁ e₂ e₃ e₄ e₅ e₆ e₇ e₈ =
-    e₈
+    → p₅ ≡ withWaiting p₄ (x .waiting) → p₆ ≡ withChannels p₅ (x .channels) → p₇ ≡ withOutgoing p₆ (x .outgoing) → p₈ ≡ withIncoming p₇ (x .incoming)
+    → p₉ ≡ withMarks p₈ (x .marks) → p₉ ≡ x
+peer-put x p₀ p₁ p₂ p₃ p₄ p₅ p₆ p₇ p₈ p₉ e₁ e₂ e₃ e₄ e₅ e₆ e₇ e₈ e₉ =
+    e₉
+    ∙ ap (λ (p : Peer). withMarks p (x .marks))
+    (e₈
     ∙ ap (λ (p : Peer). withIncoming p (x .incoming))
     (e₇
     ∙ ap (λ (p : Peer). withOutgoing p (x .outgoing))
@@ -135,4 +140,4 @@ peer-put x p₀ p₁ p₂ p₃ p₄ p₅ p₆ p₇ p₈ e₁ e₂ e₃ e₄ e₅
     ∙ ap (λ (p : Peer). withUnsequenced p (x .unsequenced))
     (e₃
     ∙ ap (λ (p : Peer). withLists p (x .lists))
-    (e₂ ∙ ap (λ (p : Peer). numbered p (x .standing) (x .totals) (x .times) (x .loss) (x .throttling) (x .trips) (x .flow)) e₁))))))
+    (e₂ ∙ ap (λ (p : Peer). numbered p (x .standing) (x .totals) (x .times) (x .loss) (x .throttling) (x .trips) (x .flow)) e₁)))))))

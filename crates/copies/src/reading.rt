@@ -188,6 +188,7 @@ pub fn read(words: &[u32]) -> Peer
     let channels = all_channels(words);
     let outgoing = outgoing(words);
     let incoming = incoming(words);
+    let marks = groups::marks(words);
     Peer {
         ids,
         standing,
@@ -205,5 +206,6 @@ pub fn read(words: &[u32]) -> Peer
         channels,
         outgoing,
         incoming,
+        marks,
     }
 }

@@ -82,7 +82,7 @@ fn put_fixed(words: &mut [u32], ids: Ids, bandwidth: Bandwidth, limits: Limits)
     put_limits(words, limits);
 }
 
-// The other groups of single numbers, but for the window's and what waits.
+// The other groups of single numbers, but for the window's, what waits and the marks.
 fn put_numbers(
     words: &mut [u32],
     standing: Standing,
@@ -94,7 +94,7 @@ fn put_numbers(
     flow: Flow,
 )
     requires { ⌜ length (now words) ≡ recordLength ⌝ }
-    ensures { λ _. ⌜ whole (now (words .exit)) ≡ rebuilt (whole (now (words .entry))) standing totals times loss throttling trips flow (whole (now (words .entry)) .lists) (whole (now (words .entry)) .unsequenced) (whole (now (words .entry)) .waiting) (whole (now (words .entry)) .channels) (whole (now (words .entry)) .outgoing) (whole (now (words .entry)) .incoming) ⌝ }
+    ensures { λ _. ⌜ whole (now (words .exit)) ≡ rebuilt (whole (now (words .entry))) standing totals times loss throttling trips flow (whole (now (words .entry)) .lists) (whole (now (words .entry)) .unsequenced) (whole (now (words .entry)) .waiting) (whole (now (words .entry)) .channels) (whole (now (words .entry)) .outgoing) (whole (now (words .entry)) .incoming) (whole (now (words .entry)) .marks) ⌝ }
 {
     groups::put_standing(words, standing);
     groups::put_totals(words, totals);
@@ -233,4 +233,5 @@ pub fn write(words: &mut [u32], peer: Peer)
     put_channels(words, channels);
     put_outgoing(words, outgoing);
     put_incoming(words, incoming);
+    groups::put_marks(words, peer.marks);
 }

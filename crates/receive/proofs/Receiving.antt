@@ -10,16 +10,17 @@ use Rattle.cells.specs.declared.First.the-variants.{Slot, Empty}
 use Rattle.record.specs.Fresh.{noIncoming}
 use Rattle.record.specs.declared.groups.Waiting.{Waiting}
 use Rattle.record.specs.declared.groups.Incoming.{Incoming}
+use Rattle.record.specs.declared.groups.Marks.{Marks}
 use Rattle.record.specs.Updates.{inShorter}
 use Rattle.peer.specs.Outcome.{Came}
-use Rattle.peer.specs.Updates.{withLists, withWaiting}
+use Rattle.peer.specs.Updates.{withLists, withWaiting, withMarks}
 use Rattle.peer.specs.declared.settings.Settings.{Settings}
 use Rattle.peer.specs.declared.Peer.{Peer}
 use Rattle.peer.specs.declared.gate.Lent.the-variants as lent
 use Rattle.peer.specs.declared.gate.Gate.the-variants.{Open}
 use Rattle.peer.proofs.Gates.{came-open, AtGate}
 use Rattle.queues.specs.Queues.{putDispatched}
-use Rattle.receive.specs.Calls.{answerOf, packet, withoutFirst, lowered, receivesFrom, receivesSound, receives}
+use Rattle.receive.specs.Calls.{answerOf, withoutFirst, lowered, clearedBy, replyOf, receivesFrom, receivesSound, receives}
 use Rattle.receive.specs.declared.Reply.{Reply}
 use Rattle.receive.specs.declared.Reply.the-variants as vr
 
@@ -34,17 +35,21 @@ module _ (s : Settings) (p : Peer)
   receive-empty z = came vr.Nothing p (rw z (record { answer = refl; after = refl }))
 
   module _ (n : ℕ) (z : f ≡ Slot n) where
-    -- on the lent record: dispatched loses its head (q), then the waiting total is written (r)
-    pub receive-lent : (q r : Peer) (slot : Incoming) (w x : Waiting)
+    -- on the lent record: dispatched loses its head (q), then the waiting total is written (r), then the marks (u)
+    pub receive-lent : (q r u : Peer) (slot : Incoming) (w x : Waiting) (m o : Marks) (y : Reply)
         → slot ≡ getD (p .incoming) n noIncoming → q ≡ putDispatched p (inShorter (p .lists .dispatched)) → w ≡ q .waiting → x ≡ lowered w (slot .length)
-        → r ≡ withWaiting q x → Came answerOf (receives s p) (vr.Packet (slot .channel) n (slot .length)) r
-    receive-lent q r slot w x i a b d k =
-        came (vr.Packet (slot .channel) n (slot .length)) r
+        → r ≡ withWaiting q x → m ≡ r .marks → o ≡ clearedBy slot m → u ≡ withMarks r o → y ≡ replyOf slot n
+        → Came answerOf (receives s p) y u
+    receive-lent q r u slot w x m o y i a b d k e t h v =
+        came y u
         (rw z (record {
-          answer = ap (λ (y : Incoming). packet (y .channel) n (y .length)) i;
+          answer = ap answerOf (v ∙ ap (λ (j : Incoming). replyOf j n) i);
           after =
-              k
-              ∙ ap (withWaiting q) (d ∙ ap (λ (y : Waiting). lowered y (slot .length)) b)
-              ∙ ap (λ (y : Peer). withWaiting y (lowered (y .waiting) (slot .length))) a
-              ∙ ap (λ (y : Incoming). withWaiting (withLists p (withoutFirst (p .lists))) (lowered (p .waiting) (y .length))) i;
+              h
+              ∙ ap (withMarks r) (t ∙ ap (clearedBy slot) e)
+              ∙ ap (λ (j : Peer). withMarks j (clearedBy slot (j .marks)))
+              (k
+              ∙ ap (withWaiting q) (d ∙ ap (λ (j : Waiting). lowered j (slot .length)) b)
+              ∙ ap (λ (j : Peer). withWaiting j (lowered (j .waiting) (slot .length))) a)
+              ∙ ap (λ (j : Incoming). withMarks (withWaiting (withLists p (withoutFirst (p .lists))) (lowered (p .waiting) (j .length))) (clearedBy j (p .marks))) i;
         }))

@@ -1,15 +1,16 @@
 -- Soundness through receive: a sound record stays sound, with a head or without.
 -- The argument: dispatched without its head names no slot more often, and the total, the sum of the lengths held, is lower by the head's;
--- it is below 2^32, so the difference modulo 2^32 is the plain one.
+-- it is below 2^32, so the difference modulo 2^32 is the plain one. Where the head is the block there is no other, so no marks are right, and the packets
+-- that stay fit whatever the marks; where it is a packet, marks and blocks are as before.
 use Prim.Native.Nat.{ℕ, _+_, _≤_, _<_, _^_}
 use mathlib.Core.Path.{_≡_, refl, ap, sym, _∙_}
 use mathlib.Core.List.{List, [], _∷_, _++_}
-use mathlib.Core.Bool.{Bool, true}
+use mathlib.Core.Bool.{Bool, true, false}
 use native.Mathlib.Omega.{arith}
-use lib.Dec.{leb}
+use lib.Dec.{leb, ltb, eqb}
 use lib.ListN.{length, getD, length-take}
-use borrow.Author.Tests.{le-leb, leb-true}
-use Rattle.numbers.specs.Pick.{both}
+use borrow.Author.Tests.{le-leb, leb-true, eqb-true, ne-eqb}
+use Rattle.numbers.specs.Pick.{pick, both}
 use Rattle.numbers.specs.Modulo.{minus}
 use Rattle.numbers.proofs.BoolLaws.{both-left, both-right, both-true}
 use Rattle.record.specs.Lists.{outgoing, incoming, inItems}
@@ -20,18 +21,22 @@ use Rattle.record.specs.declared.incoming.InList.{InList}
 use Rattle.record.proofs.Keeps.{times}
 use Rattle.cells.proofs.Lengths.{without-fits}
 use Rattle.record.specs.Fresh.{noIncoming}
-use Rattle.record.specs.Damage.{listsFit, below, held, lengths, usedIn}
+use Rattle.record.specs.Marks.{noMarks}
+use Rattle.record.specs.Blocks.{isBlock}
+use Rattle.record.specs.Damage.{listsFit, below, held, kindFit, inFit, lengths, blocks, oneBlock, usedIn}
+use Rattle.record.proofs.KindLaws.{packet-fit}
 use Rattle.record.specs.Updates.{inShorter}
 use Rattle.record.specs.declared.groups.Lists.{Lists}
 use Rattle.record.specs.declared.groups.Channel.{Channel}
 use Rattle.record.specs.declared.groups.Incoming.{Incoming}
+use Rattle.record.specs.declared.groups.Marks.{Marks}
 use Rattle.peer.specs.Damage.{sound}
 use Rattle.peer.specs.Sounds.{Whole, Sounds}
 use Rattle.peer.specs.declared.settings.Settings.{Settings}
 use Rattle.peer.specs.declared.Peer.{Peer}
 use Rattle.peer.proofs.Sound.{gated-sounds}
 use Rattle.peer.proofs.Clauses.{Clauses, sound-clauses, clauses-sound}
-use Rattle.receive.specs.Calls.{withoutFirst, taken, receivesFrom, receivesSound, receives}
+use Rattle.receive.specs.Calls.{withoutFirst, clearedBy, taken, receivesFrom, receivesSound, receives}
 use Rattle.peer.proofs.InClauses.{InClauses, in-clauses, clauses-in, shorter-items, used-from, total-low, clauses-less}
 
 -- the lists fit their pools
@@ -57,11 +62,31 @@ without-fit l e = last (leb (l .sent .len) outgoing) (leb (l .«send_reliable» 
 pub minus-plain : (t n rest : ℕ) → t ≡ n + rest → t < 2 ^ 32 → minus 32 t n ≡ rest
 minus-plain t n rest e h = omega arith
 
+-- where no slot of a list is a block, one that stands there is none
+none-there : (slots : List Incoming) (xs : List ℕ) → blocks slots xs ≡ 0 → (k : ℕ) → 0 < times xs k → isBlock (getD slots k noIncoming) ≡ false
+unfolding blocks
+none-there slots [] e k h = absurd (omega arith)
+none-there slots (x ∷ xs) e k h = go (none-there slots xs) (isBlock (getD slots x noIncoming)) refl e (eqb x k) refl h
+  where
+    go : (blocks slots xs ≡ 0 → (j : ℕ) → 0 < times xs j → isBlock (getD slots j noIncoming) ≡ false)
+        → (b : Bool) → isBlock (getD slots x noIncoming) ≡ b → pick b 1 0 + blocks slots xs ≡ 0
+        → (c : Bool) → eqb x k ≡ c → 0 < pick c 1 0 + times xs k → isBlock (getD slots k noIncoming) ≡ false
+    go rest true z n c t h = absurd (omega arith)
+    go rest false z n true t h = let is : x ≡ k = eqb-true x k t in rw is at z
+    go rest false z n false t h = rest (omega arith) k (omega arith)
+
+-- with a block at the head there is no other
+no-other : (m : Marks) (n : ℕ) → oneBlock m (1 + n) ≡ true → n ≡ 0
+no-other m n e = omega (arith, eqb-true (1 + n) 1 (rw (ne-eqb (1 + n) 0 (λ z. omega (arith, z))) at e))
+
 -- the incoming pool without the head
-module _ (slots : List Incoming) (l : Lists) (cs : List Channel) (count total : ℕ) (w : InClauses slots l cs count total)
+module _ (marks : Marks) (slots : List Incoming) (l : Lists) (cs : List Channel) (count total : ℕ) (w : InClauses marks slots l cs count total)
     (s : ℕ) (rest : List ℕ) (e : inItems (l .dispatched) ≡ s ∷ rest) where
+  abbrev head : Incoming
+  head = getD slots s noIncoming
+
   abbrev size : ℕ
-  size = getD slots s noIncoming .length
+  size = head .length
 
   before : usedIn l cs ≡ s ∷ (rest ++ held cs)
   before = used-from l cs (s ∷ rest) e
@@ -76,16 +101,49 @@ module _ (slots : List Incoming) (l : Lists) (cs : List Channel) (count total : 
   unfolding lengths
   sum = w .total ∙ ap (lengths slots) before ∙ ap (λ (xs : List ℕ). size + lengths slots xs) (sym after)
 
-  without-clauses : InClauses slots (withoutFirst l) cs count (minus 32 total size)
-  without-clauses =
-      clauses-less slots l cs count total w (withoutFirst l) (minus 32 total size) fewer
-      (minus-plain total size (lengths slots (usedIn (withoutFirst l) cs)) sum (omega (arith, total-low slots l cs count total w)))
+  -- the blocks that stay
+  abbrev others : ℕ
+  others = blocks slots (usedIn (withoutFirst l) cs)
+
+  counted : oneBlock marks (pick (isBlock head) 1 0 + others) ≡ true
+  unfolding blocks
+  counted =
+      ap (λ (xs : List ℕ). oneBlock marks (pick (isBlock head) 1 0 + blocks slots xs)) after
+      ∙ sym (ap (λ (xs : List ℕ). oneBlock marks (blocks slots xs)) before)
+      ∙ w .block
+
+  cleared-fit : others ≡ 0 → (k : ℕ) → 0 < times (usedIn (withoutFirst l) cs) k → inFit marks slots count k ≡ true → inFit noMarks slots count k ≡ true
+  cleared-fit none k h f =
+      let i = getD slots k noIncoming in
+      let low = ltb (i .channel) count in
+      both-true (kindFit noMarks i) low
+      (packet-fit marks noMarks i (none-there slots (usedIn (withoutFirst l) cs) none k h) (both-left (kindFit marks i) low f))
+      (both-right (kindFit marks i) low f)
+
+  without-clauses : InClauses (clearedBy head marks) slots (withoutFirst l) cs count (minus 32 total size)
+  without-clauses = go (isBlock head) counted
+    where
+      lower : minus 32 total size ≡ lengths slots (usedIn (withoutFirst l) cs)
+      lower = minus-plain total size (lengths slots (usedIn (withoutFirst l) cs)) sum (omega (arith, total-low marks slots l cs count total w))
+
+      less : (o : Marks) → ((k : ℕ) → 0 < times (usedIn (withoutFirst l) cs) k → inFit marks slots count k ≡ true → inFit o slots count k ≡ true)
+          → oneBlock o others ≡ true → InClauses o slots (withoutFirst l) cs count (minus 32 total size)
+      less o fits b = clauses-less marks slots l cs count total w o (withoutFirst l) (minus 32 total size) fewer fits lower b
+
+      go : (b : Bool) → oneBlock marks (pick b 1 0 + others) ≡ true → InClauses (pick b noMarks marks) slots (withoutFirst l) cs count (minus 32 total size)
+      go true e =
+          let none : others ≡ 0 = no-other marks others e in
+          less noMarks (cleared-fit none) (ap (oneBlock noMarks) none)
+      go false e =
+          let plain : others ≡ 0 + others = omega arith in
+          less marks (λ k h f. f) (ap (oneBlock marks) plain ∙ e)
 
 taken-sound : (s : ℕ) (rest : List ℕ) (p : Peer) → inItems (p .lists .dispatched) ≡ s ∷ rest → Clauses p → sound (taken s p) ≡ true
 taken-sound s rest p e w =
     let cs = below (p .channels) (p .standing .channels) in
     let count = p .standing .channels in
     let total = p .waiting .total in
+    let i = getD (p .incoming) s noIncoming in
     clauses-sound (taken s p)
     (record {
       range = w .range;
@@ -96,8 +154,9 @@ taken-sound s rest p e w =
       fit = w .fit;
       sent = w .sent;
       arrived =
-          clauses-in (p .incoming) (withoutFirst (p .lists)) cs count (minus 32 total (getD (p .incoming) s noIncoming .length))
-          (without-clauses (p .incoming) (p .lists) cs count total (in-clauses (p .incoming) (p .lists) cs count total (w .arrived)) s rest e);
+          clauses-in (clearedBy i (p .marks)) (p .incoming) (withoutFirst (p .lists)) cs count (minus 32 total (i .length))
+          (without-clauses (p .marks) (p .incoming) (p .lists) cs count total
+          (in-clauses (p .marks) (p .incoming) (p .lists) cs count total (w .arrived)) s rest e);
     })
 
 receive-stays : (p : Peer) → Whole p → sound p ≡ true → sound (receivesSound p .after) ≡ true

@@ -103,7 +103,7 @@ module _ (p : Peer) (w : Clauses p) (t : Times) (f : Flow) (l : Lists) (s : ℕ)
       → ((k : ℕ) → times (usedOut l) k ≤ times (usedOut (p .lists)) k) → o .command ≡ getD (p .outgoing) s noOutgoing .command
       → all (tried (set (p .outgoing) s o)) (outItems (l .sent)) ≡ true → sound changed ≡ true
   sent-sound mtu came fits named command tries =
-      out-sound p changed w (record { mtu = mtu; standing = refl; dispatched = came; total = refl; channels = refl; incoming = refl }) fits named
+      out-sound p changed w (record { mtu = mtu; standing = refl; dispatched = came; total = refl; channels = refl; incoming = refl; marks = refl }) fits named
       (same-command (p .outgoing) s o command) (λ k h. all-at (tried (set (p .outgoing) s o)) (outItems (l .sent)) tries k h)
 
 without-arrived : (q : Queue) (l : Lists) → withoutHead q l .dispatched ≡ l .dispatched

@@ -27,7 +27,7 @@ use Rattle.record.specs.declared.incoming.InList.{InList}
 use Rattle.record.proofs.Keeps.{times, times-append, times-none}
 use Rattle.cells.proofs.Lengths.{pushed-fits}
 use Rattle.record.specs.Fresh.{noChannel, noOutgoing, noIncoming}
-use Rattle.record.specs.Damage.{listsFit, heldFit, held, below, all, own, lengths, outFit, tried, inFit, inSound, usedOut, usedIn}
+use Rattle.record.specs.Damage.{listsFit, heldFit, held, below, all, own, lengths, blocks, oneBlock, outFit, tried, inFit, inSound, usedOut, usedIn}
 use Rattle.peer.specs.Damage.{sound}
 use Rattle.numbers.specs.declared.refusals.Refusal.the-variants.{InvalidChannel, FailedToQueue, BadCommand}
 use Rattle.peer.specs.Outcome.{Outcome, finished}
@@ -39,6 +39,7 @@ use Rattle.record.specs.declared.groups.Standing.{Standing}
 use Rattle.record.specs.declared.groups.Channel.{Channel}
 use Rattle.record.specs.declared.groups.Outgoing.{Outgoing}
 use Rattle.record.specs.declared.groups.Incoming.{Incoming}
+use Rattle.record.specs.declared.groups.Marks.{Marks}
 use Rattle.peer.specs.declared.gate.Gate.{Gate}
 use Rattle.peer.specs.declared.gate.Gate.the-variants.{Open, Shut}
 use Rattle.peer.proofs.Gates.{openness, behind-has}
@@ -82,9 +83,10 @@ module _ (c : Channel) where
       ap (λ (b : Bool). both (all (λ (s : ℕ). eqb (getD slots s noIncoming .channel) k) (inItems (d .held))) b) (own-set slots (k + 1) n cs i e)
 
 -- the arrivals' clauses, by the slots named and whether each stands in its own channel
-abbrev arrivalsFit : List Incoming → ℕ → ℕ → List ℕ → Bool → Bool
-arrivalsFit slots count total xs mine =
-    both (both (exist incoming xs) (once xs)) (both (all (inFit slots count) xs) (both mine (eqb total (lengths slots xs))))
+abbrev arrivalsFit : Marks → List Incoming → ℕ → ℕ → List ℕ → Bool → Bool
+arrivalsFit m slots count total xs mine =
+    both (both (exist incoming xs) (once xs))
+    (both (all (inFit m slots count) xs) (both mine (both (eqb total (lengths slots xs)) (oneBlock m (blocks slots xs)))))
 
 -- the channel that a piece leaves
 abbrev renumbered : List Channel → ℕ → Counters → Channel
@@ -96,10 +98,10 @@ module _ (slots : List Incoming) (l : Lists) (x : Piece) (s : ℕ) (cs : List Ch
       ap (λ (m : InList). inItems m ++ held (below (numbered cs channel k) count)) (joined-dispatched l s x)
       ∙ ap (λ (m : List ℕ). inItems (l .dispatched) ++ m) (held-set (renumbered cs channel k) count cs channel refl)
 
-  in-same : inSound slots (listsWith l x s) (below (numbered cs channel k) count) count total ≡ inSound slots l (below cs count) count total
-  in-same =
-      ap (λ (xs : List ℕ). arrivalsFit slots count total xs (own slots 0 (below (numbered cs channel k) count))) named
-      ∙ ap (λ (b : Bool). arrivalsFit slots count total (usedIn l (below cs count)) b)
+  in-same : (m : Marks) → inSound m slots (listsWith l x s) (below (numbered cs channel k) count) count total ≡ inSound m slots l (below cs count) count total
+  in-same m =
+      ap (λ (xs : List ℕ). arrivalsFit m slots count total xs (own slots 0 (below (numbered cs channel k) count))) named
+      ∙ ap (λ (b : Bool). arrivalsFit m slots count total (usedIn l (below cs count)) b)
       (own-set (renumbered cs channel k) slots 0 count cs channel refl)
 
 -- a command keeps its kind
@@ -214,7 +216,7 @@ module _ (x : Piece) (p : Peer) (s : ℕ) (low : lowest outgoing (usedOut (p .li
         single = after-once x p s low w;
         fit = fit-after;
         sent = tried-after;
-        arrived = in-same (p .incoming) (p .lists) x s (p .channels) channel k count (p .waiting .total) ∙ w .arrived;
+        arrived = in-same (p .incoming) (p .lists) x s (p .channels) channel k count (p .waiting .total) (p .marks) ∙ w .arrived;
       })
 
 pub queued-sound : (x : Piece) (p : Peer) → Whole p → sound p ≡ true → onChannel (x .command .channel) (p .standing .channels) ≡ true

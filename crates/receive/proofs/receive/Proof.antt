@@ -71,9 +71,25 @@ lowered-requires c κs = search needs
 put-waiting-requires : tie.Need-put-waiting-requires
 put-waiting-requires c κs = search needs
 
+marks-requires : tie.Need-marks-requires
+marks-requires c κs = search needs
+
+cleared-by-requires : tie.Need-cleared-by-requires
+cleared-by-requires c κs = search needs
+
+put-marks-requires : tie.Need-put-marks-requires
+put-marks-requires c κs = search needs
+
+reply-of-requires : tie.Need-reply-of-requires
+reply-of-requires c κs = search needs
+
 returns-3 : tie.Need-returns-3
 returns-3 c =
-    let at-lowered = c .before .before in
+    let at-put-marks = c .before in
+    let at-cleared-by = at-put-marks .before .before in
+    let at-marks = at-cleared-by .before in
+    let at-put-waiting = at-marks .before .before .before in
+    let at-lowered = at-put-waiting .before .before in
     let at-leave = at-lowered .before .before .before .before in
     let at-first = at-leave .before .before .before .before .before .before in
     let at-head = at-first .before .before in
@@ -86,8 +102,10 @@ returns-3 c =
     let p = whole (b .args .words .now) in
     let a : AtGate (b .args .settings) Nothing p = record { gate = g .ask .result; is = g .ask .ensures } in
     receive-lent (b .args .settings) p a (o .enum-told .given .1) (h .head .result) (h .head .ensures) (at-first .first .given .0 .0) (at-first .first .given .1)
-    (whole (at-leave .leave .last .0)) (whole (c .put-waiting .last .0)) (i .incoming-at .result) (t .waiting .result) (at-lowered .lowered .result)
-    (i .incoming-at .ensures) (at-leave .leave .ensures) (t .waiting .ensures) (at-lowered .lowered .ensures) (c .put-waiting .ensures)
+    (whole (at-leave .leave .last .0)) (whole (at-put-waiting .put-waiting .last .0)) (whole (at-put-marks .put-marks .last .0))
+    (i .incoming-at .result) (t .waiting .result) (at-lowered .lowered .result) (at-marks .marks .result) (at-cleared-by .cleared-by .result) (c .reply-of .result)
+    (i .incoming-at .ensures) (at-leave .leave .ensures) (t .waiting .ensures) (at-lowered .lowered .ensures) (at-put-waiting .put-waiting .ensures)
+    (at-marks .marks .ensures) (at-cleared-by .cleared-by .ensures) (at-put-marks .put-marks .ensures) (c .reply-of .ensures)
 
 pub receive-spec : {M : Type 1} → statement M
 receive-spec =
@@ -107,4 +125,8 @@ receive-spec =
     waiting-requires
     lowered-requires
     put-waiting-requires
+    marks-requires
+    cleared-by-requires
+    put-marks-requires
+    reply-of-requires
     returns-3)

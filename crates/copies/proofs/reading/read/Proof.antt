@@ -67,9 +67,15 @@ incoming-requires c κs =
     let at-flow = c .before .before .before .before .before in
     to-start at-flow .pre
 
+marks-requires : tie.Need-marks-requires
+marks-requires c κs =
+    let at-flow = c .before .before .before .before .before .before in
+    to-start at-flow .pre
+
 returns : tie.Need-returns
 returns c =
-    let o = c .before in
+    let n = c .before in
+    let o = n .before in
     let k = o .before in
     let w = k .before in
     let g = w .before in
@@ -101,7 +107,8 @@ returns c =
     (w .waiting .result)
     (k .all-channels .result)
     (o .outgoing .result)
-    (c .incoming .result)
+    (n .incoming .result)
+    (c .marks .result)
     (i .ids .ensures)
     (s .standing .ensures)
     (b .bandwidth .ensures)
@@ -117,7 +124,8 @@ returns c =
     (w .waiting .ensures)
     (k .all-channels .ensures)
     (o .outgoing .ensures)
-    (c .incoming .ensures)
+    (n .incoming .ensures)
+    (c .marks .ensures)
 
 pub read-spec : {M : Type 1} → statement M
 read-spec =
@@ -139,4 +147,5 @@ read-spec =
     all-channels-requires
     outgoing-requires
     incoming-requires
+    marks-requires
     returns)

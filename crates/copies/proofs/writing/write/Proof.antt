@@ -1,4 +1,5 @@
 -- The groups one after the other: every write replaces its groups alone, and all are replaced.
+use mathlib.Core.Path.{_∙_}
 use Rattle.places.specs.Whole.{whole}
 use Rattle.copies.proofs.RecordLaws.{peer-put}
 use borrow.Author.Needs.{needs}
@@ -29,12 +30,34 @@ put-outgoing-requires c κs = search needs
 put-incoming-requires : tie.Need-put-incoming-requires
 put-incoming-requires c κs = search needs
 
+put-marks-requires : tie.Need-put-marks-requires
+put-marks-requires c κs =
+    let at-words8 = c .before .before in
+    let at-words7 = at-words8 .before .before .before .before in
+    let at-words6 = at-words7 .before .before .before .before in
+    let at-words5 = at-words6 .before .before .before .before in
+    let at-words4 = at-words5 .before .before .before .before in
+    let at-words3 = at-words4 .before .before .before .before in
+    let at-words2 = at-words3 .before .before .before .before in
+    let at-words = at-words2 .before .before .before .before in
+    let at-start = at-words .before .before .before .before .before .before .before in
+    at-words8 .words8 .given
+    ∙ at-words7 .words7 .given
+    ∙ at-words6 .words6 .given
+    ∙ at-words5 .words5 .given
+    ∙ at-words4 .words4 .given
+    ∙ at-words3 .words3 .given
+    ∙ at-words2 .words2 .given
+    ∙ at-words .words .given
+    ∙ at-start .pre
+
 same-length : tie.Need-same-length
 same-length c = search needs
 
 returns : tie.Need-returns
 returns c =
-    let at-put-incoming = c .before .before in
+    let at-put-marks = c .before .before in
+    let at-put-incoming = at-put-marks .before .before .before .before in
     let at-put-outgoing = at-put-incoming .before .before .before .before in
     let at-put-channels = at-put-outgoing .before .before .before .before in
     let at-put-waiting = at-put-channels .before .before .before .before in
@@ -55,6 +78,7 @@ returns c =
     (whole (at-put-channels .put-channels .last .0))
     (whole (at-put-outgoing .put-outgoing .last .0))
     (whole (at-put-incoming .put-incoming .last .0))
+    (whole (at-put-marks .put-marks .last .0))
     (at-put-fixed .put-fixed .ensures)
     (at-put-numbers .put-numbers .ensures)
     (at-put-lists .put-lists .ensures)
@@ -63,6 +87,7 @@ returns c =
     (at-put-channels .put-channels .ensures)
     (at-put-outgoing .put-outgoing .ensures)
     (at-put-incoming .put-incoming .ensures)
+    (at-put-marks .put-marks .ensures)
 
 pub write-spec : {M : Type 1} → statement M
 write-spec =
@@ -76,5 +101,6 @@ write-spec =
     put-channels-requires
     put-outgoing-requires
     put-incoming-requires
+    put-marks-requires
     same-length
     returns)
