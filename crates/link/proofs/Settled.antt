@@ -26,10 +26,10 @@ replies-apart (vr.Inward r) (vr.Called q) k m n e = absurd (omega (arith, k))
 replies-apart (vr.Inward r) (vr.Outward q) k m n e = absurd (omega (arith, k))
 replies-apart (vr.Inward r) (vr.Inward q) k m n e = ap vr.Inward (inward.replies-apart r q (omega (arith, k)) e)
 
-module _ (s : Settings) (k : Call) (datagram : List ℕ) (x : State) (a b : Linked) (t u : List ℕ)
-    (c : Came answerOf (calls s k datagram x) (a .reply) (record { peer = a .peer; store = t })) (m : Own k (a .reply))
-    (d : Came answerOf (calls s k datagram x) (b .reply) (record { peer = b .peer; store = u })) (n : Own k (b .reply)) where
-  states : _≡_ {A = State} (record { peer = a .peer; store = t }) (record { peer = b .peer; store = u })
+module _ (s : Settings) (k : Call) (datagram : List ℕ) (x : State) (a b : Linked) (t u v w : List ℕ)
+    (c : Came answerOf (calls s k datagram x) (a .reply) (record { peer = a .peer; store = t; second = v })) (m : Own k (a .reply))
+    (d : Came answerOf (calls s k datagram x) (b .reply) (record { peer = b .peer; store = u; second = w })) (n : Own k (b .reply)) where
+  states : _≡_ {A = State} (record { peer = a .peer; store = t; second = v }) (record { peer = b .peer; store = u; second = w })
   states = c .after ∙ sym (d .after)
 
   pub link-settled : a ≡ b
@@ -40,3 +40,6 @@ module _ (s : Settings) (k : Call) (datagram : List ℕ) (x : State) (a b : Link
 
   pub store-settled : t ≡ u
   store-settled = ap (λ (y : State). y .store) states
+
+  pub second-settled : v ≡ w
+  second-settled = ap (λ (y : State). y .second) states

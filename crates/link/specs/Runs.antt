@@ -1,4 +1,4 @@
--- Runs of calls: each with its settings and its datagram, one after another on one record and one store.
+-- Runs of calls: each with its settings and its datagram, one after another on one record and its two stores.
 use Prim.Native.Nat.{ℕ, _*_}
 use mathlib.Core.Bool.{Bool}
 use mathlib.Core.List.{List, [], _∷_, _++_}
@@ -25,29 +25,40 @@ pub record Asked : Type 0 where
 abbrev pub comesTo : Asked → State → Outcome State
 comesTo a x = calls (a .settings) (a .call) (a .datagram) x
 
--- a packet that comes out: its channel, its command's byte, its number, and the bytes of its cell
+-- a packet that comes out: its channel, its command's byte, its number, how many pieces it came in (0 for one that came whole), and its bytes
 pub record Packet : Type 0 where
   pub channel : ℕ
   pub byte : ℕ
   pub number : ℕ
+  pub fragments : ℕ
   pub bytes : List ℕ
 
 -- number 0, and 1 for the first value: a receive hands out a packet, an arrival was stored
 abbrev pub saysOne : Answer → Bool
 saysOne a = both (eqb (a .number) 0) (eqb (getD (numbersOf a) 0 0) 1)
 
--- what a receive that answers so hands out: 1, channel, cell, length; byte and number stand in the cell's slot, the bytes in the store
+-- C-11: and 2, a receive hands out a block
+abbrev pub saysTwo : Answer → Bool
+saysTwo a = both (eqb (a .number) 0) (eqb (getD (numbersOf a) 0 0) 2)
+
+-- byte, number and fragments stand in the slot of that cell
+abbrev pub handedFrom : State → ℕ → ℕ → List ℕ → Packet
+handedFrom x channel cell bytes =
+    let slot = getD (x .peer .incoming) cell noIncoming in
+    record { channel = channel; byte = slot .byte; number = slot .number .0; fragments = slot .fragments; bytes = bytes }
+
+-- what a receive that answers so hands out: 1, channel, cell, length, and the bytes stand in the store's cell; 2 and the same, and they stand in the second store
 abbrev pub handed : Answer → State → List Packet
 handed a x =
     let v = numbersOf a in
-    let slot = getD (x .peer .incoming) (getD v 2 0) noIncoming in
-    let bytes = take (getD v 3 0) (drop (getD v 2 0 * cell) (x .store)) in
-    pick (saysOne a) (record { channel = getD v 1 0; byte = slot .byte; number = slot .number .0; bytes = bytes } ∷ []) []
+    pick (saysOne a) (handedFrom x (getD v 1 0) (getD v 2 0) (take (getD v 3 0) (drop (getD v 2 0 * cell) (x .store))) ∷ [])
+    (pick (saysTwo a) (handedFrom x (getD v 1 0) (getD v 2 0) (take (getD v 3 0) (x .second)) ∷ []) [])
 
 abbrev pub packetsOf : Call → Answer → State → List Packet
 packetsOf (call.Inward inw.Receive) a x = handed a x
 packetsOf (call.Inward (inw.UnsequencedArrival arrival group)) a x = []
 packetsOf (call.Inward (inw.ReliableArrival arrival)) a x = []
+packetsOf (call.Inward (inw.FragmentArrival piece)) a x = []
 packetsOf (call.Inward (inw.Dispatch channel)) a x = []
 packetsOf (call.Outward c) a x = []
 packetsOf call.Reset a x = []
@@ -72,6 +83,6 @@ unfoldable pub run : List Asked → State → Ran
 run [] x = ended x
 run (a ∷ rest) x = let o = comesTo a x in before a x o (run rest (o .after))
 
--- a peer as after a reset, whatever the reset kept, with any bytes in the store
-abbrev pub resetState : ℕ → Kept → List ℕ → State
-resetState mtu kept store = record { peer = freshPeer mtu kept; store = store }
+-- a peer as after a reset, whatever the reset kept, with any bytes in the stores
+abbrev pub resetState : ℕ → Kept → List ℕ → List ℕ → State
+resetState mtu kept store second = record { peer = freshPeer mtu kept; store = store; second = second }

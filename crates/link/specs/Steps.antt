@@ -1,4 +1,4 @@
--- What each call of document 01 does, on the record and the store that is lent; a call that is lent no store leaves it as it is.
+-- What each call of document 01 does, on the record and the stores that are lent; a call that is lent none of them leaves it as it is.
 use Prim.Native.Nat.{ℕ, _+_, _*_}
 use mathlib.Core.Path.{_≡_}
 use mathlib.Core.List.{List}

@@ -1,4 +1,4 @@
-// Every call of document 01 as data, and its reply.
+// Every call of document 01 and of C-11 as data, and its reply.
 // Those of a side are one case: ping, send, setup, send step, acknowledgement, timeout check and throttle; arrivals, dispatch and receive.
 pub enum Call {
     Reset,

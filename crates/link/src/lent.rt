@@ -8,15 +8,16 @@ use crate::calls::Reply;
 use peer::settings::Settings;
 use places::RECORD;
 
-// Each call by its own function, those of a side by that side's; only the receiving side uses the store and the datagram.
+// Each call by its own function, those of a side by that side's; only the receiving side uses the stores and the datagram.
 pub fn call(
     words: &mut [u32; RECORD],
     settings: Settings,
     call: Call,
     store: &mut [u8],
+    second: &mut [u8],
     datagram: &[u8],
 ) -> Reply
-    ensures came { λ r. ⌜ Came answerOf (calls settings call (now (datagram .entry)) (record { peer = whole (now (words .entry)); store = now (store .entry) })) r (record { peer = whole (now (words .exit)); store = now (store .exit) }) ⌝ }
+    ensures came { λ r. ⌜ Came answerOf (calls settings call (now (datagram .entry)) (record { peer = whole (now (words .entry)); store = now (store .entry); second = now (second .entry) })) r (record { peer = whole (now (words .exit)); store = now (store .exit); second = now (second .exit) }) ⌝ }
     ensures own { λ r. ⌜ Own call r ⌝ }
 {
     match call {
@@ -37,7 +38,7 @@ pub fn call(
             return Reply::Outward(reply);
         }
         Call::Inward(call) => {
-            let reply = link_in::call(words, settings, call, store, datagram);
+            let reply = link_in::call(words, settings, call, store, second, datagram);
             return Reply::Inward(reply);
         }
     }

@@ -17,13 +17,20 @@ pub struct Linked {
 }
 
 // The lent link on the record's numbers.
-pub fn call(peer: Peer, settings: Settings, call: Call, store: &mut [u8], datagram: &[u8]) -> Linked
-    ensures came { λ r. ⌜ Came answerOf (calls settings call (now (datagram .entry)) (record { peer = peer; store = now (store .entry) })) (r .reply) (record { peer = r .peer; store = now (store .exit) }) ⌝ }
+pub fn call(
+    peer: Peer,
+    settings: Settings,
+    call: Call,
+    store: &mut [u8],
+    second: &mut [u8],
+    datagram: &[u8],
+) -> Linked
+    ensures came { λ r. ⌜ Came answerOf (calls settings call (now (datagram .entry)) (record { peer = peer; store = now (store .entry); second = now (second .entry) })) (r .reply) (record { peer = r .peer; store = now (store .exit); second = now (second .exit) }) ⌝ }
     ensures own { λ r. ⌜ Own call (r .reply) ⌝ }
 {
     let mut words = [0u32; RECORD];
     copies::writing::write(&mut words, peer);
-    let reply = lent::call(&mut words, settings, call, store, datagram);
+    let reply = lent::call(&mut words, settings, call, store, second, datagram);
     let after = copies::meant(&words);
     Linked { peer: after, reply }
 }

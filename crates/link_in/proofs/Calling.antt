@@ -1,5 +1,5 @@
 -- What a call's own function ensures is what `call` promises of it, and its reply is of the call's kind. The argument: peer's `carried`, on the
--- record and the store that is lent.
+-- record and the stores that are lent.
 use mathlib.Core.Path.{_≡_, ap, sym, _∙_}
 use mathlib.Core.List.{List}
 use Prim.Native.Nat.{ℕ}
@@ -14,8 +14,8 @@ use Rattle.link_in.specs.declared.calls.Reply.{Reply}
 
 -- what is left of the record, beside the store
 pub came-beside : {R : Type 0} {own : R → Answer} (x : State) {o : Outcome Peer} {r : R} (p : Peer) → Came own o r p
-    → Came own (beside x o) r (record { peer = p; store = x .store })
-came-beside x p c = record { answer = c .answer; after = ap (λ (q : Peer). record { peer = q; store = x .store }) (c .after) }
+    → Came own (beside x o) r (record { peer = p; store = x .store; second = x .second })
+came-beside x p c = record { answer = c .answer; after = ap (λ (q : Peer). record { peer = q; store = x .store; second = x .second }) (c .after) }
 
 module _ (s : Settings) (k : Call) (datagram : List ℕ) (x : State) where
   -- the call is v, and its own reply r, which `own` answers, is wrapped

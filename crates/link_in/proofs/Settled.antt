@@ -1,5 +1,5 @@
--- The contract settles its result: two results, reply, record and store, that it allows for one input are the same.
--- The argument: record and store are the rule's; both replies are of the call's kind, and each kind's own law tells its replies apart.
+-- The contract settles its result: two results, reply, record and stores, that it allows for one input are the same.
+-- The argument: record and stores are the rule's; both replies are of the call's kind, and each kind's own law tells its replies apart.
 use Prim.Native.Nat.{ℕ}
 use mathlib.Core.Path.{_≡_, ap, sym, _∙_}
 use mathlib.Core.List.{List}
@@ -30,6 +30,6 @@ module _ (s : Settings) (k : Call) (datagram : List ℕ) (x : State) (r q : Repl
   pub inward-settled : r ≡ q
   inward-settled = replies-apart r q (m .kind ∙ sym (n .kind)) (c .answer ∙ sym (d .answer))
 
-  -- the record, and the store that is lent
+  -- the record, and the stores that are lent
   pub left-settled : y ≡ z
   left-settled = c .after ∙ sym (d .after)

@@ -1,4 +1,4 @@
--- What each call of the receiving side does, on the record and the store that is lent; a call that is lent no store leaves it as it is.
+-- What each call of the receiving side does, on the record and the stores that are lent; a call that is lent none of them leaves it as it is.
 use Prim.Native.Nat.{ℕ}
 use mathlib.Core.Path.{_≡_}
 use mathlib.Core.List.{List}
@@ -10,6 +10,7 @@ use Rattle.peer.specs.declared.Peer.{Peer}
 use Rattle.arrival.specs.Arrivals as arriving
 use Rattle.arrive_unsequenced.specs.Calls.{arrivesUnsequenced}
 use Rattle.arrive_reliable.specs.Calls.{arrivesReliable}
+use Rattle.arrive_fragment.specs.Calls.{arrivesFragment}
 use Rattle.dispatch.specs.Calls.{dispatches}
 use Rattle.receive.specs.Calls as receiving
 use Rattle.link_in.specs.declared.calls.Call.{Call}
@@ -25,11 +26,12 @@ answerOf (vr.Received r) = receiving.answerOf r
 
 -- a call on the record alone
 abbrev pub beside : State → Outcome Peer → Outcome State
-beside x o = record { answer = o .answer; after = record { peer = o .after; store = x .store } }
+beside x o = record { answer = o .answer; after = record { peer = o .after; store = x .store; second = x .second } }
 
 abbrev pub callsIn : Settings → Call → List ℕ → State → Outcome State
 callsIn s (call.UnsequencedArrival a group) datagram x = arrivesUnsequenced s a group datagram x
 callsIn s (call.ReliableArrival a) datagram x = arrivesReliable s a datagram x
+callsIn s (call.FragmentArrival a) datagram x = arrivesFragment s a datagram x
 callsIn s (call.Dispatch channel) datagram x = beside x (dispatches s channel (x .peer))
 callsIn s call.Receive datagram x = beside x (receiving.receives s (x .peer))
 
@@ -37,6 +39,7 @@ callsIn s call.Receive datagram x = beside x (receiving.receives s (x .peer))
 abbrev pub kindOf : Call → ℕ
 kindOf (call.UnsequencedArrival a group) = 0
 kindOf (call.ReliableArrival a) = 0
+kindOf (call.FragmentArrival a) = 0
 kindOf (call.Dispatch channel) = 1
 kindOf call.Receive = 2
 

@@ -10,15 +10,16 @@ use crate::calls::Reply;
 use peer::settings::Settings;
 use places::RECORD;
 
-// Only the arrivals use the store and the datagram.
+// Only the arrivals use the stores and the datagram, and only the fragment's the second store.
 pub fn call(
     words: &mut [u32; RECORD],
     settings: Settings,
     call: Call,
     store: &mut [u8],
+    second: &mut [u8],
     datagram: &[u8],
 ) -> Reply
-    ensures came { λ r. ⌜ Came answerOf (callsIn settings call (now (datagram .entry)) (record { peer = whole (now (words .entry)); store = now (store .entry) })) r (record { peer = whole (now (words .exit)); store = now (store .exit) }) ⌝ }
+    ensures came { λ r. ⌜ Came answerOf (callsIn settings call (now (datagram .entry)) (record { peer = whole (now (words .entry)); store = now (store .entry); second = now (second .entry) })) r (record { peer = whole (now (words .exit)); store = now (store .exit); second = now (second .exit) }) ⌝ }
     ensures own { λ r. ⌜ Own call r ⌝ }
 {
     match call {
@@ -35,6 +36,17 @@ pub fn call(
         }
         Call::ReliableArrival { arrival } => {
             let reply = arrive_reliable::arrive(words, settings, store, datagram, arrival);
+            return Reply::Arrived(reply);
+        }
+        Call::FragmentArrival { piece } => {
+            let reply = arrive_fragment::arrive(
+                words,
+                settings,
+                store,
+                second,
+                datagram,
+                piece,
+            );
             return Reply::Arrived(reply);
         }
         Call::Dispatch { channel } => {

@@ -31,8 +31,8 @@ returns c =
     let a = at-start .args in
     let after = at-call .call .last .0 in
     let before : whole (at-write .write .last .0) ≡ a .peer = at-write .write .ensures in
-    let came = subst (λ (p : Peer). Came answerOf (calls (a .settings) (a .call) (a .datagram .now) (record { peer = p; store = a .store .now })) (at-call .call .result) (record { peer = whole after; store = at-call .call .last .1 .1 .1 .0 })) before (at-call .call .ensures .0) in (
-      subst (λ (p : Peer). Came answerOf (calls (a .settings) (a .call) (a .datagram .now) (record { peer = a .peer; store = a .store .now })) (at-call .call .result) (record { peer = p; store = at-call .call .last .1 .1 .1 .0 })) (sym (c .meant .ensures)) came,
+    let came = subst (λ (p : Peer). Came answerOf (calls (a .settings) (a .call) (a .datagram .now) (record { peer = p; store = a .store .now; second = a .second .now })) (at-call .call .result) (record { peer = whole after; store = at-call .call .last .1 .1 .1 .0; second = at-call .call .last .1 .1 .1 .1 .0 })) before (at-call .call .ensures .0) in (
+      subst (λ (p : Peer). Came answerOf (calls (a .settings) (a .call) (a .datagram .now) (record { peer = a .peer; store = a .store .now; second = a .second .now })) (at-call .call .result) (record { peer = p; store = at-call .call .last .1 .1 .1 .0; second = at-call .call .last .1 .1 .1 .1 .0 })) (sym (c .meant .ensures)) came,
       at-call .call .ensures .1,
     )
 

@@ -44,8 +44,8 @@ returns c =
     let at-call = at-arrive .before .before .before .before in
     let at-start = at-call .before .before .before .before in
     let a = at-start .args in
-    let x : State = record { peer = whole (a .words .now); store = a .store .now } in
-    promised (a .settings) (a .call) (a .datagram .now) x arriving.answerOf vr.Arrived _ (at-call .call .given .1) _ refl refl _ refl _ (at-arrive .arrive .ensures)
+    let x : State = record { peer = whole (a .words .now); store = a .store .now; second = a .second .now } in
+    promised (a .settings) (a .call) (a .datagram .now) x arriving.answerOf vr.Arrived _ (at-call .call .given .1) _ refl refl _ refl _ (at-arrive .arrive .ensures (a .second .now))
 
 same-length-2 : tie.Need-same-length-2
 same-length-2 c = search needs
@@ -56,15 +56,15 @@ returns-2 c =
     let at-call2 = at-arrive2 .before .before .before .before in
     let at-start = at-call2 .before .before .before .before in
     let a = at-start .args in
-    let x : State = record { peer = whole (a .words .now); store = a .store .now } in
-    promised (a .settings) (a .call) (a .datagram .now) x arriving.answerOf vr.Arrived _ (at-call2 .call2 .given .1) _ refl refl _ refl _ (at-arrive2 .arrive2 .ensures)
+    let x : State = record { peer = whole (a .words .now); store = a .store .now; second = a .second .now } in
+    promised (a .settings) (a .call) (a .datagram .now) x arriving.answerOf vr.Arrived _ (at-call2 .call2 .given .1) _ refl refl _ refl _ (at-arrive2 .arrive2 .ensures (a .second .now))
 
 returns-3 : tie.Need-returns-3
 returns-3 c =
     let at-call3 = c .before .before .before in
     let at-start = at-call3 .before .before .before .before in
     let a = at-start .args in
-    let x : State = record { peer = whole (a .words .now); store = a .store .now } in
+    let x : State = record { peer = whole (a .words .now); store = a .store .now; second = a .second .now } in
     promised (a .settings) (a .call) (a .datagram .now) x plain.answerOf vr.Called _ (at-call3 .call3 .given .1) _ refl refl _ refl _ (came-beside x _ (c .dispatch .ensures))
 
 returns-4 : tie.Need-returns-4
@@ -72,7 +72,7 @@ returns-4 c =
     let at-enum-told = c .before .before in
     let at-start = at-enum-told .before .before .before .before in
     let a = at-start .args in
-    let x : State = record { peer = whole (a .words .now); store = a .store .now } in
+    let x : State = record { peer = whole (a .words .now); store = a .store .now; second = a .second .now } in
     promised (a .settings) (a .call) (a .datagram .now) x receiving.answerOf vr.Received _ (at-enum-told .enum-told .given .1) _ refl refl _ refl _ (came-beside x _ (c .receive .ensures))
 
 pub call-spec : {M : Type 1} → statement M

@@ -48,7 +48,7 @@ returns c =
     let at-enum-told = c .before .before in
     let at-start = at-enum-told .before .before .before .before in
     let a = at-start .args in
-    let x : State = record { peer = whole (a .words .now); store = a .store .now } in
+    let x : State = record { peer = whole (a .words .now); store = a .store .now; second = a .second .now } in
     promised (a .settings) (a .call) (a .datagram .now) x plain.answerOf vr.Called _ (at-enum-told .enum-told .given .1) _ refl refl tt _ refl _ (came-beside x _ (c .reset .ensures))
 
 returns-2 : tie.Need-returns-2
@@ -56,7 +56,7 @@ returns-2 c =
     let at-call = c .before .before .before in
     let at-start = at-call .before .before .before .before in
     let a = at-start .args in
-    let x : State = record { peer = whole (a .words .now); store = a .store .now } in
+    let x : State = record { peer = whole (a .words .now); store = a .store .now; second = a .second .now } in
     promised (a .settings) (a .call) (a .datagram .now) x plain.answerOf vr.Called _ (at-call .call .given .1) _ refl refl tt _ refl _ (came-beside x _ (c .begin .ensures))
 
 returns-3 : tie.Need-returns-3
@@ -64,7 +64,7 @@ returns-3 c =
     let at-call2 = c .before .before .before in
     let at-start = at-call2 .before .before .before .before in
     let a = at-start .args in
-    let x : State = record { peer = whole (a .words .now); store = a .store .now } in
+    let x : State = record { peer = whole (a .words .now); store = a .store .now; second = a .second .now } in
     promised (a .settings) (a .call) (a .datagram .now) x plain.answerOf vr.Called _ (at-call2 .call2 .given .1) _ refl refl tt _ refl _ (came-beside x _ (c .set-state .ensures))
 
 returns-4 : tie.Need-returns-4
@@ -72,7 +72,7 @@ returns-4 c =
     let at-call3 = c .before .before .before in
     let at-start = at-call3 .before .before .before .before in
     let a = at-start .args in
-    let x : State = record { peer = whole (a .words .now); store = a .store .now } in
+    let x : State = record { peer = whole (a .words .now); store = a .store .now; second = a .second .now } in
     let own = c .call4 .ensures .1 in
     promised (a .settings) (a .call) (a .datagram .now) x outward.answerOf vr.Outward _ (at-call3 .call3 .given .1) _ refl (ap (λ (n : ℕ). 2 * n + 1) (own .kind)) (own .named) _ refl _ (came-beside x _ (c .call4 .ensures .0))
 
@@ -85,7 +85,7 @@ returns-5 c =
     let at-call5 = at-call6 .before .before .before .before in
     let at-start = at-call5 .before .before .before .before in
     let a = at-start .args in
-    let x : State = record { peer = whole (a .words .now); store = a .store .now } in
+    let x : State = record { peer = whole (a .words .now); store = a .store .now; second = a .second .now } in
     let own = at-call6 .call6 .ensures .1 in
     promised (a .settings) (a .call) (a .datagram .now) x inward.answerOf vr.Inward _ (at-call5 .call5 .given .1) _ refl (ap (λ (n : ℕ). 2 * n + 2) (own .kind)) tt _ refl _ (at-call6 .call6 .ensures .0)
 
