@@ -44,6 +44,7 @@ concern (call.SetState state) = neither
 concern (call.Outward c) = neither
 concern (call.Inward (inw.UnsequencedArrival a group)) = arriving (group .0)
 concern (call.Inward (inw.ReliableArrival a)) = neither
+concern (call.Inward (inw.FragmentArrival a)) = neither
 concern (call.Inward (inw.Dispatch channel)) = neither
 concern (call.Inward inw.Receive) = neither
 

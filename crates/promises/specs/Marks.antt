@@ -41,7 +41,7 @@ took (a ∷ rest) x log = let o = comesTo a x in took rest (o .after) (tookBy (c
 
 abbrev pub MarkedExactly : Type 0
 MarkedExactly =
-    (mtu : ℕ) (kept : Kept) (store : List ℕ) (calls : List Asked) (g : ℕ) → let x = resetState mtu kept store in
+    (mtu : ℕ) (kept : Kept) (store second : List ℕ) (calls : List Asked) (g : ℕ) → let x = resetState mtu kept store second in
     let y = run calls x .end in
     first g ≡ baseOf y → marked (y .peer .unsequenced .words) g ≡ has (took calls x []) g
 

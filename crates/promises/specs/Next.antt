@@ -1,5 +1,5 @@
--- What is next is delivered. In state 5, with its length in bounds and room: a reliable arrival of the next number is stored and joins dispatched at
--- once, with all that was held behind it without a gap; an unsequenced arrival whose group is near and not marked is stored.
+-- What is next is delivered. In state 5, with its length in bounds and room: a reliable arrival of the next number, which no unfinished block holds, is stored and
+-- joins dispatched at once, with all that was held behind it without a gap; an unsequenced arrival whose group is near and not marked is stored.
 use Prim.Native.Nat.{ℕ, suc, _<_}
 use mathlib.Core.Path.{_≡_}
 use mathlib.Core.Bool.{true, false}
@@ -28,7 +28,8 @@ use Rattle.link.specs.declared.calls.Call.the-variants as call
 use Rattle.promises.specs.History.{baseOf}
 use Rattle.promises.specs.Repeats.{unsequencedly}
 use Rattle.promises.specs.Reports.{numbersJoined, series}
-use Rattle.promises.specs.Held.{lastIn, NoneReady, AllNumbered}
+use Rattle.arrive_reliable.specs.Holding.{holds}
+use Rattle.promises.specs.Held.{lastIn, heldIn, NoneReady, AllNumbered, GivenOnce}
 
 -- nothing of an arrival's own, nor of the room for it, is in its way: settings and store fit, its byte names its command, its channel is there, the
 -- state is 5, its length is in bounds, the waiting total is below the setting and a slot is free
@@ -55,11 +56,15 @@ pub record Delivers (channel : ℕ) (x : State) (o : Outcome State) : Type 0 whe
 
 abbrev pub NextDelivered : Type 0
 NextDelivered =
-    (t : Settings) (kept : Kept) (store : List ℕ) (calls : List Asked) (s : Settings) (a : Arrival) (datagram : List ℕ) → fitSettings t ≡ true
+    (t : Settings) (kept : Kept) (store second : List ℕ) (calls : List Asked) (s : Settings) (a : Arrival) (datagram : List ℕ)
+    → let x = resetState (t .mtu) kept store second in
+    fitSettings t ≡ true
     → AllNumbered calls
-    → let y = run calls (resetState (t .mtu) kept store) .end in
+    → GivenOnce calls x
+    → let y = run calls x .end in
     Fits sendReliable s a datagram y
     → a .number .0 ≡ step (lastIn y (a .channel))
+    → holds (y .peer .incoming) (heldIn y (a .channel)) (a .number .0) ≡ false
     → Delivers (a .channel) y (comesTo (reliably s a datagram) y)
 
 -- of any sound record: near, and in another window than the base's or not marked

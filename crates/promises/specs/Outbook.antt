@@ -139,5 +139,5 @@ pub record InOnePlace (b : Outbook) (p : Peer) : Type 0 where
 
 abbrev pub NoneLost : Type 0
 NoneLost =
-    (mtu : ℕ) (kept : Kept) (store : List ℕ) (calls : List Asked) → let x = resetState mtu kept store in
+    (mtu : ℕ) (kept : Kept) (store second : List ℕ) (calls : List Asked) → let x = resetState mtu kept store second in
     InOnePlace (outbook calls x freshOutbook) (run calls x .end .peer)

@@ -1,5 +1,6 @@
--- Document 01's table, "What a call replies": which numbers but 0 a call may answer, and what record and store then hold. Every call may answer 11,
+-- Document 01's table, "What a call replies": which numbers but 0 a call may answer, and what record and stores then hold. Every call may answer 11,
 -- and every one but reset 13. That an arrival answers 9 where its byte names another command is our own reading (decision 81).
+-- C-11: "Refusals: 14, fields out of range or unlike the first piece's, nothing changed".
 use Prim.Native.Nat.{ℕ}
 use mathlib.Core.Path.{_≡_}
 use mathlib.Core.Bool.{Bool, true}
@@ -41,6 +42,7 @@ refusalsOf (call.Outward (out.TimeoutCheck clock)) = 11 ∷ 13 ∷ []
 refusalsOf (call.Outward (out.Throttle sample)) = 11 ∷ 13 ∷ []
 refusalsOf (call.Inward (inw.UnsequencedArrival arrival group)) = 6 ∷ 7 ∷ 8 ∷ 9 ∷ 11 ∷ 13 ∷ []
 refusalsOf (call.Inward (inw.ReliableArrival arrival)) = 6 ∷ 7 ∷ 8 ∷ 9 ∷ 11 ∷ 13 ∷ []
+refusalsOf (call.Inward (inw.FragmentArrival piece)) = 6 ∷ 7 ∷ 8 ∷ 9 ∷ 11 ∷ 13 ∷ 14 ∷ []
 refusalsOf (call.Inward (inw.Dispatch channel)) = 2 ∷ 11 ∷ 13 ∷ []
 refusalsOf (call.Inward inw.Receive) = 11 ∷ 13 ∷ []
 
@@ -105,6 +107,7 @@ opOf (call.Outward (out.Acknowledgement channel number sent clock)) = 8
 opOf (call.Outward (out.TimeoutCheck clock)) = 9
 opOf (call.Inward (inw.UnsequencedArrival arrival group)) = 10
 opOf (call.Inward (inw.ReliableArrival arrival)) = 11
+opOf (call.Inward (inw.FragmentArrival piece)) = 18
 opOf (call.Inward (inw.Dispatch channel)) = 12
 opOf (call.Inward inw.Receive) = 13
 opOf (call.Outward (out.Throttle sample)) = 14

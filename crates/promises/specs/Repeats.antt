@@ -69,20 +69,20 @@ RepeatsOriginal (again k ∷ ls) x log = Recent (since (k .group .0) log) × Rep
 -- repeats leave no trace: the same answers, the same packets in the same order with the same bytes, the same record and store at the end
 abbrev pub NoTrace : Type 0
 NoTrace =
-    (mtu : ℕ) (kept : Kept) (store : List ℕ) (lines : List (Line Insertion)) → let x = resetState mtu kept store in
+    (mtu : ℕ) (kept : Kept) (store second : List ℕ) (lines : List (Line Insertion)) → let x = resetState mtu kept store second in
     AllInRange (original lines) → Repeats lines x [] → played arrives lines x ≡ run (original lines) x
 
 abbrev pub NoTraceOriginal : Type 0
 NoTraceOriginal =
-    (mtu : ℕ) (kept : Kept) (store : List ℕ) (lines : List (Line Insertion)) → let x = resetState mtu kept store in
+    (mtu : ℕ) (kept : Kept) (store second : List ℕ) (lines : List (Line Insertion)) → let x = resetState mtu kept store second in
     AllInRange (original lines) → RepeatsOriginal lines x [] → played arrives lines x ≡ run (original lines) x
 
 -- after any calls, an arrival is stored whose group was delivered before, no reset since: m windows since its latest delivery, and those of its
 -- own move
 abbrev pub FarApart : Type 0
 FarApart =
-    (mtu : ℕ) (kept : Kept) (store : List ℕ) (calls : List Asked) (k : Insertion) (m : ℕ)
-    → let x = resetState mtu kept store in
+    (mtu : ℕ) (kept : Kept) (store second : List ℕ) (calls : List Asked) (k : Insertion) (m : ℕ)
+    → let x = resetState mtu kept store second in
     let y = run calls x .end in
     let a = arrives k in
     AllInRange (a ∷ calls)
