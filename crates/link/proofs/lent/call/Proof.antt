@@ -13,6 +13,10 @@ use Rattle.link.proofs.Calling.{promised}
 use Rattle.link.proofs.lent.call.Statement.{statement}
 use Rattle.link.proofs.lent.call.Tie as tie
 
+-- the places before `call6`
+abbrev to-call5 : tie.After-call6 → tie.After-call5
+to-call5 c = c .before .before .before .before .before
+
 enum-told : tie.Need-enum-told
 enum-told c = search needs
 
@@ -46,7 +50,7 @@ call-requires-2 c κs = search needs
 returns : tie.Need-returns
 returns c =
     let at-enum-told = c .before .before in
-    let at-start = at-enum-told .before .before .before .before in
+    let at-start = at-enum-told .before .before .before .before .before in
     let a = at-start .args in
     let x : State = record { peer = whole (a .words .now); store = a .store .now; second = a .second .now } in
     promised (a .settings) (a .call) (a .datagram .now) x plain.answerOf vr.Called _ (at-enum-told .enum-told .given .1) _ refl refl tt _ refl _ (came-beside x _ (c .reset .ensures))
@@ -54,7 +58,7 @@ returns c =
 returns-2 : tie.Need-returns-2
 returns-2 c =
     let at-call = c .before .before .before in
-    let at-start = at-call .before .before .before .before in
+    let at-start = at-call .before .before .before .before .before in
     let a = at-start .args in
     let x : State = record { peer = whole (a .words .now); store = a .store .now; second = a .second .now } in
     promised (a .settings) (a .call) (a .datagram .now) x plain.answerOf vr.Called _ (at-call .call .given .1) _ refl refl tt _ refl _ (came-beside x _ (c .begin .ensures))
@@ -62,7 +66,7 @@ returns-2 c =
 returns-3 : tie.Need-returns-3
 returns-3 c =
     let at-call2 = c .before .before .before in
-    let at-start = at-call2 .before .before .before .before in
+    let at-start = at-call2 .before .before .before .before .before in
     let a = at-start .args in
     let x : State = record { peer = whole (a .words .now); store = a .store .now; second = a .second .now } in
     promised (a .settings) (a .call) (a .datagram .now) x plain.answerOf vr.Called _ (at-call2 .call2 .given .1) _ refl refl tt _ refl _ (came-beside x _ (c .set-state .ensures))
@@ -70,7 +74,7 @@ returns-3 c =
 returns-4 : tie.Need-returns-4
 returns-4 c =
     let at-call3 = c .before .before .before in
-    let at-start = at-call3 .before .before .before .before in
+    let at-start = at-call3 .before .before .before .before .before in
     let a = at-start .args in
     let x : State = record { peer = whole (a .words .now); store = a .store .now; second = a .second .now } in
     let own = c .call4 .ensures .1 in
@@ -79,11 +83,14 @@ returns-4 c =
 same-length : tie.Need-same-length
 same-length c = search needs
 
+same-length-2 : tie.Need-same-length-2
+same-length-2 c = search needs
+
 returns-5 : tie.Need-returns-5
 returns-5 c =
-    let at-call6 = c .before .before in
-    let at-call5 = at-call6 .before .before .before .before in
-    let at-start = at-call5 .before .before .before .before in
+    let at-call6 = c .before .before .before .before in
+    let at-call5 = to-call5 at-call6 in
+    let at-start = at-call5 .before .before .before .before .before in
     let a = at-start .args in
     let x : State = record { peer = whole (a .words .now); store = a .store .now; second = a .second .now } in
     let own = at-call6 .call6 .ensures .1 in
@@ -108,4 +115,5 @@ call-spec =
     enum-known-call-4
     call-requires-2
     same-length
+    same-length-2
     returns-5)
