@@ -11,4 +11,5 @@ pub mod Marks
 pub mod ReportRepeats
 pub mod Outbook
 pub mod Alike
+pub mod Blocks
 pub mod Promised
