@@ -132,6 +132,7 @@ heard-sound w sample clock p st c =
       total = refl;
       channels = refl;
       incoming = refl;
+      marks = refl;
     })
     (removal-fits w (p .lists) (c .lists)) (used-less (p .lists) w (removal-loses (p .lists) w st)) (λ k. refl)
     (λ k h. all-at (tried (p .outgoing)) (outItems (p .lists .sent)) (c .sent) k (omega (arith, h, sent-less w (p .lists) k)))

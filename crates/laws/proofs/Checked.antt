@@ -131,7 +131,7 @@ module _ (clock : ℕ) (p : Peer) (c : Clauses p) where
 
   walk-sound : sound after ≡ true
   walk-sound =
-      out-sound p after c (record { mtu = refl; standing = refl; dispatched = refl; total = refl; channels = refl; incoming = refl })
+      out-sound p after c (record { mtu = refl; standing = refl; dispatched = refl; total = refl; channels = refl; incoming = refl; marks = refl })
       (others-fit (p .lists) (listsBy marks (p .lists) .sent) (listsBy marks (p .lists) .«send_reliable») (listsBy marks (p .lists) .outgoing)
       (kept-fits (p .lists .sent) marks) (ahead-fits (p .lists .«send_reliable») (bearing backReliable marks (outItems (p .lists .sent))))
       (ahead-fits (p .lists .outgoing) (bearing backOutgoing marks (outItems (p .lists .sent)))) (c .lists))

@@ -6,6 +6,7 @@ pub mod Untouched
 pub mod Joined
 pub mod Pools
 pub mod Unsequenced
+pub mod Holding
 pub mod Reliable
 pub mod Landing
 pub mod Stores

@@ -1,15 +1,16 @@
 -- A slot that joins the incoming pool at a free place: the pool's clauses of soundness hold with it, wherever a list names it once.
--- The argument: no list named the slot before, so tests and sums over what they named are as before; the total grows by its length alone.
-use Prim.Native.Nat.{ℕ, _+_, _*_, _≤_, _<_, _^_}
+-- The argument: no list named the slot before, so tests and sums over what they named are as before; the total grows by its length alone, the number of blocks
+-- by one where it is a block.
+use Prim.Native.Nat.{ℕ, _+_, _≤_, _<_}
 use mathlib.Core.Path.{_≡_, refl, ap, sym, _∙_}
-use mathlib.Core.List.{List, [], _∷_, _++_}
+use mathlib.Core.List.{List, [], _∷_}
 use mathlib.Core.Bool.{Bool, true, false}
 use native.Mathlib.Omega.{arith}
-use lib.Dec.{leb, ltb, eqb}
+use lib.Dec.{ltb, eqb}
 use lib.ListN.{length, getD, set}
 use lib.Seq.{getD-set-same, getD-set-other}
-use borrow.Author.Tests.{eqb-true, eqb-false, eq-eqb, le-leb, lt-ltb}
-use Rattle.numbers.specs.Pick.{both}
+use borrow.Author.Tests.{eqb-true, eqb-false, eq-eqb, lt-ltb}
+use Rattle.numbers.specs.Pick.{pick, both}
 use Rattle.numbers.specs.Modulo.{sum}
 use Rattle.numbers.proofs.BoolLaws.{both-left, both-right, both-true}
 use Rattle.record.specs.Lists.{incoming, inItems}
@@ -17,12 +18,14 @@ use Rattle.cells.specs.Free.{lowest}
 use Rattle.cells.specs.declared.Free.the-variants.{Lowest}
 use Rattle.record.proofs.Keeps.{one, times, times-append, times-none, none-times, once-more, exist-more}
 use Rattle.cells.proofs.Lowest.{lowest-exists, lowest-free, free-and-named}
-use Rattle.record.specs.Sizes.{cell}
+use Rattle.record.specs.Blocks.{isBlock}
+use Rattle.record.proofs.KindLaws.{kind-low}
 use Rattle.record.specs.Fresh.{noIncoming}
-use Rattle.record.specs.Damage.{all, held, inFit, own, lengths, usedIn}
+use Rattle.record.specs.Damage.{all, held, kindFit, inFit, own, lengths, blocks, oneBlock, usedIn}
 use Rattle.record.specs.declared.groups.Lists.{Lists}
 use Rattle.record.specs.declared.groups.Channel.{Channel}
 use Rattle.record.specs.declared.groups.Incoming.{Incoming}
+use Rattle.record.specs.declared.groups.Marks.{Marks}
 use Rattle.peer.proofs.Clauses.{all-at, at-all}
 use Rattle.peer.proofs.InClauses.{InClauses, total-low}
 
@@ -34,7 +37,7 @@ not-further : (x s : ℕ) (xs : List ℕ) → times (x ∷ xs) s ≡ 0 → times
 not-further x s xs e = omega (arith, e)
 
 -- a slot that is free in a sound pool: it exists, no list names it, and the lists have room for it
-module _ (slots : List Incoming) (l : Lists) (cs : List Channel) (count total : ℕ) (w : InClauses slots l cs count total)
+module _ (marks : Marks) (slots : List Incoming) (l : Lists) (cs : List Channel) (count total : ℕ) (w : InClauses marks slots l cs count total)
     (n : ℕ) (free : lowest incoming (usedIn l cs) ≡ Lowest n) where
   pub free-exists : n < incoming
   free-exists = lowest-exists incoming (usedIn l cs) n free
@@ -63,10 +66,23 @@ module _ (slots : List Incoming) (s : ℕ) (i : Incoming) (here : s < length slo
         lengths-unnamed xs (not-further x s xs e),
       )
 
+  pub blocks-unnamed : (xs : List ℕ) → times xs s ≡ 0 → blocks with xs ≡ blocks slots xs
+  unfolding blocks
+  blocks-unnamed [] e = refl
+  blocks-unnamed (x ∷ xs) e =
+      rw (
+        getD-set-other slots s x i noIncoming (not-there x s xs e),
+        blocks-unnamed xs (not-further x s xs e),
+      )
+
   -- the slot's own length
   pub lengths-own : lengths with (s ∷ []) ≡ i .length
   unfolding lengths
   lengths-own = rw (getD-set-same slots s i noIncoming here) (omega arith)
+
+  pub blocks-own : blocks with (s ∷ []) ≡ pick (isBlock i) 1 0
+  unfolding blocks
+  blocks-own = rw (getD-set-same slots s i noIncoming here) (omega arith)
 
   pub own-unnamed : (k : ℕ) (cs : List Channel) → times (held cs) s ≡ 0 → own slots k cs ≡ true → own with k cs ≡ true
   unfolding own held
@@ -88,42 +104,47 @@ module _ (slots : List Incoming) (s : ℕ) (i : Incoming) (here : s < length slo
           go true t = absurd (let z : s ≡ x = eqb-true s x t in let y : times xs x ≡ 0 = rw z at none in omega (arith, h, y))
           go false t = ap (λ (j : Incoming). eqb (j .channel) k) (getD-set-other slots s x i noIncoming (λ z. eqb-false s x t (sym z)))
 
-  module _ (l m : Lists) (cs ds : List Channel) (count total : ℕ) (w : InClauses slots l cs count total)
-      (free : times (usedIn l cs) s ≡ 0) (exists : s < incoming) (short : i .length ≤ cell) (on : i .channel < count)
+  module _ (marks : Marks) (l m : Lists) (cs ds : List Channel) (count total : ℕ) (w : InClauses marks slots l cs count total)
+      (free : times (usedIn l cs) s ≡ 0) (exists : s < incoming) (kind : kindFit marks i ≡ true) (on : i .channel < count)
       (more : (k : ℕ) → times (usedIn m ds) k ≡ one s k + times (usedIn l cs) k)
       (theirs : own with 0 ds ≡ true)
-      (grown : lengths with (usedIn m ds) ≡ i .length + lengths with (usedIn l cs)) where
+      (grown : lengths with (usedIn m ds) ≡ i .length + lengths with (usedIn l cs))
+      (gained : blocks with (usedIn m ds) ≡ blocks with (s ∷ []) + blocks with (usedIn l cs))
+      (single : oneBlock marks (pick (isBlock i) 1 0 + blocks slots (usedIn l cs)) ≡ true) where
     abbrev before : List ℕ
     before = usedIn l cs
 
     abbrev after : List ℕ
     after = usedIn m ds
 
-    fit-now : (k : ℕ) → 0 < times after k → inFit with count k ≡ true
+    fit-now : (k : ℕ) → 0 < times after k → inFit marks with count k ≡ true
     fit-now k h = go (eqb s k) refl
       where
-        go : (b : Bool) → eqb s k ≡ b → inFit with count k ≡ true
+        go : (b : Bool) → eqb s k ≡ b → inFit marks with count k ≡ true
         go true t =
-            ap (λ (j : Incoming). both (leb (j .length) cell) (ltb (j .channel) count))
+            ap (λ (j : Incoming). both (kindFit marks j) (ltb (j .channel) count))
             (ap (λ (x : ℕ). getD with x noIncoming) (sym (eqb-true s k t)) ∙ getD-set-same slots s i noIncoming here)
-            ∙ both-true (leb (i .length) cell) (ltb (i .channel) count) (le-leb (i .length) cell short) (lt-ltb (i .channel) count on)
+            ∙ both-true (kindFit marks i) (ltb (i .channel) count) kind (lt-ltb (i .channel) count on)
         go false t =
             let none : one s k ≡ 0 = rw t in
-            ap (λ (j : Incoming). both (leb (j .length) cell) (ltb (j .channel) count))
+            ap (λ (j : Incoming). both (kindFit marks j) (ltb (j .channel) count))
             (getD-set-other slots s k i noIncoming (λ z. eqb-false s k t (sym z)))
-            ∙ all-at (inFit slots count) before (w .fit) k (omega (arith, h, more k, none))
+            ∙ all-at (inFit marks slots count) before (w .fit) k (omega (arith, h, more k, none))
 
     at-most : (k : ℕ) → times after k ≤ one s k + times before k
     at-most k = omega (arith, more k)
 
-    pub joined-clauses : InClauses with m ds count (sum 32 total (i .length))
+    pub joined-clauses : InClauses marks with m ds count (sum 32 total (i .length))
     joined-clauses =
-        let low = total-low slots l cs count total w in
+        let low = total-low marks slots l cs count total w in
+        let short = kind-low marks i kind in
         let plain : sum 32 total (i .length) ≡ total + i .length = omega arith in
+        let counted : blocks with after ≡ pick (isBlock i) 1 0 + blocks slots before = omega (arith, gained, blocks-own, blocks-unnamed before free) in
         record {
           exists = exist-more before after s at-most incoming exists (w .exists);
           single = once-more before after s at-most (none-times before s free) (w .single);
-          fit = at-all (inFit with count) after fit-now;
+          fit = at-all (inFit marks with count) after fit-now;
           own = theirs;
           total = omega (arith, plain, grown, w .total, lengths-unnamed before free);
+          block = ap (oneBlock marks) counted ∙ single;
         }

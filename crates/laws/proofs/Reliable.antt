@@ -1,48 +1,36 @@
 -- Soundness through the reliable arrival: a sound record stays sound, whatever becomes of the packet.
 -- The argument: a packet that is stored joins the pool at a free slot and its channel's list at one place, which leaves a sound record; what the
 -- call then leaves is that record after a dispatch, and a dispatch keeps a record sound.
-use Prim.Native.Nat.{ℕ, _+_, _≤_, _<_}
+use Prim.Native.Nat.{ℕ, _+_}
 use mathlib.Core.Path.{_≡_, refl, ap, _∙_}
-use mathlib.Core.Bool.{Bool, true, false}
-use mathlib.Core.Logic.{_⊎_, inl, inr}
+use mathlib.Core.Bool.{true}
 use mathlib.Core.List.{List, [], _∷_, _++_}
 use native.Mathlib.Omega.{arith}
-use lib.Dec.{eqb}
-use lib.ListN.{length, take, drop, getD, set, length-set, length-append, length-take, take-append-drop}
-use lib.Seq.{getD-set-same, set-set, take-set-lt, getD-take}
-use borrow.Author.Tests.{eqb-true, lt-ltb}
-use Rattle.numbers.specs.Pick.{pick}
-use Rattle.numbers.specs.Modulo.{sum}
+use lib.ListN.{length, take, drop, set, length-set}
+use lib.Seq.{getD-set-same, set-set}
+use borrow.Author.Tests.{le-leb}
 use Rattle.numbers.specs.declared.refusals.Refusal.{Refusal}
 use Rattle.numbers.specs.declared.refusals.Refusal.the-variants.{NotStored}
 use Rattle.record.specs.Lists.{incoming, inItems}
-use Rattle.record.proofs.Keeps.{one, times, times-append}
-use Rattle.record.proofs.Views.{in-items-keep}
-use Rattle.cells.specs.Runs.{inserted}
 use Rattle.cells.specs.declared.Free.the-variants.{Lowest}
-use Rattle.damage.proofs.SumLaws.{sum-append}
-use Rattle.record.specs.Sizes.{storeLength}
-use Rattle.record.specs.Damage.{below, held, heldFit, inSound, lengths, usedIn}
-use Rattle.record.specs.Fresh.{noChannel, noIncoming}
+use Rattle.record.specs.Sizes.{cell, storeLength}
+use Rattle.record.specs.Damage.{below, blocks, oneBlock, usedIn}
+use Rattle.record.specs.Fresh.{noChannel}
 use Rattle.record.specs.declared.groups.Channel.{Channel}
 use Rattle.record.specs.declared.groups.Incoming.{Incoming}
 use Rattle.peer.specs.Damage.{sound}
 use Rattle.peer.specs.Gate.{fits, gateOf}
 use Rattle.peer.specs.Outcome.{State, Outcome, unchanged, onPeer}
 use Rattle.peer.specs.Sounds.{Whole, Sounds}
-use Rattle.peer.specs.Updates.{withArrival}
 use Rattle.peer.specs.declared.settings.Settings.{Settings}
 use Rattle.peer.specs.declared.Peer.{Peer}
 use Rattle.peer.specs.declared.gate.Lent.the-variants.{Store}
 use Rattle.peer.proofs.Gates.{sound-open, behind-has}
-use Rattle.peer.proofs.Clauses.{sound-clauses, clauses-sound}
-use Rattle.peer.proofs.InClauses.{InClauses, incoming-clauses, clauses-in}
-use Rattle.peer.proofs.Ranges.{count-high}
+use Rattle.peer.proofs.InClauses.{incoming-clauses}
 use Rattle.peer.proofs.Sound.{lent-sounds}
-use Rattle.arrival.specs.Storing.{freeSlot, awaiting}
+use Rattle.arrival.specs.Storing.{freeSlot}
 use Rattle.dispatch.specs.Calls.{dispatchedOn}
-use Rattle.dispatch.proofs.Sums.{held-set, held-within}
-use Rattle.dispatch.proofs.Sound.{fit-set, own-set, dispatched-sound}
+use Rattle.dispatch.proofs.Sound.{dispatched-sound}
 use Rattle.arrival.proofs.Laws.{room-stored}
 use Rattle.arrival.proofs.Admitted.{Admitted, admitted, lent-whole}
 use Rattle.arrival.specs.Arrivals.{passedOver, stored, answerOf, arrivalGate, roomOf, replyOf, arrivedSlot}
@@ -52,7 +40,7 @@ use Rattle.arrival.specs.declared.Fate.the-variants as fate
 use Rattle.arrive_reliable.specs.Holding.{numberDistance, placeOf, isPassed, heldWith}
 use Rattle.arrive_reliable.proofs.Calling.{room-of}
 use Rattle.arrive_reliable.specs.Calls.{sendReliable, channelOf, reliableAfter, fateOn, reliableSound, arrivesReliable}
-use Rattle.laws.proofs.Pools.{free-exists, free-unnamed, free-room, lengths-own, own-unnamed, joined-clauses}
+use Rattle.laws.proofs.Holding.{joined, at-all-channels, joined-items, joined-by, joined-whole, joined-sound}
 
 module _ (s : Settings) (a : Arrival) (datagram : List ℕ) (x : State) where
   abbrev p : Peer
@@ -93,9 +81,6 @@ module _ (a : Arrival) (datagram : List ℕ) (x : State) (n : ℕ)
   abbrev cs : List Channel
   cs = below (q .channels) (q .standing .channels)
 
-  abbrev clauses : InClauses (q .incoming) (q .lists) cs (q .standing .channels) (q .waiting .total)
-  clauses = incoming-clauses q good
-
   abbrev i : ℕ
   i = a .channel
 
@@ -108,146 +93,47 @@ module _ (a : Arrival) (datagram : List ℕ) (x : State) (n : ℕ)
   abbrev slot : Incoming
   slot = arrivedSlot a
 
-  abbrev pool : List Incoming
-  pool = set (q .incoming) n slot
-
   -- the record that then is dispatched
   abbrev pub between : Peer
-  between = withArrival q (q .lists) (q .unsequenced) (awaiting (q .waiting) (a .length)) (set (q .channels) i new) pool
-
-  at-all-channels : i < length (q .channels)
-  at-all-channels = omega (arith, may .on, count-high q good, whole .channels)
-
-  here : i < length cs
-  here = omega (arith, may .on, count-high q good, whole .channels, length-take (q .standing .channels) (q .channels))
-
-  old-is : getD cs i noChannel ≡ old
-  old-is = getD-take (q .standing .channels) (q .channels) i noChannel (may .on)
+  between = joined q i (a .number .0) n slot whole good (may .on) free
 
   -- what is left is that record, dispatched
   pub left-dispatched : reliableAfter (fate.Stored n) a datagram x .peer ≡ dispatchedOn i between
-  left-dispatched = rw (getD-set-same (q .channels) i new noChannel at-all-channels, set-set (q .channels) i new _)
-
-  room : length (inItems (old .held)) < incoming
-  room =
-      let within = rw old-is at (held-within length length-append cs i noChannel here) in
-      omega (
-        arith,
-        free-room (q .incoming) (q .lists) cs (q .standing .channels) (q .waiting .total) clauses n free,
-        length-append (inItems (q .lists .dispatched)) (held cs),
-        within,
+  left-dispatched =
+      rw (
+        getD-set-same (q .channels) i new noChannel (at-all-channels q i (a .number .0) n slot whole good (may .on) free),
+        set-set (q .channels) i new _,
       )
 
   abbrev place : ℕ
   place = placeOf (q .incoming) (inItems (old .held)) (old .«incoming_reliable» .0) (numberDistance (old .«incoming_reliable» .0) (a .number .0))
 
   pub held-items : inItems (new .held) ≡ take place (inItems (old .held)) ++ (n ∷ drop place (inItems (old .held)))
-  held-items =
-      let items = inItems (old .held) in
-      in-items-keep (old .held) (inserted incoming items place n)
-      ∙ ap (λ (b : Bool). pick b (take place items ++ (n ∷ drop place items)) items) (lt-ltb (length items) incoming room)
+  held-items = joined-items q i (a .number .0) n slot whole good (may .on) free
 
   -- any sum over what is named has one more
-  list-more : (f : List ℕ → ℕ) → ((xs ys : List ℕ) → f (xs ++ ys) ≡ f xs + f ys) → f (inItems (new .held)) ≡ f (n ∷ []) + f (inItems (old .held))
-  list-more f adds =
-      let items = inItems (old .held) in
-      let cut = ap f (take-append-drop place items) in
-      omega (
-        arith,
-        ap f held-items,
-        adds (take place items) (n ∷ drop place items),
-        adds (n ∷ []) (drop place items),
-        cut,
-        adds (take place items) (drop place items),
-      )
-
   pub more-by : (f : List ℕ → ℕ) → ((xs ys : List ℕ) → f (xs ++ ys) ≡ f xs + f ys)
       → f (usedIn (q .lists) (set cs i new)) ≡ f (n ∷ []) + f (usedIn (q .lists) cs)
-  more-by f adds =
-      let items = inItems (q .lists .dispatched) in
-      let one-list = rw old-is at (held-set f adds cs i new noChannel here) in
-      omega (arith, adds items (held (set cs i new)), adds items (held cs), one-list, list-more f adds)
+  more-by = joined-by q i (a .number .0) n slot whole good (may .on) free
 
-  now : below (set (q .channels) i new) (q .standing .channels) ≡ set cs i new
-  now = take-set-lt (q .standing .channels) (q .channels) i new (may .on)
-
-  exists : n < incoming
-  exists = free-exists (q .incoming) (q .lists) cs (q .standing .channels) (q .waiting .total) clauses n free
-
-  in-pool : n < length (q .incoming)
-  in-pool = omega (arith, exists, whole .incoming)
-
-  unnamed : times (usedIn (q .lists) cs) n ≡ 0
-  unnamed = free-unnamed (q .incoming) (q .lists) cs (q .standing .channels) (q .waiting .total) clauses n free
-
-  -- what the list names stood there before, or is the slot, which is of the channel
-  known : (k : ℕ) → 0 < times (inItems (new .held)) k
-      → (0 < times (inItems (getD cs i noChannel .held)) k) ⊎ (getD pool k noIncoming .channel ≡ 0 + i)
-  known k h = go (eqb n k) refl
-    where
-      go : (b : Bool) → eqb n k ≡ b → (0 < times (inItems (getD cs i noChannel .held)) k) ⊎ (getD pool k noIncoming .channel ≡ 0 + i)
-      go true t =
-          let at : getD pool k noIncoming ≡ slot = rw (← eqb-true n k t) (getD-set-same (q .incoming) n slot noIncoming in-pool) in
-          inr (omega (arith, ap (λ (j : Incoming). j .channel) at))
-      go false t =
-          let none : one n k ≡ 0 = rw t in
-          inl (rw old-is (omega (arith, h, none, list-more (λ (xs : List ℕ). times xs k) (λ xs ys. times-append xs ys k))))
-
-  new-fits : new .held .len ≤ incoming
-  new-fits =
-      let items = inItems (old .held) in
-      let is : inserted incoming items place n ≡ take place items ++ (n ∷ drop place items) =
-      ap (λ (b : Bool). pick b (take place items ++ (n ∷ drop place items)) items) (lt-ltb (length items) incoming room) in
-      let long = ap length is in
-      omega (
-        arith,
-        long,
-        length-append (take place items) (n ∷ drop place items),
-        ap length (take-append-drop place items),
-        length-append (take place items) (drop place items),
-        room,
-      )
-
+  -- a packet that came whole is no block
   pub between-sound : sound between ≡ true
   between-sound =
-      let w = sound-clauses q good in
-      let count = q .standing .channels in
-      let total = sum 32 (q .waiting .total) (a .length) in
-      let apart = times-append (inItems (q .lists .dispatched)) (held cs) n in
-      clauses-sound between
-      (record {
-        range = w .range;
-        lists = w .lists;
-        held = ap heldFit now ∙ fit-set cs i new (w .held) new-fits;
-        exists = w .exists;
-        single = w .single;
-        fit = w .fit;
-        sent = w .sent;
-        arrived =
-            ap (λ (ds : List Channel). inSound pool (q .lists) ds count total) now
-            ∙ clauses-in pool (q .lists) (set cs i new) count total
-            (joined-clauses (q .incoming) n slot in-pool (q .lists) (q .lists) cs (set cs i new) count (q .waiting .total) clauses unnamed exists
-            (may .short) (may .on)
-            (λ k. omega (arith, more-by (λ (xs : List ℕ). times xs k) (λ xs ys. times-append xs ys k)))
-            (own-set pool 0 cs i new (own-unnamed (q .incoming) n slot in-pool 0 cs (omega (arith, apart, unnamed)) (clauses .own)) known)
-            (omega (arith, more-by (lengths pool) (sum-append pool), lengths-own (q .incoming) n slot in-pool)));
-      })
+      let w = incoming-clauses q good in
+      let none-more : 0 + blocks (q .incoming) (usedIn (q .lists) cs) ≡ blocks (q .incoming) (usedIn (q .lists) cs) = omega arith in
+      joined-sound q i (a .number .0) n slot whole good (may .on) free refl (le-leb (a .length) cell (may .short))
+      (ap (oneBlock (q .marks)) none-more ∙ w .block)
 
   pub between-whole : Whole between
-  between-whole =
-      record {
-        channels = length-set (q .channels) i new ∙ whole .channels;
-        outgoing = whole .outgoing;
-        incoming = length-set (q .incoming) n slot ∙ whole .incoming;
-      }
+  between-whole = joined-whole q i (a .number .0) n slot whole good (may .on) free
 
   held-sound : sound (reliableAfter (fate.Stored n) a datagram x .peer) ≡ true
   held-sound = ap sound left-dispatched ∙ dispatched-sound i between between-whole between-sound (may .on)
 
 -- the call
-module _ (s : Settings) (a : Arrival) (datagram store : List ℕ) where
+module _ (s : Settings) (a : Arrival) (datagram store second : List ℕ) where
   abbrev on : Peer → State
-  on p = record { peer = p; store = store }
+  on p = record { peer = p; store = store; second = second }
 
   stays : (p : Peer) → Whole p → sound p ≡ true → sound (reliableSound s a datagram (on p) .after .peer) ≡ true
   stays p whole good =

@@ -200,6 +200,7 @@ pub record Like (p q : Peer) : Type 0 where
   pub flow : p .flow ≡ q .flow
   pub unsequenced : p .unsequenced ≡ q .unsequenced
   pub waiting : p .waiting ≡ q .waiting
+  pub marks : p .marks ≡ q .marks
   pub lists : Lined (p .lists) (q .lists)
   pub channels : Ranked (below (p .channels) (p .standing .channels)) (below (q .channels) (q .standing .channels))
   pub outs : Agree noOutgoing (usedOut (p .lists)) (p .outgoing) (q .outgoing)
@@ -234,6 +235,7 @@ module _ (p q : Peer) (e : Same p q) where
         flow = a .flow;
         unsequenced = a .unsequenced;
         waiting = a .waiting;
+        marks = a .marks;
         lists = lined;
         channels = ranked;
         outs = outs;
@@ -348,6 +350,7 @@ module _ (p q : Peer) (k : Like p q) (w : Within p q) where
         flow = k .flow;
         unsequenced = k .unsequenced;
         waiting = k .waiting;
+        marks = k .marks;
         sent =
             out-put (p .outgoing) (q .outgoing) (usedOut (p .lists)) (p .lists .sent) (q .lists .sent) (k .outs) (λ s n. omega (arith, n, adds s)) (k .lists .sent);
         sendReliable =
@@ -387,4 +390,5 @@ module _ (p q : Peer) (k : Like p q) (w : Within p q) where
         agrees .flow,
         agrees .unsequenced,
         agrees .waiting,
+        agrees .marks,
       )

@@ -18,6 +18,7 @@ use Rattle.record.specs.declared.groups.Waiting.{Waiting}
 use Rattle.record.specs.declared.groups.Channel.{Channel}
 use Rattle.record.specs.declared.groups.Outgoing.{Outgoing}
 use Rattle.record.specs.declared.groups.Incoming.{Incoming}
+use Rattle.record.specs.declared.groups.Marks.{Marks}
 use Rattle.peer.specs.Outcome.{Outcome, unchanged}
 use Rattle.peer.specs.Gate.{behind}
 use Rattle.peer.specs.Updates.{rebuilt}
@@ -45,12 +46,13 @@ module _ (p q : Peer) (k : Like p q) where
   pub rebuilt-like : {standing standing′ : Standing} {totals totals′ : Totals} {times times′ : Times} {loss loss′ : Loss}
       {throttling throttling′ : Throttling} {trips trips′ : Trips} {flow flow′ : Flow} {lists lists′ : Lists} {unsequenced unsequenced′ : Unsequenced}
       {waiting waiting′ : Waiting} {channels channels′ : List Channel} {outgoing outgoing′ : List Outgoing} {incoming incoming′ : List Incoming}
+      {marks marks′ : Marks}
       → standing ≡ standing′ → totals ≡ totals′ → times ≡ times′ → loss ≡ loss′ → throttling ≡ throttling′ → trips ≡ trips′ → flow ≡ flow′
       → Lined lists lists′ → unsequenced ≡ unsequenced′ → waiting ≡ waiting′ → Ranked (below channels (standing .channels)) (below channels′ (standing .channels))
-      → Agree noOutgoing (usedOut lists) outgoing outgoing′
-      → Like (rebuilt p standing totals times loss throttling trips flow lists unsequenced waiting channels outgoing incoming)
-      (rebuilt q standing′ totals′ times′ loss′ throttling′ trips′ flow′ lists′ unsequenced′ waiting′ channels′ outgoing′ incoming′)
-  rebuilt-like {standing = now} {channels = channels} {channels′ = channels′} standing totals times loss throttling trips flow lists unsequenced waiting ranked outs =
+      → Agree noOutgoing (usedOut lists) outgoing outgoing′ → marks ≡ marks′
+      → Like (rebuilt p standing totals times loss throttling trips flow lists unsequenced waiting channels outgoing incoming marks)
+      (rebuilt q standing′ totals′ times′ loss′ throttling′ trips′ flow′ lists′ unsequenced′ waiting′ channels′ outgoing′ incoming′ marks′)
+  rebuilt-like {standing = now} {channels = channels} {channels′ = channels′} standing totals times loss throttling trips flow lists unsequenced waiting ranked outs marks =
       record {
         ids = k .ids;
         standing = standing;
@@ -64,6 +66,7 @@ module _ (p q : Peer) (k : Like p q) where
         flow = flow;
         unsequenced = unsequenced;
         waiting = waiting;
+        marks = marks;
         lists = lists;
         channels = subst (λ (s : Standing). Ranked (below channels (now .channels)) (below channels′ (s .channels))) standing ranked;
         outs = outs;

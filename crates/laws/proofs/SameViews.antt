@@ -6,19 +6,20 @@ use mathlib.Core.List.{List, [], _∷_, _++_, map, map-append}
 use Prim.Native.Nat.{ℕ, _+_}
 use lib.Dec.{leb, ltb, eqb}
 use lib.ListN.{getD}
-use Rattle.numbers.specs.Pick.{both}
+use Rattle.numbers.specs.Pick.{pick, both}
 use Rattle.command.specs.Rows.{namesFields}
 use Rattle.record.specs.Lists.{outgoing, incoming, outItems, inItems}
 use Rattle.cells.specs.Free.{exist, once}
-use Rattle.record.specs.Sizes.{cell}
 use Rattle.record.specs.Channels.{onChannel}
 use Rattle.record.specs.Fresh.{noOutgoing, noIncoming}
-use Rattle.record.specs.Damage.{ranged, heldFit, held, below, all, own, lengths, outFit, inFit}
+use Rattle.record.specs.Blocks.{isBlock}
+use Rattle.record.specs.Damage.{ranged, heldFit, held, below, all, own, kindFit, lengths, blocks, oneBlock, outFit, inFit}
 use Rattle.peer.specs.Damage.{sound}
 use Rattle.laws.specs.Same.{ListView, ChannelView, View, Same, view, outView, inView, channelView}
 use Rattle.record.specs.declared.groups.Channel.{Channel}
 use Rattle.record.specs.declared.groups.Outgoing.{Outgoing}
 use Rattle.record.specs.declared.groups.Incoming.{Incoming}
+use Rattle.record.specs.declared.groups.Marks.{Marks}
 use Rattle.peer.specs.declared.Peer.{Peer}
 
 pub same-refl : (p : Peer) → Same p p
@@ -47,8 +48,8 @@ commandFit count o = both (namesFields (o .command)) (onChannel (o .command .cha
 abbrev triedOnce : Outgoing → Bool
 triedOnce o = leb 1 (o .attempts)
 
-abbrev arrivalFit : ℕ → Incoming → Bool
-arrivalFit count i = both (leb (i .length) cell) (ltb (i .channel) count)
+abbrev arrivalFit : Marks → ℕ → Incoming → Bool
+arrivalFit m count i = both (kindFit m i) (ltb (i .channel) count)
 
 abbrev ofChannel : ℕ → Incoming → Bool
 ofChannel k i = eqb (i .channel) k
@@ -61,6 +62,15 @@ lengths-map : (slots : List Incoming) (xs : List ℕ) → lengths slots xs ≡ s
 unfolding lengths sumLengths
 lengths-map slots [] = refl
 lengths-map slots (x ∷ xs) = rw (lengths-map slots xs)
+
+countBlocks : List Incoming → ℕ
+countBlocks [] = 0
+countBlocks (i ∷ is) = pick (isBlock i) 1 0 + countBlocks is
+
+blocks-map : (slots : List Incoming) (xs : List ℕ) → blocks slots xs ≡ countBlocks (map (λ (s : ℕ). getD slots s noIncoming) xs)
+unfolding blocks countBlocks
+blocks-map slots [] = refl
+blocks-map slots (x ∷ xs) = rw (blocks-map slots xs)
 
 pub heldItems : List ChannelView → List ℕ
 heldItems [] = []
@@ -119,7 +129,8 @@ viewSound v =
     (both (both (exist outgoing outs) (once outs))
     (both (alls (commandFit count) (v .sent .slots ++ (v .sendReliable .slots ++ v .outgoing .slots))) (alls triedOnce (v .sent .slots))))
     (both (both (exist incoming ins) (once ins))
-    (both (alls (arrivalFit count) arrivals) (both (ownHeld 0 (v .channels)) (eqb (v .waiting .total) (sumLengths arrivals)))))))
+    (both (alls (arrivalFit (v .marks) count) arrivals)
+    (both (ownHeld 0 (v .channels)) (both (eqb (v .waiting .total) (sumLengths arrivals)) (oneBlock (v .marks) (countBlocks arrivals))))))))
 
 module _ (p : Peer) where
   abbrev pub cs : List Channel
@@ -142,15 +153,19 @@ module _ (p : Peer) where
       map-append (at (p .incoming)) (inItems (p .lists .dispatched)) (held cs)
       ∙ ap (λ (l : List Incoming). map (at (p .incoming)) (inItems (p .lists .dispatched)) ++ l) (held-slots (p .incoming) cs)
 
-  arrivals-fit : all (inFit (p .incoming) (p .standing .channels)) (inItems (p .lists .dispatched) ++ held cs)
-      ≡ alls (arrivalFit (p .standing .channels)) (map (at (p .incoming)) (inItems (p .lists .dispatched)) ++ heldSlots (map (channelView (p .incoming)) cs))
+  arrivals-fit : all (inFit (p .marks) (p .incoming) (p .standing .channels)) (inItems (p .lists .dispatched) ++ held cs)
+      ≡ alls (arrivalFit (p .marks) (p .standing .channels)) (map (at (p .incoming)) (inItems (p .lists .dispatched)) ++ heldSlots (map (channelView (p .incoming)) cs))
   arrivals-fit =
-      all-map (arrivalFit (p .standing .channels)) (at (p .incoming)) (inItems (p .lists .dispatched) ++ held cs)
-      ∙ ap (alls (arrivalFit (p .standing .channels))) arrivals-are
+      all-map (arrivalFit (p .marks) (p .standing .channels)) (at (p .incoming)) (inItems (p .lists .dispatched) ++ held cs)
+      ∙ ap (alls (arrivalFit (p .marks) (p .standing .channels))) arrivals-are
 
   arrivals-sum : lengths (p .incoming) (inItems (p .lists .dispatched) ++ held cs)
       ≡ sumLengths (map (at (p .incoming)) (inItems (p .lists .dispatched)) ++ heldSlots (map (channelView (p .incoming)) cs))
   arrivals-sum = lengths-map (p .incoming) (inItems (p .lists .dispatched) ++ held cs) ∙ ap sumLengths arrivals-are
+
+  arrivals-blocks : blocks (p .incoming) (inItems (p .lists .dispatched) ++ held cs)
+      ≡ countBlocks (map (at (p .incoming)) (inItems (p .lists .dispatched)) ++ heldSlots (map (channelView (p .incoming)) cs))
+  arrivals-blocks = blocks-map (p .incoming) (inItems (p .lists .dispatched) ++ held cs) ∙ ap countBlocks arrivals-are
 
   sound-view : sound p ≡ viewSound (view p)
   unfolding sound viewSound view
@@ -160,6 +175,7 @@ module _ (p : Peer) where
         all-map triedOnce out (outItems (p .lists .sent)),
         arrivals-fit,
         arrivals-sum,
+        arrivals-blocks,
         held-short (p .incoming) cs,
         own-held (p .incoming) 0 cs,
         held-items (p .incoming) cs,
@@ -183,6 +199,7 @@ pub record Agrees (p q : Peer) : Type 0 where
   pub flow : p .flow ≡ q .flow
   pub unsequenced : p .unsequenced ≡ q .unsequenced
   pub waiting : p .waiting ≡ q .waiting
+  pub marks : p .marks ≡ q .marks
   pub sent : outView (p .outgoing) (p .lists .sent) ≡ outView (q .outgoing) (q .lists .sent)
   pub sendReliable : outView (p .outgoing) (p .lists .«send_reliable») ≡ outView (q .outgoing) (q .lists .«send_reliable»)
   pub outgoing : outView (p .outgoing) (p .lists .outgoing) ≡ outView (q .outgoing) (q .lists .outgoing)
@@ -207,6 +224,7 @@ same-agrees p q e =
       flow = ap (λ (v : View). v .flow) e;
       unsequenced = ap (λ (v : View). v .unsequenced) e;
       waiting = ap (λ (v : View). v .waiting) e;
+      marks = ap (λ (v : View). v .marks) e;
       sent = ap (λ (v : View). v .sent) e;
       sendReliable = ap (λ (v : View). v .sendReliable) e;
       outgoing = ap (λ (v : View). v .outgoing) e;

@@ -5,6 +5,7 @@ use Prim.Native.Nat.{ℕ}
 use mathlib.Core.Path.{_≡_, refl, ap, _∙_}
 use mathlib.Core.Bool.{Bool, true, false}
 use mathlib.Core.List.{List, [], _∷_}
+use mathlib.Core.Logic.{inl, inr, ⊎-elim}
 use native.Mathlib.Omega.{arith}
 use lib.Dec.{leb, eqb}
 use lib.ListN.{length, getD, set}
@@ -21,6 +22,7 @@ use Rattle.cells.specs.declared.First.{First}
 use Rattle.cells.specs.declared.First.the-variants.{Slot, Empty}
 use Rattle.record.specs.Damage.{below, usedOut}
 use Rattle.record.specs.Fresh.{noIncoming}
+use Rattle.record.specs.Blocks.{isBlock}
 use Rattle.record.specs.declared.groups.Lists.{Lists}
 use Rattle.record.specs.declared.groups.Unsequenced.{Unsequenced}
 use Rattle.record.specs.declared.groups.Waiting.{Waiting}
@@ -53,7 +55,8 @@ use Rattle.laws.specs.Untouched.{Untouched}
 use Rattle.laws.proofs.Untouched.{acknowledge-untouched, check-untouched, throttle-untouched}
 use Rattle.dispatch.specs.Calls.{dispatches}
 use Rattle.dispatch.proofs.Moving.{dispatch-keeps}
-use Rattle.receive.specs.Calls.{receivesFrom, receivesSound, receives}
+use Rattle.receive.specs.Calls.{answerOf, replyOf, receivesFrom, receivesSound, receives}
+use Rattle.receive.specs.declared.Reply.the-variants as vr
 use Rattle.receive.proofs.Sound.{minus-plain, sum}
 use Rattle.receive.proofs.Taking.{receive-keeps}
 use Rattle.dispatch.specs.Dispatching.{readyCount, readyLast, movedOn, dispatchedBy}
@@ -64,7 +67,7 @@ use Rattle.arrival.specs.declared.Fate.the-variants as fate
 use Rattle.arrive_reliable.specs.Holding.{heldWith}
 use Rattle.arrive_reliable.specs.Calls.{channelOf, reliableAfter, arrivesReliable}
 use Rattle.laws.proofs.Reliable.{reliable-has}
-use Rattle.laws.specs.Steady.{SameWindow, Steady, Lowers, stays, lowers}
+use Rattle.laws.specs.Steady.{SameWindow, Steady, HandedOut, Lowers, stays, lowers}
 
 same : (p : Peer) → Steady p p
 same p = record { window = record { base = refl; words = refl }; total = refl }
@@ -166,21 +169,33 @@ receive-window s p =
     let k = receive-keeps s p in
     record { base = ap (λ (g : Unsequenced). g .incoming) (k .unsequenced); words = ap (λ (g : Unsequenced). g .words) (k .unsequenced) }
 
+-- what is replied for a slot
+handed : (i : Incoming) (n : ℕ) → HandedOut (answerOf (replyOf i n)) (i .channel) n (i .length)
+handed i n = go (isBlock i)
+  where
+    go : (b : Bool) → HandedOut (answerOf (pick b (vr.Block (i .channel) n (i .length)) (vr.Packet (i .channel) n (i .length)))) (i .channel) n (i .length)
+    go true = inr refl
+    go false = inl refl
+
 -- the total is as it was, or lower by the length that is replied
 pub receive-lowers : (s : Settings) (p : Peer) → Lowers p (receives s p)
 receive-lowers s p =
-    behind-has (gate s p) p (receivesSound p) (Lowers p) (λ why. stays refl (λ c n l e. refused-not-done why (ap (λ (a : Answer). a .number) e)))
+    behind-has (gate s p) p (receivesSound p) (Lowers p)
+    (λ why. stays refl (λ c n l. ⊎-elim (λ e. refused-not-done why (ap (λ (a : Answer). a .number) e)) (λ e. refused-not-done why (ap (λ (a : Answer). a .number) e))))
     (λ e. go (sound-open (fits s lent.Nothing) (sound p) e) (inItems (p .lists .dispatched)) refl)
   where
     go : sound p ≡ true → (xs : List ℕ) → inItems (p .lists .dispatched) ≡ xs → Lowers p (receivesFrom (first xs) p)
-    go good [] e = stays refl (λ c n l e. omega (arith, ap (λ (a : Answer). getD (numbersOf a) 0 0) e))
+    go good [] e =
+        stays refl
+        (λ c n l.
+        ⊎-elim (λ e. omega (arith, ap (λ (a : Answer). getD (numbersOf a) 0 0) e)) (λ e. omega (arith, ap (λ (a : Answer). getD (numbersOf a) 0 0) e)))
     go good (n ∷ rest) e =
         let i = getD (p .incoming) n noIncoming in
         let cs = below (p .channels) (p .standing .channels) in
         let w = incoming-clauses p good in
-        let low = total-low (p .incoming) (p .lists) cs (p .standing .channels) (p .waiting .total) w in
-        let is = sum (p .incoming) (p .lists) cs (p .standing .channels) (p .waiting .total) w n rest e in
-        lowers (i .channel) n (i .length) refl
+        let low = total-low (p .marks) (p .incoming) (p .lists) cs (p .standing .channels) (p .waiting .total) w in
+        let is = sum (p .marks) (p .incoming) (p .lists) cs (p .standing .channels) (p .waiting .total) w n rest e in
+        lowers (i .channel) n (i .length) (handed i n)
         (omega (arith, is, minus-plain (p .waiting .total) (i .length) _ is (omega (arith, low))))
 
 -- a dispatch changes the flags of the groups alone

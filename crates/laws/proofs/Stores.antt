@@ -47,8 +47,8 @@ module _ (a : Arrival) (datagram : List ℕ) (x : State) (n : ℕ)
       let p = x .peer in
       let now = below (p .channels) (p .standing .channels) in
       let w = incoming-clauses p good in
-      let exists = free-exists (p .incoming) (p .lists) now (p .standing .channels) (p .waiting .total) w n free in
-      let low = total-low (p .incoming) (p .lists) now (p .standing .channels) (p .waiting .total) w in
+      let exists = free-exists (p .marks) (p .incoming) (p .lists) now (p .standing .channels) (p .waiting .total) w n free in
+      let low = total-low (p .marks) (p .incoming) (p .lists) now (p .standing .channels) (p .waiting .total) w in
       let short = may .short in
       record {
         slot = n;
@@ -59,6 +59,7 @@ module _ (a : Arrival) (datagram : List ℕ) (x : State) (n : ℕ)
         bytes = λ i out. laid-others (x .store) (n * cell) datagram (a .place) (a .length) i out;
         length = laid-length (x .store) (n * cell) datagram (a .place) (a .length);
         total = omega (arith, low, short);
+        second = refl;
       }
 
 nothing : (xs : List ℕ) → xs ≡ xs ++ []
@@ -66,7 +67,7 @@ nothing [] = refl
 nothing (x ∷ xs) = ap (λ (ys : List ℕ). x ∷ ys) (nothing xs)
 
 same : (x : State) → Leaves x x
-same x = record { slots = refl; store = refl; total = refl }
+same x = record { slots = refl; store = refl; second = refl; total = refl }
 
 none : (p : Peer) → Adds p p
 none p = record { joined = []; is = nothing (inItems (p .lists .dispatched)) }
@@ -76,8 +77,8 @@ module _ (s : Settings) (a : Arrival) (group : Group) (datagram : List ℕ) (x :
   unsequenced-stores =
       unsequenced-has s a group datagram x (Arrives a datagram x)
       (λ why. leaves (same x) (not-refused why))
-      (λ good e. leaves (record { slots = refl; store = refl; total = refl }) not-passed)
-      (λ good e. leaves (record { slots = refl; store = refl; total = refl }) (not-refused NotStored))
+      (λ good e. leaves (record { slots = refl; store = refl; second = refl; total = refl }) not-passed)
+      (λ good e. leaves (record { slots = refl; store = refl; second = refl; total = refl }) (not-refused NotStored))
       (λ n good long may e. stores (stored-stores a datagram x n whole good long may (stored-free s a group datagram x n e) _ _ _) refl)
 
   pub unsequenced-adds : Adds (x .peer) (arrivesUnsequenced s a group datagram x .after .peer)

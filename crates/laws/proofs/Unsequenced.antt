@@ -6,7 +6,7 @@ use mathlib.Core.Bool.{Bool, true}
 use mathlib.Core.List.{List, [], _∷_, _++_}
 use native.Mathlib.Omega.{arith}
 use lib.ListN.{length, set, length-set, length-append}
-use borrow.Author.Tests.{lt-ltb}
+use borrow.Author.Tests.{le-leb, lt-ltb}
 use Rattle.numbers.specs.Pick.{pick}
 use Rattle.numbers.specs.Modulo.{sum}
 use Rattle.numbers.specs.declared.counters.Group.{Group}
@@ -18,9 +18,9 @@ use Rattle.record.proofs.Keeps.{times, times-append}
 use Rattle.record.proofs.Views.{in-items-keep}
 use Rattle.cells.specs.Runs.{pushed}
 use Rattle.cells.specs.declared.Free.the-variants.{Lowest}
-use Rattle.damage.proofs.SumLaws.{sum-append}
-use Rattle.record.specs.Sizes.{storeLength}
-use Rattle.record.specs.Damage.{below, held, lengths, usedIn}
+use Rattle.damage.proofs.SumLaws.{sum-append, blocks-append}
+use Rattle.record.specs.Sizes.{cell, storeLength}
+use Rattle.record.specs.Damage.{below, held, lengths, blocks, oneBlock, usedIn}
 use Rattle.record.specs.declared.groups.Channel.{Channel}
 use Rattle.record.specs.declared.groups.Unsequenced.{Unsequenced}
 use Rattle.record.specs.declared.groups.Incoming.{Incoming}
@@ -97,14 +97,14 @@ module _ (a : Arrival) (datagram : List ℕ) (x : State) (g : Unsequenced) (n : 
   abbrev used : List ℕ
   used = usedIn (q .lists) cs
 
-  abbrev clauses : InClauses (q .incoming) (q .lists) cs (q .standing .channels) (q .waiting .total)
+  abbrev clauses : InClauses (q .marks) (q .incoming) (q .lists) cs (q .standing .channels) (q .waiting .total)
   clauses = incoming-clauses q good
 
   room : length (inItems (q .lists .dispatched)) < incoming
   room =
       omega (
         arith,
-        free-room (q .incoming) (q .lists) cs (q .standing .channels) (q .waiting .total) clauses n free,
+        free-room (q .marks) (q .incoming) (q .lists) cs (q .standing .channels) (q .waiting .total) clauses n free,
         length-append (inItems (q .lists .dispatched)) (held cs),
       )
 
@@ -134,8 +134,8 @@ module _ (a : Arrival) (datagram : List ℕ) (x : State) (g : Unsequenced) (n : 
   delivered-sound : sound (storedAt n a datagram x (delivered (q .lists) n) g (q .channels) .peer) ≡ true
   delivered-sound =
       let w = sound-clauses q good in
-      let exists = free-exists (q .incoming) (q .lists) cs (q .standing .channels) (q .waiting .total) clauses n free in
-      let unnamed = free-unnamed (q .incoming) (q .lists) cs (q .standing .channels) (q .waiting .total) clauses n free in
+      let exists = free-exists (q .marks) (q .incoming) (q .lists) cs (q .standing .channels) (q .waiting .total) clauses n free in
+      let unnamed = free-unnamed (q .marks) (q .incoming) (q .lists) cs (q .standing .channels) (q .waiting .total) clauses n free in
       let here : n < length (q .incoming) = omega (arith, exists, whole .incoming) in
       let apart = times-append (inItems (q .lists .dispatched)) (held cs) n in
       clauses-sound (storedAt n a datagram x (delivered (q .lists) n) g (q .channels) .peer)
@@ -148,14 +148,18 @@ module _ (a : Arrival) (datagram : List ℕ) (x : State) (g : Unsequenced) (n : 
         fit = w .fit;
         sent = w .sent;
         arrived =
-            clauses-in pool (delivered (q .lists) n) cs (q .standing .channels) (sum 32 (q .waiting .total) (a .length))
-            (joined-clauses (q .incoming) n slot here (q .lists) (delivered (q .lists) n) cs cs (q .standing .channels) (q .waiting .total) clauses unnamed
-            exists (may .short) (may .on)
+            clauses-in (q .marks) pool (delivered (q .lists) n) cs (q .standing .channels) (sum 32 (q .waiting .total) (a .length))
+            (joined-clauses (q .incoming) n slot here (q .marks) (q .lists) (delivered (q .lists) n) cs cs (q .standing .channels) (q .waiting .total) clauses unnamed
+            exists (le-leb (a .length) cell (may .short)) (may .on)
             (λ k. omega (arith, more-by (λ (xs : List ℕ). times xs k) (λ xs ys. times-append xs ys k)))
             (own-unnamed (q .incoming) n slot here 0 cs (omega (arith, apart, unnamed)) (clauses .own))
-            (omega (arith, more-by (lengths pool) (sum-append pool), lengths-own (q .incoming) n slot here)));
+            (omega (arith, more-by (lengths pool) (sum-append pool), lengths-own (q .incoming) n slot here))
+            (more-by (blocks pool) (blocks-append pool)) (ap (oneBlock (q .marks)) none-more ∙ clauses .block));
       })
     where
+      none-more : 0 + blocks (q .incoming) used ≡ blocks (q .incoming) used
+      none-more = omega arith
+
       longer-fits : delivered (q .lists) n .dispatched .len ≤ incoming
       longer-fits =
           let items = inItems (q .lists .dispatched) in
@@ -165,9 +169,9 @@ module _ (a : Arrival) (datagram : List ℕ) (x : State) (g : Unsequenced) (n : 
           omega (arith, long, room)
 
 -- the call
-module _ (s : Settings) (a : Arrival) (group : Group) (datagram store : List ℕ) where
+module _ (s : Settings) (a : Arrival) (group : Group) (datagram store second : List ℕ) where
   abbrev on : Peer → State
-  on p = record { peer = p; store = store }
+  on p = record { peer = p; store = store; second = second }
 
   stays : (p : Peer) → Whole p → sound p ≡ true → sound (unsequencedSound s a group datagram (on p) .after .peer) ≡ true
   stays p whole good =

@@ -1,5 +1,5 @@
 -- The comparison of records that document 01 means: free slots, channels at or above the count and cells past a length do not count.
--- Two records are the same where what counts in them, their view, is equal.
+-- Two records are the same where what counts in them, their view, is equal. C-11: the marks count.
 use Prim.Native.Nat.{ℕ}
 use mathlib.Core.Path.{_≡_}
 use mathlib.Core.List.{List, map}
@@ -26,6 +26,7 @@ use Rattle.record.specs.declared.groups.Waiting.{Waiting}
 use Rattle.record.specs.declared.groups.Channel.{Channel}
 use Rattle.record.specs.declared.groups.Outgoing.{Outgoing}
 use Rattle.record.specs.declared.groups.Incoming.{Incoming}
+use Rattle.record.specs.declared.groups.Marks.{Marks}
 use Rattle.peer.specs.declared.Peer.{Peer}
 
 -- a list: its length, the slots that it names, and what they hold
@@ -59,6 +60,7 @@ pub record View : Type 0 where
   pub unsequenced : Unsequenced
   pub waiting : Waiting
   pub channels : List ChannelView
+  pub marks : Marks
 
 abbrev pub outView : List Outgoing → OutList → ListView Outgoing
 outView slots l =
@@ -98,6 +100,7 @@ view p =
       unsequenced = p .unsequenced;
       waiting = p .waiting;
       channels = map (channelView (p .incoming)) (below (p .channels) (p .standing .channels));
+      marks = p .marks;
     }
 
 abbrev pub Same : Peer → Peer → Type 0

@@ -1,5 +1,5 @@
 -- What an arrival does to slots, store and waiting total: nothing; or, stored, it takes one slot that was free, puts its payload into that slot's cell,
--- byte for byte, and adds its length once. Dispatched only grows at its end.
+-- byte for byte, and adds its length once. Dispatched only grows at its end. The second store is no packet's (C-11).
 use Prim.Native.Nat.{ℕ, _+_, _*_, _≤_, _<_}
 use mathlib.Core.Path.{_≡_}
 use mathlib.Core.List.{List, _++_}
@@ -25,10 +25,12 @@ pub record Stores (a : Arrival) (datagram : List ℕ) (before after : State) : T
   pub bytes : (i : ℕ) → (i < slot * cell) ⊎ (slot * cell + a .length ≤ i) → getD (after .store) i 0 ≡ getD (before .store) i 0
   pub length : list.length (after .store) ≡ list.length (before .store)
   pub total : after .peer .waiting .total ≡ before .peer .waiting .total + a .length
+  pub second : after .second ≡ before .second
 
 pub record Leaves (before after : State) : Type 0 where
   pub slots : after .peer .incoming ≡ before .peer .incoming
   pub store : after .store ≡ before .store
+  pub second : after .second ≡ before .second
   pub total : after .peer .waiting .total ≡ before .peer .waiting .total
 
 pub data Arrives (a : Arrival) (datagram : List ℕ) (before : State) (o : Outcome State) : Type 0 where
