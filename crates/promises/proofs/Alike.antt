@@ -69,23 +69,23 @@ module _ (s : Settings) (datagram store : List ℕ) (p q : Peer) (whole : Whole 
 
   -- a call on the record alone
   beside-alike : (o r : Outcome Peer) → o .answer ≡ r .answer → Same (o .after) (r .after)
-      → Alike (beside (record { peer = p; store = store }) o) (beside (record { peer = q; store = store }) r)
+      → Alike (beside (record { peer = p; store = store; second = second }) o) (beside (record { peer = q; store = store; second = second }) r)
   beside-alike o r answer same = record { answer = answer; store = refl; same = same }
 
   twin-alike : (o r : Outcome Peer) → Twin o r → Still p (o .after) → Still q (r .after)
-      → Alike (beside (record { peer = p; store = store }) o) (beside (record { peer = q; store = store }) r)
+      → Alike (beside (record { peer = p; store = store; second = second }) o) (beside (record { peer = q; store = store; second = second }) r)
   twin-alike o r t j l = beside-alike o r (t .answer) (like-same (o .after) (r .after) (t .like) (still-within j l w))
 
-  twins-alike : (o r : Outcome Peer) → Twins o r → Alike (beside (record { peer = p; store = store }) o) (beside (record { peer = q; store = store }) r)
+  twins-alike : (o r : Outcome Peer) → Twins o r → Alike (beside (record { peer = p; store = store; second = second }) o) (beside (record { peer = q; store = store; second = second }) r)
   twins-alike o r t = beside-alike o r (t .answer) (like-same (o .after) (r .after) (t .like) (t .within))
 
   -- what a reset keeps is the same in both
-  reset-alike : Alike (beside (record { peer = p; store = store }) (resets s p)) (beside (record { peer = q; store = store }) (resets s q))
+  reset-alike : Alike (beside (record { peer = p; store = store; second = second }) (resets s p)) (beside (record { peer = q; store = store; second = second }) (resets s q))
   reset-alike = go (fitSettings s)
     where
       go : (b : Bool)
-          → Alike (beside (record { peer = p; store = store }) (pick b (finished (freshPeer (s .mtu) (kept p))) (unchanged OutOfRange p)))
-          (beside (record { peer = q; store = store }) (pick b (finished (freshPeer (s .mtu) (kept q))) (unchanged OutOfRange q)))
+          → Alike (beside (record { peer = p; store = store; second = second }) (pick b (finished (freshPeer (s .mtu) (kept p))) (unchanged OutOfRange p)))
+          (beside (record { peer = q; store = store; second = second }) (pick b (finished (freshPeer (s .mtu) (kept q))) (unchanged OutOfRange q)))
       go true =
           beside-alike (finished (freshPeer (s .mtu) (kept p))) (finished (freshPeer (s .mtu) (kept q))) refl
           (ap (λ (c : Kept). view (freshPeer (s .mtu) c)) (ap₃ keptOf (k .ids) (k .unsequenced) (k .waiting)))
@@ -101,11 +101,11 @@ module _ (s : Settings) (datagram store : List ℕ) (p q : Peer) (whole : Whole 
   outward-twin (out.Throttle sample) = throttle-twin p q k alike s sample
 
   landed-alike : (c : Inward)
-      → Landed (callsIn s c datagram (record { peer = p; store = store })) (callsIn s c datagram (record { peer = q; store = store }))
-      → Alike (callsIn s c datagram (record { peer = p; store = store })) (callsIn s c datagram (record { peer = q; store = store }))
+      → Landed (callsIn s c datagram (record { peer = p; store = store; second = second })) (callsIn s c datagram (record { peer = q; store = store; second = second }))
+      → Alike (callsIn s c datagram (record { peer = p; store = store; second = second })) (callsIn s c datagram (record { peer = q; store = store; second = second }))
   landed-alike c t = record { answer = t .answer; store = t .store; same = like-same _ _ (t .like) (t .within) }
 
-  inward-alike : (c : Inward) → Alike (callsIn s c datagram (record { peer = p; store = store })) (callsIn s c datagram (record { peer = q; store = store }))
+  inward-alike : (c : Inward) → Alike (callsIn s c datagram (record { peer = p; store = store; second = second })) (callsIn s c datagram (record { peer = q; store = store; second = second }))
   inward-alike (inw.UnsequencedArrival a group) =
       landed-alike (inw.UnsequencedArrival a group) (unsequenced-landed p q k w alike whole whole′ store s a group datagram)
   inward-alike (inw.ReliableArrival a) = landed-alike (inw.ReliableArrival a) (reliable-landed p q k w alike whole whole′ store s a datagram)

@@ -345,10 +345,10 @@ module _ (p q : Peer) (k : Like p q) (w : Within p q) where
     -- ---- arrivals
     module _ (whole : Whole p) (whole′ : Whole q) (store : List ℕ) where
       abbrev x : State
-      x = record { peer = p; store = store }
+      x = record { peer = p; store = store; second = second }
 
       abbrev y : State
-      y = record { peer = q; store = store }
+      y = record { peer = q; store = store; second = second }
 
       behind-landed : (g h : Gate) (o r : Outcome State) → g ≡ h → (g ≡ Open → Landed o r) → Landed (behind g x o) (behind h y r)
       behind-landed g h o r e rest =

@@ -47,9 +47,9 @@ use Rattle.promises.proofs.Sorts.{Unbegun, Joined, dispatch-joined, rel
 use Rattle.promises.proofs.Sorts.{Before, state-before, outward-before, begin-at, still-newly, receive-shorter}
 
 -- nothing is there after a reset
-fresh-holds : (mtu : ℕ) (k : Kept) (store : List ℕ) → Booked freshLedger (resetState mtu k store)
+fresh-holds : (mtu : ℕ) (k : Kept) (store second : List ℕ) → Booked freshLedger (resetState mtu k store second)
 unfolding freshPeer noLists held count
-fresh-holds mtu k store = record { once = λ f. refl; order = refl }
+fresh-holds mtu k store second = record { once = λ f. refl; order = refl }
 
 -- the ledger after a call that comes to this
 abbrev written : Call → List ℕ → State → Outcome State → Ledger → Ledger
@@ -175,7 +175,7 @@ begin-next s mtu count datagram x l h =
     o = begins s mtu count (x .peer)
 
     y : State
-    y = record { peer = o .after; store = x .store }
+    y = record { peer = o .after; store = x .store; second = x .second }
 
     none : newly x y ≡ []
     none = still-newly x (o .after) (begin-still s mtu count (x .peer))
@@ -193,14 +193,14 @@ call-next (call.SetState state) s datagram x l w h b =
     let q = setsState s state (x .peer) .after in
     let none = still-newly x q (state-still s state (x .peer)) in
     record {
-      sorted = sorted-none l x (record { peer = q; store = x .store }) [] h (λ z. none) (state-before s state (x .peer));
+      sorted = sorted-none l x (record { peer = q; store = x .store; second = x .second }) [] h (λ z. none) (state-before s state (x .peer));
       logs = λ channel. none-log channel (l .joined) _ none;
     }
 call-next (call.Outward c) s datagram x l w h b =
     let q = callsOut s c (x .peer) .after in
     let none = still-newly x q (outward-still s c (x .peer)) in
     record {
-      sorted = sorted-none l x (record { peer = q; store = x .store }) [] h (λ z. none) (outward-before s c (x .peer));
+      sorted = sorted-none l x (record { peer = q; store = x .store; second = x .second }) [] h (λ z. none) (outward-before s c (x .peer));
       logs = λ channel. none-log channel (l .joined) _ none;
     }
 call-next (call.Inward (inw.UnsequencedArrival a group)) s datagram x l w h b =
@@ -266,15 +266,15 @@ run-logs channel (a ∷ rest) x l k =
     ap (reports channel rest (comesTo a x .after)) (call-next (a .call) (a .settings) (a .datagram) x l (k .whole) (k .sorted) b .logs channel)
     ∙ run-logs channel rest (comesTo a x .after) (writes a x l) (asked-stands a x l k)
 
-module _ (mtu : ℕ) (kept : Kept) (store : List ℕ) (calls : List Asked) where
+module _ (mtu : ℕ) (kept : Kept) (store second : List ℕ) (calls : List Asked) where
   abbrev start : State
-  start = resetState mtu kept store
+  start = resetState mtu kept store second
 
   abbrev book : Ledger
   book = ledger calls start freshLedger
 
   fresh-stands : Stands freshLedger start
-  fresh-stands = record { whole = fresh-whole mtu kept; booked = fresh-holds mtu kept store; sorted = fresh-sorted start }
+  fresh-stands = record { whole = fresh-whole mtu kept; booked = fresh-holds mtu kept store second; sorted = fresh-sorted start }
 
   numbered : (channel : ℕ) → numbersOn channel (book .received) ≡ series 0 (length (numbersOn channel (book .received)))
   numbered channel =
@@ -285,17 +285,17 @@ module _ (mtu : ℕ) (kept : Kept) (store : List ℕ) (calls : List Asked) where
       series-front 0 (numbersOn channel (book .received)) (numbersOn channel (ready y)) (length log)
       (sym (numbers-append channel (book .received) (ready y))
       ∙ ap (numbersOn channel) (run-stands calls start freshLedger fresh-stands .booked .order)
-      ∙ sym told ∙ counts-once mtu kept store calls channel)
+      ∙ sym told ∙ counts-once mtu kept store second calls channel)
 
 pub comes-out : ComesOut
-comes-out mtu kept store calls =
-    let k = run-stands calls (resetState mtu kept store) freshLedger (fresh-stands mtu kept store calls) in
-    let l = book mtu kept store calls in
+comes-out mtu kept store second calls =
+    let k = run-stands calls (resetState mtu kept store second) freshLedger (fresh-stands mtu kept store calls) in
+    let l = book mtu kept store second calls in
     record {
       once = k .booked .once;
       order = k .booked .order;
       numbers = λ channel.
-          numbered mtu kept store calls channel
+          numbered mtu kept store second calls channel
           ∙ ap (series 0) (length-map (those (reliableOn channel) (l .received)) (λ (k : Packet). k .number));
-      kinds = all-kinds (l .received) (present (run calls (resetState mtu kept store) .end)) (l .stored) (k .booked .once) (k .sorted .known);
+      kinds = all-kinds (l .received) (present (run calls (resetState mtu kept store second) .end)) (l .stored) (k .booked .once) (k .sorted .known);
     }

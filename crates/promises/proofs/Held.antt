@@ -343,6 +343,6 @@ module _ (channel : ℕ) where
       }
 
 pub nothing-stuck : NothingStuck
-nothing-stuck mtu kept store calls channel m h =
-    let x = resetState mtu kept store in
+nothing-stuck mtu kept store second calls channel m h =
+    let x = resetState mtu kept store second in
     none-ready channel (run calls x .end) (run-orderly channel calls x m (fresh-whole mtu kept) (fresh-orderly channel mtu kept)) h

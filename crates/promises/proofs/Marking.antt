@@ -310,5 +310,5 @@ run-marks (a ∷ rest) x log m =
     (step-marks (a .settings) (a .call) (a .datagram) x log m)
 
 pub marked-exactly : MarkedExactly
-marked-exactly mtu kept store calls g home =
-    run-marks calls (resetState mtu kept store) [] (fresh-marks mtu kept) .exact g home
+marked-exactly mtu kept store second calls g home =
+    run-marks calls (resetState mtu kept store second) [] (fresh-marks mtu kept) .exact g home

@@ -153,9 +153,9 @@ module _ (s : Settings) (a : Arrival) (datagram : List ℕ) (x : State) (w : Who
       })
 
 pub next-delivered : NextDelivered
-next-delivered t kept store calls s a datagram fit m f e =
-    let x = resetState (t .mtu) kept store in
+next-delivered t kept store second calls s a datagram fit m f e =
+    let x = resetState (t .mtu) kept store second in
     let y = run calls x .end in
-    let stands = run-stands calls x (reset-stands t kept store fit) in
+    let stands = run-stands calls x (reset-stands t kept store second fit) in
     delivers s a datagram y (stands .whole) (stands .good)
     (run-orderly (a .channel) calls x m (fresh-whole (t .mtu) kept) (fresh-orderly (a .channel) (t .mtu) kept)) f e

@@ -187,8 +187,8 @@ run-books (a ∷ rest) x b w k =
     (call-books (a .call) (a .settings) (a .datagram) x b w k)
 
 pub none-lost : NoneLost
-none-lost mtu kept store calls =
-    let x = resetState mtu kept store in
+none-lost mtu kept store second calls =
+    let x = resetState mtu kept store second in
     let k = run-books calls x freshOutbook (fresh-whole mtu kept) (fresh-books mtu kept) in
     let b = outbook calls x freshOutbook in
     record {

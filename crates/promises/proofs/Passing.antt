@@ -66,7 +66,7 @@ pub dispatch-passes : (s : Settings) (channel : ℕ) (x : State) → Whole (x .p
 dispatch-passes s channel x whole =
     let p = x .peer in
     let same : Passes x x [] [] = still-passes x p (still p) in
-    let P : Outcome Peer → Type 0 = λ o. Passes x (record { peer = o .after; store = x .store }) [] [] in
+    let P : Outcome Peer → Type 0 = λ o. Passes x (record { peer = o .after; store = x .store; second = x .second }) [] [] in
     behind-has (gateOf (fits s lent.Nothing) (sound p)) p (dispatchesSound channel p) P (λ why. same)
     (λ e. behind-has (dispatchGate channel (p .standing)) p (finished (dispatchedOn channel p)) P (λ why. same)
     (λ own.
@@ -79,7 +79,7 @@ pub receive-passes : (s : Settings) (x : State)
     → let o = beside x (receives s (x .peer)) in Passes x (o .after) [] (handed (o .answer) x)
 receive-passes s x =
     behind-has (gateOf (fits s lent.Nothing) (sound (x .peer))) (x .peer) (receivesSound (x .peer))
-    (λ (o : Outcome Peer). Passes x (record { peer = o .after; store = x .store }) [] (handed (o .answer) x))
+    (λ (o : Outcome Peer). Passes x (record { peer = o .after; store = x .store; second = x .second }) [] (handed (o .answer) x))
     (λ why. rw (refused-one why) (still-passes x (x .peer) (still (x .peer))))
     (λ e. go (inItems (x .peer .lists .dispatched)) refl)
   where

@@ -110,12 +110,12 @@ partsAt store is s = ofSlot (getD is s noIncoming) (take (getD is s noIncoming .
 parts-same : (store : List ℕ) {is js : List Incoming} {xs ys : List ℕ} → is ≡ js → xs ≡ ys → map (partsAt store is) xs ≡ map (partsAt store js) ys
 parts-same store d e = ap₂ (λ (is : List Incoming) (xs : List ℕ). map (partsAt store is) xs) d e
 
-pub still-passes : (x : State) (q : Peer) → Still (x .peer) q → Passes x (record { peer = q; store = x .store }) [] []
+pub still-passes : (x : State) (q : Peer) → Still (x .peer) q → Passes x (record { peer = q; store = x .store; second = x .second }) [] []
 still-passes x q k =
     record {
       once = λ f. ap (λ (ks : List Packet). count f [] + count f ks) (parts-same (x .store) (k .slots) (k .names));
       order =
-          grown x (record { peer = q; store = x .store }) []
+          grown x (record { peer = q; store = x .store; second = x .second }) []
           (parts-same (x .store) (k .slots) (k .items) ∙ sym (append-nil (ready x)));
     }
 
@@ -123,14 +123,14 @@ still-passes x q k =
 pub joins-passes : (x : State) (q : Peer) (js : List ℕ) → q .incoming ≡ x .peer .incoming
     → inItems (q .lists .dispatched) ≡ inItems (x .peer .lists .dispatched) ++ js
     → ((g : List ℕ → ℕ) → Sums g → g (named q) ≡ g (named (x .peer)))
-    → Passes x (record { peer = q; store = x .store }) [] []
+    → Passes x (record { peer = q; store = x .store; second = x .second }) [] []
 joins-passes x q js slots items same =
     record {
       once =
           λ f. ap (λ (ks : List Packet). count f [] + count f ks) (parts-same (x .store) {xs = named q} slots refl)
           ∙ ap (λ (n : ℕ). count f [] + n) (same (passing f x) (passing-adds f x));
       order =
-          grown x (record { peer = q; store = x .store }) (map (packetAt x) js)
+          grown x (record { peer = q; store = x .store; second = x .second }) (map (packetAt x) js)
           (parts-same (x .store) slots items ∙ map-append (packetAt x) (inItems (x .peer .lists .dispatched)) js);
     }
 
@@ -143,7 +143,7 @@ module _ (x : State) (q : Peer) (n : ℕ) (rest others : List ℕ) (slots : q .i
     (before : inItems (x .peer .lists .dispatched) ≡ n ∷ rest) (after : inItems (q .lists .dispatched) ≡ rest)
     (used : named (x .peer) ≡ n ∷ others) (left : named q ≡ others) where
   abbrev y : State
-  y = record { peer = q; store = x .store }
+  y = record { peer = q; store = x .store; second = x .second }
 
   ready-was : ready x ≡ packetAt x n ∷ map (packetAt x) rest
   ready-was = ap (map (packetAt x)) before

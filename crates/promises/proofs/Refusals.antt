@@ -131,7 +131,7 @@ gated-fair k x s lent p rest m n f = go (fits s lent) (sound p) refl
 
 beside-fair : (k : Call) (x : State) (o : Outcome Peer) → Fair k (sound (x .peer)) (x .peer) o → Fair k (sound (x .peer)) x (beside x o)
 beside-fair k x o f =
-    record { number = f .number; kept = λ n e t. ap (λ (p : Peer). record { peer = p; store = x .store }) (f .kept n e t); whole = f .whole }
+    record { number = f .number; kept = λ n e t. ap (λ (p : Peer). record { peer = p; store = x .store; second = x .second }) (f .kept n e t); whole = f .whole }
 
 -- ---- the calls on the record alone
 module _ (s : Settings) (p : Peer) where

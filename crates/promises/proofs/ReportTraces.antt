@@ -78,5 +78,5 @@ trace (own a ∷ ls) x logs w c r =
 trace (again k ∷ ls) x logs w c r = ap (played brings ls) (quiet k x logs c (r .0)) ∙ trace ls x logs w c (r .1)
 
 pub no-trace-reports : NoTraceReports
-no-trace-reports mtu kept store lines r =
-    trace lines (resetState mtu kept store) (λ (channel : ℕ). []) (fresh-whole mtu kept) (λ (channel : ℕ). fresh-counted channel mtu kept) r
+no-trace-reports mtu kept store second lines r =
+    trace lines (resetState mtu kept store second) (λ (channel : ℕ). []) (fresh-whole mtu kept) (λ (channel : ℕ). fresh-counted channel mtu kept) r

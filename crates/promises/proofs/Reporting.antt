@@ -474,7 +474,7 @@ module _ (channel : ℕ) where
       (call-counted (a .call) (a .settings) (a .datagram) x log w c)
 
 pub counts-once : CountsOnce
-counts-once mtu kept store calls channel =
-    let x = resetState mtu kept store in
+counts-once mtu kept store second calls channel =
+    let x = resetState mtu kept store second in
     rises-series 0 (reports channel calls x [])
     (run-rises channel calls x [] (fresh-whole mtu kept) (fresh-counted channel mtu kept))

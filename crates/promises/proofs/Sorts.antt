@@ -369,14 +369,14 @@ slots-joined on x y js e theirs h same =
 pub dispatch-joined : (s : Settings) (channel : ℕ) (x : State) → Whole (x .peer) → Joined channel x (beside x (dispatches s channel (x .peer)) .after)
 dispatch-joined s channel x whole =
     let p = x .peer in
-    let P : Outcome Peer → Type 0 = λ o. Joined channel x (record { peer = o .after; store = x .store }) in
+    let P : Outcome Peer → Type 0 = λ o. Joined channel x (record { peer = o .after; store = x .store; second = x .second }) in
     let same : Joined channel x x = none-joined channel x in
     behind-has (gateOf (fits s lent.Nothing) (sound p)) p (dispatchesSound channel p) P (λ why. same)
     (λ e. behind-has (dispatchGate channel (p .standing)) p (finished (dispatchedOn channel p)) P (λ why. same)
     (λ opens.
     let good = sound-open (fits s lent.Nothing) (sound p) e in
     let h = below-count channel (p .standing) opens in
-    slots-joined channel x (record { peer = dispatchedOn channel p; store = x .store }) _ (dispatch-order channel p whole good h .joined)
+    slots-joined channel x (record { peer = dispatchedOn channel p; store = x .store; second = x .second }) _ (dispatch-order channel p whole good h .joined)
     (moved-own channel p whole good h) h (λ z. z)))
 
 pub reliable-joined : (s : Settings) (a : Arrival) (datagram : List ℕ) (x : State) → Whole (x .peer)
@@ -497,8 +497,8 @@ begin-at s mtu count p =
         record { at = λ d. none; before = λ z. none }
     go false e = record { at = λ d. absurd (omega (arith, d)); before = λ z. z }
 
-pub still-newly : (x : State) (q : Peer) → Still (x .peer) q → newly x (record { peer = q; store = x .store }) ≡ []
-still-newly x q k = none-newly x (record { peer = q; store = x .store }) (omega (arith, ap (λ (ss : List ℕ). length ss) (k .items)))
+pub still-newly : (x : State) (q : Peer) → Still (x .peer) q → newly x (record { peer = q; store = x .store; second = x .second }) ≡ []
+still-newly x q k = none-newly x (record { peer = q; store = x .store; second = x .second }) (omega (arith, ap (λ (ss : List ℕ). length ss) (k .items)))
 
 -- receive takes one off dispatched, and changes no count
 pub record Shorter (x y : State) : Type 0 where
@@ -508,7 +508,7 @@ pub record Shorter (x y : State) : Type 0 where
 pub receive-shorter : (s : Settings) (x : State) → Shorter x (beside x (receives s (x .peer)) .after)
 receive-shorter s x =
     behind-has (gateOf (fits s lent.Nothing) (sound (x .peer))) (x .peer) (receivesSound (x .peer))
-    (λ (o : Outcome Peer). Shorter x (record { peer = o .after; store = x .store }))
+    (λ (o : Outcome Peer). Shorter x (record { peer = o .after; store = x .store; second = x .second }))
     (λ why. record { none = same-newly x; same = λ z. z }) (λ e. go (dispatchedIn x) refl)
   where
     go : (xs : List ℕ) → dispatchedIn x ≡ xs → Shorter x (beside x (receivesFrom (first xs) (x .peer)) .after)
@@ -517,7 +517,7 @@ receive-shorter s x =
         let left = shorter-items (x .peer .lists .dispatched) n rest e in
         record {
           none =
-              none-newly x (record { peer = taken n (x .peer); store = x .store })
+              none-newly x (record { peer = taken n (x .peer); store = x .store; second = x .second })
               (omega (arith, ap (λ (ss : List ℕ). length ss) e, ap (λ (ss : List ℕ). length ss) left));
           same = λ z. z;
         }

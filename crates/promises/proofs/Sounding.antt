@@ -35,7 +35,7 @@ use Rattle.promises.specs.Standing.{StaysSound, Undamaged, NeverDamaged}
 
 -- a call of the link on a record, beside a store
 abbrev on : Settings → Call → List ℕ → List ℕ → Peer → Outcome Peer
-on s c datagram store p = onPeer (calls s c datagram (record { peer = p; store = store }))
+on s c datagram store p = onPeer (calls s c datagram (record { peer = p; store = store; second = second }))
 
 pub call-sounds : (s : Settings) (c : Call) (datagram store : List ℕ) → Sounds (on s c datagram store)
 call-sounds s call.Reset datagram store = reset-sounds s
@@ -84,11 +84,11 @@ fresh-good s k e =
     ∙ ap (λ (b : Bool). sound (pick b (finished (freshPeer (s .mtu) (kept p))) (unchanged OutOfRange p) .after)) (sym e)
     ∙ r
 
-pub reset-stands : (s : Settings) (k : Kept) (store : List ℕ) → fitSettings s ≡ true → Standing (resetState (s .mtu) k store)
-reset-stands s k store e = record { whole = fresh-whole (s .mtu) k; good = fresh-good s k e }
+pub reset-stands : (s : Settings) (k : Kept) (store second : List ℕ) → fitSettings s ≡ true → Standing (resetState (s .mtu) k store second)
+reset-stands s k store second e = record { whole = fresh-whole (s .mtu) k; good = fresh-good s k e }
 
 pub stays-sound : StaysSound
-stays-sound s k store calls e = run-stands calls (resetState (s .mtu) k store) (reset-stands s k store e) .good
+stays-sound s k store calls e = run-stands calls (resetState (s .mtu) k store second) (reset-stands s k store second e) .good
 
 run-undamaged : (calls : List Asked) (x : State) → Standing x → Undamaged (run calls x .answers)
 unfolding run
@@ -97,4 +97,4 @@ run-undamaged (a ∷ rest) x k =
     (sound-undamaged (a .settings) (a .call) (a .datagram) x (k .good), run-undamaged rest (comesTo a x .after) (asked-stands a x k))
 
 pub never-damaged : NeverDamaged
-never-damaged s k store calls e = run-undamaged calls (resetState (s .mtu) k store) (reset-stands s k store e)
+never-damaged s k store calls e = run-undamaged calls (resetState (s .mtu) k store second) (reset-stands s k store second e)

@@ -75,8 +75,8 @@ pub step-holds : (a : Asked) (x : State) (log : List Event) → InRange (concern
     → Holds (windowOf (comesTo a x .after)) (logged a x log)
 step-holds a x log i h = holds-after (call-does (a .call) (a .settings) (a .datagram) x log i) h
 
-pub reset-holds : (mtu : ℕ) (k : Kept) (store : List ℕ) → Holds (windowOf (resetState mtu k store)) []
-reset-holds mtu k store = rw (fresh-window mtu k) (fresh-holds [] empty-never)
+pub reset-holds : (mtu : ℕ) (k : Kept) (store second : List ℕ) → Holds (windowOf (resetState mtu k store second)) []
+reset-holds mtu k store second = rw (fresh-window mtu k) (fresh-holds [] empty-never)
 
 pub run-holds : (calls : List Asked) (x : State) (log : List Event) → AllInRange calls → Holds (windowOf x) log
     → Holds (windowOf (run calls x .end)) (history calls x log)

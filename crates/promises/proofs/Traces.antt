@@ -50,7 +50,7 @@ trace (again k ∷ ls) x log i h r =
     ∙ quietly k x (run (original ls)) (quiet k x n)
 
 pub no-trace : NoTrace
-no-trace mtu kept store lines i r = trace lines (resetState mtu kept store) [] i (reset-holds mtu kept store) r
+no-trace mtu kept store second lines i r = trace lines (resetState mtu kept store second) [] i (reset-holds mtu kept store second) r
 
 trace-original : (ls : List (Line Insertion)) (x : State) (log : List Event) → AllInRange (original ls) → Holds (windowOf x) log
     → RepeatsOriginal ls x log → played arrives ls x ≡ run (original ls) x
@@ -62,7 +62,7 @@ trace-original (again k ∷ ls) x log i h r =
     quietly k x (played arrives ls) (quiet k x (near x log (k .group .0) h (r .0))) ∙ trace-original ls x log i h (r .1)
 
 pub no-trace-original : NoTraceOriginal
-no-trace-original mtu kept store lines i r = trace-original lines (resetState mtu kept store) [] i (reset-holds mtu kept store) r
+no-trace-original mtu kept store second lines i r = trace-original lines (resetState mtu kept store second) [] i (reset-holds mtu kept store second) r
 
 -- a stored arrival took its group
 never-both : (b : Bool) → b ≡ true → b ≡ false → ⊥
@@ -82,6 +82,6 @@ apart-after k y log m small h e t =
     (stored-took k y (arrival-lands (k .settings) (k .arrival) (k .group) (k .datagram) y small) t) (h .regular)
 
 pub far-apart : FarApart
-far-apart mtu kept store calls k m i e t =
-    let x = resetState mtu kept store in
-    apart-after k (run calls x .end) (history calls x []) m (i .0) (run-holds calls x [] (i .1) (reset-holds mtu kept store)) e t
+far-apart mtu kept store second calls k m i e t =
+    let x = resetState mtu kept store second in
+    apart-after k (run calls x .end) (history calls x []) m (i .0) (run-holds calls x [] (i .1) (reset-holds mtu kept store second)) e t

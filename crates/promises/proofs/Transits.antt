@@ -139,4 +139,4 @@ run-carries [] x h c = c
 run-carries (a ∷ rest) x h c = run-carries rest (comesTo a x .after) (h .1) (call-carries (a .call) (a .settings) (a .datagram) x (h .0) c)
 
 pub in-transit : InTransit
-in-transit mtu kept store calls h = run-carries calls (resetState mtu kept store) h (fresh-carries mtu kept) .is
+in-transit mtu kept store calls h = run-carries calls (resetState mtu kept store second) h (fresh-carries mtu kept) .is

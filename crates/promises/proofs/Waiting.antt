@@ -102,4 +102,4 @@ unfolding freshPeer
 fresh-holds mtu k = refl
 
 pub waits : Waits
-waits mtu kept store calls = run-holds calls (resetState mtu kept store) freshTally (fresh-whole mtu kept) (fresh-holds mtu kept)
+waits mtu kept store calls = run-holds calls (resetState mtu kept store second) freshTally (fresh-whole mtu kept) (fresh-holds mtu kept)

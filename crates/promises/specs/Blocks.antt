@@ -90,23 +90,21 @@ pub record IsPieceOf (packet : List ℕ) (cut : Cut) (a : Piece) (datagram : Lis
   pub write : pieceWritten a datagram ≡ pieceWrite cut packet (a .fragment .number)
 
 -- every piece that comes on a channel under a start is one of them
-abbrev pub OnlyPieces : ℕ → ℕ → List ℕ → Cut → Asked → Type 0
-OnlyPieces channel start packet cut k = byCall (k .call)
-  where
-    abbrev byCall : Call → Type 0
-    byCall (call.Inward (inw.FragmentArrival a)) = a .channel ≡ channel → a .start .0 ≡ start → IsPieceOf packet cut a (k .datagram)
-    byCall (call.Inward (inw.UnsequencedArrival a group)) = Unit {0}
-    byCall (call.Inward (inw.ReliableArrival a)) = Unit {0}
-    byCall (call.Inward (inw.Dispatch c)) = Unit {0}
-    byCall (call.Inward inw.Receive) = Unit {0}
-    byCall call.Reset = Unit {0}
-    byCall (call.Begin mtu channels) = Unit {0}
-    byCall (call.SetState state) = Unit {0}
-    byCall (call.Outward c) = Unit {0}
+abbrev pub OnlyPieces : ℕ → ℕ → List ℕ → Cut → Call → List ℕ → Type 0
+OnlyPieces channel start packet cut (call.Inward (inw.FragmentArrival a)) datagram =
+    a .channel ≡ channel → a .start .0 ≡ start → IsPieceOf packet cut a datagram
+OnlyPieces channel start packet cut (call.Inward (inw.UnsequencedArrival a group)) datagram = Unit {0}
+OnlyPieces channel start packet cut (call.Inward (inw.ReliableArrival a)) datagram = Unit {0}
+OnlyPieces channel start packet cut (call.Inward (inw.Dispatch c)) datagram = Unit {0}
+OnlyPieces channel start packet cut (call.Inward inw.Receive) datagram = Unit {0}
+OnlyPieces channel start packet cut call.Reset datagram = Unit {0}
+OnlyPieces channel start packet cut (call.Begin mtu channels) datagram = Unit {0}
+OnlyPieces channel start packet cut (call.SetState state) datagram = Unit {0}
+OnlyPieces channel start packet cut (call.Outward c) datagram = Unit {0}
 
 abbrev pub AllOnly : ℕ → ℕ → List ℕ → Cut → List Asked → Type 0
 AllOnly channel start packet cut [] = Unit {0}
-AllOnly channel start packet cut (a ∷ rest) = OnlyPieces channel start packet cut a × AllOnly channel start packet cut rest
+AllOnly channel start packet cut (a ∷ rest) = OnlyPieces channel start packet cut (a .call) (a .datagram) × AllOnly channel start packet cut rest
 
 -- a block of that channel and start
 abbrev pub isBlockOf : ℕ → ℕ → Packet → Bool

@@ -76,20 +76,17 @@ abbrev pub withWrite : First → ℕ → Write → Building → Building
 withWrite Empty byte w b = record { byte = byte; writes = w ∷ [] }
 withWrite (Slot n) byte w b = record { byte = b .byte; writes = b .writes ++ (w ∷ []) }
 
-abbrev pub builds : Asked → State → Answer → Building → Building
-builds a x w b = byCall (a .call)
-  where
-    abbrev byCall : Call → Building
-    byCall (call.Inward (inw.FragmentArrival k)) =
-        pick (saysOne w) (withWrite (unfinishedOn k (x .peer)) (k .byte) (pieceWritten k (a .datagram)) b) b
-    byCall (call.Inward (inw.UnsequencedArrival k group)) = b
-    byCall (call.Inward (inw.ReliableArrival k)) = b
-    byCall (call.Inward (inw.Dispatch channel)) = b
-    byCall (call.Inward inw.Receive) = b
-    byCall call.Reset = b
-    byCall (call.Begin mtu channels) = b
-    byCall (call.SetState state) = b
-    byCall (call.Outward c) = b
+abbrev pub builds : Call → List ℕ → State → Answer → Building → Building
+builds (call.Inward (inw.FragmentArrival a)) datagram x w b =
+    pick (saysOne w) (withWrite (unfinishedOn a (x .peer)) (a .byte) (pieceWritten a datagram) b) b
+builds (call.Inward (inw.UnsequencedArrival a group)) datagram x w b = b
+builds (call.Inward (inw.ReliableArrival a)) datagram x w b = b
+builds (call.Inward (inw.Dispatch channel)) datagram x w b = b
+builds (call.Inward inw.Receive) datagram x w b = b
+builds call.Reset datagram x w b = b
+builds (call.Begin mtu channels) datagram x w b = b
+builds (call.SetState state) datagram x w b = b
+builds (call.Outward c) datagram x w b = b
 
 -- the block of these writes, over zeros
 abbrev pub blockBuilt : Piece → Building → Packet
@@ -131,7 +128,7 @@ newly x y = drop (length (ready x)) (ready y)
 
 abbrev pub entered : Asked → State → Outcome State → Ledger → Ledger
 entered a x o l =
-    let b = builds a x (o .answer) (l .building) in
+    let b = builds (a .call) (a .datagram) x (o .answer) (l .building) in
     record {
       stored = l .stored ++ putIn (a .call) (o .answer) (a .datagram) b;
       joined = l .joined ++ newly x (o .after);
