@@ -11,7 +11,7 @@ use Rattle.window.specs.Window.{marked, marking}
 use Rattle.cells.specs.Free.{firstFrom, exist, once}
 use Rattle.record.specs.Fresh.{noLists, noChannel, noOutgoing, noIncoming}
 use Rattle.record.specs.Damage.{all, held, heldFit, own as ownSlots, lengths}
-use Rattle.record.specs.Sizes.{storeLength}
+use Rattle.record.specs.Sizes.{secondLength, storeLength}
 use Rattle.peer.specs.Fresh.{freshPeer}
 use Rattle.peer.specs.Damage.{sound}
 use Rattle.peer.specs.Outcome.{State}
@@ -33,7 +33,7 @@ abbrev nobody : Kept
 nobody = record { «incoming_peer» = 0; «outgoing_session» = 0; «incoming_session» = 0; reserved = 0; queued = 0 }
 
 abbrev start : State
-start = resetState 1392 nobody (replicate storeLength 0)
+start = resetState 1392 nobody (replicate storeLength 0) (replicate secondLength 0)
 
 abbrev asks : Call → Asked
 asks c = record { settings = settings; call = c; datagram = [] }

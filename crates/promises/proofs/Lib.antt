@@ -1,3 +1,4 @@
+pub mod Pieces
 pub mod Answers
 pub mod Picks
 pub mod Refusals
@@ -29,6 +30,7 @@ pub mod OutCounts
 pub mod OutQueues
 pub mod OutLeaving
 pub mod OutAside
+pub mod PieceAside
 pub mod OutSetting
 pub mod OutNumbers
 pub mod OutbookLaws

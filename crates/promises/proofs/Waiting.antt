@@ -34,10 +34,10 @@ use Rattle.link.specs.Runs.{Asked, comesTo, saysOne, run, resetState}
 use Rattle.link_in.specs.declared.calls.Call.the-variants as inw
 use Rattle.link.specs.declared.calls.Call.{Call}
 use Rattle.link.specs.declared.calls.Call.the-variants as call
-use Rattle.promises.specs.Standing.{Tally, freshTally, stores, counts, tallied, Waits}
+use Rattle.promises.specs.Standing.{Tally, freshTally, stores, begins as first, handsOut, counts, tallied, Waits}
 use Rattle.promises.proofs.Sending.{outward-steady}
 use Rattle.promises.proofs.Sounding.{fresh-whole, call-sounds}
-use Rattle.promises.proofs.Answers.{Says, unsequenced-says, reliable-says, one-stored, one-not, receive-none}
+use Rattle.promises.proofs.Answers.{Says, unsequenced-says, reliable-says, fragment-says, one-stored, one-not, receive-none}
 
 abbrev Holds : Peer → Tally → Type 0
 Holds p t = p .waiting .total + t .received ≡ t .stored
@@ -46,12 +46,12 @@ same-holds : (p q : Peer) (t : Tally) → q .waiting .total ≡ p .waiting .tota
 same-holds p q t e h = ap (λ (n : ℕ). n + t .received) e ∙ h
 
 reset-holds : (s : Settings) (x : State) (t : Tally) → Holds (x .peer) t
-    → let o = beside x (resets s (x .peer)) in Holds (o .after .peer) (counts call.Reset (o .answer) t)
+    → let o = beside x (resets s (x .peer)) in Holds (o .after .peer) (counts call.Reset x (o .answer) t)
 unfolding freshPeer
 reset-holds s x t h = go (fitSettings s)
   where
     go : (b : Bool) → let o = beside x (pick b (finished (freshPeer (s .mtu) (kept (x .peer)))) (unchanged OutOfRange (x .peer))) in
-        Holds (o .after .peer) (counts call.Reset (o .answer) t)
+        Holds (o .after .peer) (counts call.Reset x (o .answer) t)
     go true = refl
     go false = h
 
@@ -63,20 +63,21 @@ arrival-holds a datagram x o t (takes k is) says h = rw (one-stored (o .answer) 
 
 -- a receive: a packet, or nothing
 receive-holds : (s : Settings) (x : State) (t : Tally) → Holds (x .peer) t
-    → let o = beside x (receives s (x .peer)) in Holds (o .after .peer) (counts (call.Inward inw.Receive) (o .answer) t)
+    → let o = beside x (receives s (x .peer)) in Holds (o .after .peer) (counts (call.Inward inw.Receive) x (o .answer) t)
 receive-holds s x t h = go (receive-lowers s (x .peer))
   where
     go : Lowers (x .peer) (receives s (x .peer))
-        → let o = beside x (receives s (x .peer)) in Holds (o .after .peer) (counts (call.Inward inw.Receive) (o .answer) t)
+        → let o = beside x (receives s (x .peer)) in Holds (o .after .peer) (counts (call.Inward inw.Receive) x (o .answer) t)
     go (stays e not) =
         rw (receive-none s (x .peer) not) (same-holds (x .peer) (receives s (x .peer) .after) t e h)
     go (lowers channel cell long is e) =
-        let one : saysOne (receives s (x .peer) .answer) ≡ true = ap saysOne is in
-        let n : getD (numbersOf (receives s (x .peer) .answer)) 3 0 ≡ long = ap (λ (a : Answer). getD (numbersOf a) 3 0) is in
-        rw one (omega (arith, e, h, n))
+        let out : handsOut (receives s (x .peer) .answer) ≡ true = ⊎-elim (λ q. ap handsOut q) (λ q. ap handsOut q) is in
+        let n : getD (numbersOf (receives s (x .peer) .answer)) 3 0 ≡ long =
+        ⊎-elim (λ q. ap (λ (a : Answer). getD (numbersOf a) 3 0) q) (λ q. ap (λ (a : Answer). getD (numbersOf a) 3 0) q) is in
+        rw out (omega (arith, e, h, n))
 
 call-holds : (c : Call) (s : Settings) (datagram : List ℕ) (x : State) (t : Tally) → Whole (x .peer) → Holds (x .peer) t
-    → let o = calls s c datagram x in Holds (o .after .peer) (counts c (o .answer) t)
+    → let o = calls s c datagram x in Holds (o .after .peer) (counts c x (o .answer) t)
 call-holds call.Reset s datagram x t w h = reset-holds s x t h
 call-holds (call.Begin mtu channels) s datagram x t w h = same-holds (x .peer) (begins s mtu channels (x .peer) .after) t (begin-steady s mtu channels (x .peer) .total) h
 call-holds (call.SetState state) s datagram x t w h = same-holds (x .peer) (setsState s state (x .peer) .after) t (state-steady s state (x .peer) .total) h
@@ -85,6 +86,7 @@ call-holds (call.Inward (inw.UnsequencedArrival a group)) s datagram x t w h =
     arrival-holds a datagram x (arrivesUnsequenced s a group datagram x) t (unsequenced-stores s a group datagram x w) (unsequenced-says s a datagram x group) h
 call-holds (call.Inward (inw.ReliableArrival a)) s datagram x t w h =
     arrival-holds a datagram x (arrivesReliable s a datagram x) t (reliable-stores s a datagram x w) (reliable-says s a datagram x) h
+call-holds (call.Inward (inw.FragmentArrival a)) s datagram x t w h = fragment-holds s a datagram x t w h
 call-holds (call.Inward (inw.Dispatch channel)) s datagram x t w h = same-holds (x .peer) (dispatches s channel (x .peer) .after) t (dispatch-steady s channel (x .peer) .total) h
 call-holds (call.Inward inw.Receive) s datagram x t w h = receive-holds s x t h
 
@@ -93,8 +95,8 @@ run-holds : (calls : List Asked) (x : State) (t : Tally) → Whole (x .peer) →
 unfolding run tallied
 run-holds [] x t w h = h
 run-holds (a ∷ rest) x t w h =
-    run-holds rest (comesTo a x .after) (counts (a .call) (comesTo a x .answer) t)
-    (call-sounds (a .settings) (a .call) (a .datagram) (x .store) .whole (x .peer) w)
+    run-holds rest (comesTo a x .after) (counts (a .call) x (comesTo a x .answer) t)
+    (call-sounds (a .settings) (a .call) (a .datagram) (x .store) (x .second) .whole (x .peer) w)
     (call-holds (a .call) (a .settings) (a .datagram) x t w h)
 
 fresh-holds : (mtu : ℕ) (k : Kept) → Holds (freshPeer mtu k) freshTally
@@ -102,4 +104,4 @@ unfolding freshPeer
 fresh-holds mtu k = refl
 
 pub waits : Waits
-waits mtu kept store calls = run-holds calls (resetState mtu kept store second) freshTally (fresh-whole mtu kept) (fresh-holds mtu kept)
+waits mtu kept store second calls = run-holds calls (resetState mtu kept store second) freshTally (fresh-whole mtu kept) (fresh-holds mtu kept)
