@@ -10,6 +10,7 @@ pub mod Holding
 pub mod Reliable
 pub mod Fates
 pub mod Pieced
+pub mod Fragments
 pub mod Landing
 pub mod Stores
 pub mod SameViews
