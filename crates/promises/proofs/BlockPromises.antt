@@ -1,19 +1,17 @@
 -- What is promised of blocks and can be read off the rule (promises/specs/Blocks): whole exactly when all pieces are marked (`block-whole`), a marked piece changes
--- nothing (`marked-changes-nothing`), 8 is a first piece's alone (`eight-first`), and only a stored piece changes the second store (`second-kept`).
+-- nothing (`marked-changes-nothing`), and only a stored piece changes the second store (`second-kept`).
 -- The argument: the fate's cases in their order; in a sound record a block's numbers and marks belong together, and then blocks' `complete` and `marked-complete` hold.
-use Prim.Native.Nat.{ℕ, _<_}
+use Prim.Native.Nat.{ℕ}
 use mathlib.Core.Path.{_≡_, refl, ap, sym, _∙_}
 use mathlib.Core.Bool.{Bool, true, false, false≢true}
 use mathlib.Core.List.{List, [], _∷_}
 use mathlib.Core.Logic.{_⊎_, inl, inr}
-use native.Mathlib.Omega.{arith}
 use lib.Dec.{eqb, ltb, leb}
-use lib.ListN.{length, getD}
+use lib.ListN.{getD}
 use Rattle.numbers.specs.Pick.{pick, both}
-use Rattle.numbers.specs.Answers.{numberOf}
-use Rattle.numbers.specs.declared.refusals.Refusal.{Refusal}
-use Rattle.numbers.specs.declared.refusals.Refusal.the-variants.{NotReceiving, LengthTooLarge, BadCommand}
-use Rattle.numbers.proofs.BoolLaws.{both-left}
+use Rattle.numbers.specs.declared.counters.Group.{Group}
+use borrow.Author.Tests.{eqb-true}
+use Rattle.numbers.proofs.BoolLaws.{both-left, both-right}
 use Rattle.cells.specs.Runs.{has}
 use Rattle.cells.specs.declared.First.{First}
 use Rattle.cells.specs.declared.First.the-variants.{Slot, Empty}
@@ -31,21 +29,23 @@ use Rattle.peer.specs.Outcome.{State, Outcome}
 use Rattle.peer.specs.declared.settings.Settings.{Settings}
 use Rattle.peer.specs.declared.Peer.{Peer}
 use Rattle.peer.proofs.InClauses.{incoming-clauses}
-use Rattle.arrival.specs.Arrivals.{answerOf, roomOf}
+use Rattle.arrival.specs.Arrivals.{roomOf}
+use Rattle.arrival.specs.declared.Arrival.{Arrival}
 use Rattle.arrival.specs.declared.Fate.{Fate as Room}
 use Rattle.arrival.specs.declared.Fate.the-variants as room
+use Rattle.arrive_unsequenced.specs.Calls.{arrivesUnsequenced}
 use Rattle.arrive_reliable.specs.Holding.{isPassed}
-use Rattle.arrive_fragment.specs.Pieces.{channelOf, unfinishedOn, anyBlock, opens, firstFate, laterFate, fateBy, fateOn, replyOf}
+use Rattle.arrive_reliable.specs.Calls.{arrivesReliable}
+use Rattle.laws.proofs.Unsequenced.{unsequenced-has}
+use Rattle.laws.proofs.Reliable.{reliable-has}
+use Rattle.arrive_fragment.specs.Pieces.{channelOf, unfinishedOn, anyBlock, opens, firstFate, laterFate, fateBy, fateOn}
 use Rattle.arrive_fragment.specs.Calls.{fragmentAfter, arrivesFragment}
 use Rattle.arrive_fragment.specs.declared.Piece.{Piece}
 use Rattle.arrive_fragment.specs.declared.Fate.{Fate}
 use Rattle.arrive_fragment.specs.declared.Fate.the-variants as fate
-use Rattle.link.specs.Steps.{calls}
-use Rattle.link.specs.Runs.{saysOne}
 use Rattle.link_in.specs.declared.calls.Call.the-variants as inw
-use Rattle.link.specs.declared.calls.Call.{Call}
 use Rattle.link.specs.declared.calls.Call.the-variants as call
-use Rattle.promises.specs.Blocks.{AllMarked, WholeWhenMarked, BlockWhole, MarkedChangesNothing, FirstAlone, EightFirst, pieceLaid, LaysPiece, SecondKept}
+use Rattle.promises.specs.Blocks.{BlockWhole, MarkedChangesNothing, pieceLaid, LaysPiece, SecondKept}
 use Rattle.promises.proofs.Pieces.{outcomeBy, fragment-by}
 
 -- ---- a test of every slot of a list, at one that the list has
@@ -92,8 +92,8 @@ module _ (s : Settings) (a : Piece) (p : Peer) where
     passed : Goes fate.Passed
     unfit : Goes fate.Unfit
     full : unfinishedOn a p ≡ Empty → Goes fate.NoRoom
-    first : (n : ℕ) → unfinishedOn a p ≡ Empty → Goes (fate.First n)
-    later : (n : ℕ) → unfinishedOn a p ≡ Slot n → Goes (fate.Later n)
+    first-piece : (n : ℕ) → unfinishedOn a p ≡ Empty → Goes (fate.First n)
+    later-piece : (n : ℕ) → unfinishedOn a p ≡ Slot n → Goes (fate.Later n)
 
   pub goes : Goes (fateOn s a p)
   goes = by-state Goes passed (by (unfinishedOn a p) refl)
@@ -102,7 +102,7 @@ module _ (s : Settings) (a : Piece) (p : Peer) where
       room-goes e another room.Passed = passed
       room-goes e another room.NoRoom = full e
       room-goes e true (room.Stored n) = full e
-      room-goes e false (room.Stored n) = first n e
+      room-goes e false (room.Stored n) = first-piece n e
 
       first-goes : (e : unfinishedOn a p ≡ Empty) (over fit : Bool) → Goes (firstFate over fit (anyBlock p) (roomOf s p))
       first-goes e true fit = passed
@@ -111,7 +111,7 @@ module _ (s : Settings) (a : Piece) (p : Peer) where
 
       later-goes : (n : ℕ) (e : unfinishedOn a p ≡ Slot n) (fit marked : Bool) → Goes (laterFate fit marked n)
       later-goes n e true true = passed
-      later-goes n e true false = later n e
+      later-goes n e true false = later-piece n e
       later-goes n e false marked = unfit
 
       by : (b : First) → unfinishedOn a p ≡ b → Goes (fateBy b s a p)
@@ -125,10 +125,39 @@ marked-changes-nothing s a datagram x n is marked =
     fragment-by s a datagram x (λ (o : Outcome State). o .after ≡ x) (λ why. refl)
     (marked-fate s a (x .peer) n is marked (λ (f : Fate). fragmentAfter f a datagram x ≡ x) refl refl)
 
--- ---- 8
-pub eight-first : EightFirst
-eight-first s a datagram x z = go (fateOn s a (x .peer)) (goes s a (x .peer)) refl z
+-- ---- the second store
+second-by : (s : Settings) (a : Piece) (datagram : List ℕ) (x : State) → let o = arrivesFragment s a datagram x in
+    (o .after .second ≡ x .second) ⊎ LaysPiece (call.Inward (inw.FragmentArrival a)) datagram x o
+second-by s a datagram x =
+    fragment-by s a datagram x (λ (o : Outcome State). (o .after .second ≡ x .second) ⊎ LaysPiece (call.Inward (inw.FragmentArrival a)) datagram x o)
+    (λ why. inl refl) (by (fateOn s a (x .peer)) (goes s a (x .peer)))
   where
-    go : (f : Fate) → Goes s a (x .peer) f → fateOn s a (x .peer) ≡ f → arrivesFragment s a datagram x .answer .number ≡ 8
-        → FirstAlone a x (arrivesFragment s a datagram x)
-    go f g e z = ?
+    by : (f : Fate) → Goes s a (x .peer) f → let o = outcomeBy s a datagram x f in
+        (o .after .second ≡ x .second) ⊎ LaysPiece (call.Inward (inw.FragmentArrival a)) datagram x o
+    by f passed = inl refl
+    by f unfit = inl refl
+    by f (full e) = inl refl
+    by f (first-piece n e) =
+        inr (record { piece = a; is = refl; stored = refl; second = sym (ap (λ (b : First). pieceLaid b a datagram (x .second)) e) })
+    by f (later-piece n e) =
+        inr (record { piece = a; is = refl; stored = refl; second = sym (ap (λ (b : First). pieceLaid b a datagram (x .second)) e) })
+
+-- an arrival of a whole packet leaves it
+unsequenced-second : (s : Settings) (a : Arrival) (g : Group) (datagram : List ℕ) (x : State) → arrivesUnsequenced s a g datagram x .after .second ≡ x .second
+unsequenced-second s a g datagram x =
+    unsequenced-has s a g datagram x (λ (o : Outcome State). o .after .second ≡ x .second) (λ why. refl) (λ good e. refl) (λ good e. refl) (λ n good long may e. refl)
+
+reliable-second : (s : Settings) (a : Arrival) (datagram : List ℕ) (x : State) → arrivesReliable s a datagram x .after .second ≡ x .second
+reliable-second s a datagram x =
+    reliable-has s a datagram x (λ (o : Outcome State). o .after .second ≡ x .second) (λ why. refl) (λ good e. refl) (λ n good long may e. refl)
+
+pub second-kept : SecondKept
+second-kept s call.Reset datagram x = inl refl
+second-kept s (call.Begin mtu channels) datagram x = inl refl
+second-kept s (call.SetState state) datagram x = inl refl
+second-kept s (call.Outward c) datagram x = inl refl
+second-kept s (call.Inward (inw.UnsequencedArrival a g)) datagram x = inl (unsequenced-second s a g datagram x)
+second-kept s (call.Inward (inw.ReliableArrival a)) datagram x = inl (reliable-second s a datagram x)
+second-kept s (call.Inward (inw.FragmentArrival a)) datagram x = second-by s a datagram x
+second-kept s (call.Inward (inw.Dispatch channel)) datagram x = inl refl
+second-kept s (call.Inward inw.Receive) datagram x = inl refl

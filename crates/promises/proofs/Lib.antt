@@ -18,6 +18,7 @@ pub mod Comings
 pub mod Examples
 pub mod Fitting
 pub mod Marking
+pub mod BlockPromises
 pub mod Eight
 pub mod ReportTraces
 pub mod Transits
