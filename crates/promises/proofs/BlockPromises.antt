@@ -52,11 +52,11 @@ use Rattle.promises.proofs.Pieces.{outcomeBy, fragment-by}
 all-has : (f : ℕ → Bool) (xs : List ℕ) (n : ℕ) → all f xs ≡ true → has xs n ≡ true → f n ≡ true
 unfolding all
 all-has f [] n e h = absurd (false≢true h)
-all-has f (x ∷ xs) n e h = go (eqb x n) refl h
+all-has f (x ∷ xs) n e h = go (all-has f xs n (both-right (f x) (all f xs) e)) (eqb x n) refl h
   where
-    go : (b : Bool) → eqb x n ≡ b → pick b true (has xs n) ≡ true → f n ≡ true
-    go true t m = rw (eqb-true x n t) at (both-left (f x) (all f xs) e)
-    go false t m = all-has f xs n (both-right (f x) (all f xs) e) m
+    go : (has xs n ≡ true → f n ≡ true) → (b : Bool) → eqb x n ≡ b → pick b true (has xs n) ≡ true → f n ≡ true
+    go rest true t m = rw (eqb-true x n t) at (both-left (f x) (all f xs) e)
+    go rest false t m = rest m
 
 pub block-whole : BlockWhole
 block-whole p n good there block =

@@ -5,10 +5,11 @@ use Prim.Native.Nat.{ℕ, _+_}
 use mathlib.Core.Path.{_≡_, refl, ap, _∙_}
 use mathlib.Core.Bool.{Bool, true, false}
 use mathlib.Core.List.{List, [], _∷_}
+use mathlib.Core.Logic.{⊎-elim}
 use native.Mathlib.Omega.{arith}
 use lib.ListN.{getD}
 use Rattle.numbers.specs.Pick.{pick}
-use Rattle.numbers.specs.Answers.{Answer, numbersOf}
+use Rattle.numbers.specs.Answers.{Answer, refused, numbersOf}
 use Rattle.numbers.specs.declared.refusals.Refusal.the-variants.{OutOfRange}
 use Rattle.peer.specs.Sounds.{Whole}
 use Rattle.peer.specs.Settings.{fitSettings}
@@ -22,6 +23,16 @@ use Rattle.dispatch.specs.Calls.{dispatches}
 use Rattle.arrival.specs.declared.Arrival.{Arrival}
 use Rattle.laws.specs.Stores.{Arrives, leaves, stores as takes}
 use Rattle.laws.proofs.Stores.{unsequenced-stores, reliable-stores}
+use Rattle.laws.proofs.Fates.{first-piece, later-piece}
+use Rattle.laws.proofs.Fragments.{fragment-has}
+use Rattle.laws.proofs.FragmentStores.{finished-waiting, first-total}
+use Rattle.cells.specs.declared.First.{First}
+use Rattle.cells.specs.declared.First.the-variants.{Slot, Empty}
+use Rattle.record.specs.declared.groups.Waiting.{Waiting}
+use Rattle.arrival.specs.Arrivals.{passedOver}
+use Rattle.arrive_fragment.specs.Pieces.{unfinishedOn}
+use Rattle.arrive_fragment.specs.Calls.{openedOn, piecedOn, arrivesFragment}
+use Rattle.arrive_fragment.specs.declared.Piece.{Piece}
 use Rattle.arrive_unsequenced.specs.Calls.{arrivesUnsequenced}
 use Rattle.arrive_reliable.specs.Calls.{arrivesReliable}
 use Rattle.receive.specs.Calls.{receives}
@@ -34,10 +45,10 @@ use Rattle.link.specs.Runs.{Asked, comesTo, saysOne, run, resetState}
 use Rattle.link_in.specs.declared.calls.Call.the-variants as inw
 use Rattle.link.specs.declared.calls.Call.{Call}
 use Rattle.link.specs.declared.calls.Call.the-variants as call
-use Rattle.promises.specs.Standing.{Tally, freshTally, stores, begins as first, handsOut, counts, tallied, Waits}
+use Rattle.promises.specs.Standing.{Tally, freshTally, stores, begins as begun, handsOut, counts, tallied, Waits}
 use Rattle.promises.proofs.Sending.{outward-steady}
 use Rattle.promises.proofs.Sounding.{fresh-whole, call-sounds}
-use Rattle.promises.proofs.Answers.{Says, unsequenced-says, reliable-says, fragment-says, one-stored, one-not, receive-none}
+use Rattle.promises.proofs.Answers.{Says, unsequenced-says, reliable-says, refused-one, one-stored, one-not, receive-none}
 
 abbrev Holds : Peer → Tally → Type 0
 Holds p t = p .waiting .total + t .received ≡ t .stored
@@ -75,6 +86,26 @@ receive-holds s x t h = go (receive-lowers s (x .peer))
         let n : getD (numbersOf (receives s (x .peer) .answer)) 3 0 ≡ long =
         ⊎-elim (λ q. ap (λ (a : Answer). getD (numbersOf a) 3 0) q) (λ q. ap (λ (a : Answer). getD (numbersOf a) 3 0) q) is in
         rw out (omega (arith, e, h, n))
+
+-- a piece: a first one that is stored adds the block's total, a later one nothing
+fragment-holds : (s : Settings) (a : Piece) (datagram : List ℕ) (x : State) (t : Tally) → Whole (x .peer) → Holds (x .peer) t
+    → let o = arrivesFragment s a datagram x in Holds (o .after .peer) (counts (call.Inward (inw.FragmentArrival a)) x (o .answer) t)
+fragment-holds s a datagram x t w h =
+    fragment-has s a datagram x (λ (o : Outcome State). Holds (o .after .peer) (counts (call.Inward (inw.FragmentArrival a)) x (o .answer) t))
+    (λ why. same (unfinishedOn a (x .peer)) (refused why) (refused-one why)) (λ k e. same (unfinishedOn a (x .peer)) passedOver refl)
+    (λ n k e.
+    let f = first-piece s a (x .peer) n e in
+    let q = openedOn n a (x .peer) in
+    let total = ap (λ (y : Waiting). y .total) (finished-waiting n a (piecedOn n a q)) in
+    rw (f .none) (omega (arith, total, first-total s a (x .peer) n w (k .good) (k .may .on) f, h)))
+    (λ n k e.
+    let f = later-piece s a (x .peer) n e in
+    let total = ap (λ (y : Waiting). y .total) (finished-waiting n a (piecedOn n a (x .peer))) in
+    rw (f .own) (omega (arith, total, h)))
+  where
+    same : (b : First) (v : Answer) → saysOne v ≡ false → Holds (x .peer) (begun b (a .fragment .total) v t)
+    same Empty v e = rw e h
+    same (Slot n) v e = h
 
 call-holds : (c : Call) (s : Settings) (datagram : List ℕ) (x : State) (t : Tally) → Whole (x .peer) → Holds (x .peer) t
     → let o = calls s c datagram x in Holds (o .after .peer) (counts c x (o .answer) t)
