@@ -10,7 +10,7 @@ use crate::{
     model::{Settings, CONNECTED, DISCONNECT_LATER},
     output::Output,
     random::Random,
-    records::{self, frame, set, sound},
+    records::{self, block, frame, set, sound},
 };
 
 /// The seed of the numbers that a set leaves open.
@@ -125,8 +125,8 @@ fn open(output: &mut Output, record: &mut Record, room: Room) -> io::Result<()> 
     records::make(output, record)
 }
 
-/// A connected record whose channel 1 has this last number and holds these; those of 3 fragments make the
-/// numbers that follow stale.
+/// A connected record whose channel 1 has this last number and holds these, the middle one in so many fragments; 3 make
+/// the numbers that follow stale.
 fn holding(random: &mut Random, last: u16, number: u16, held: &[i16], fragments: u32) -> Record {
     let mut record = connected(2);
     record.channels[1].numbers = [7, 8, last, 9];
@@ -134,8 +134,13 @@ fn holding(random: &mut Random, last: u16, number: u16, held: &[i16], fragments:
         let number = number.wrapping_add_signed(*more);
         let length = random.below(9) as u32;
         record.incoming_slots[slot] =
-            Incoming { byte: 134, channel: 1, number, fragments, remaining: 0, length };
+            Incoming { byte: 134, channel: 1, number, length, ..Incoming::default() };
         record.channels[1].list.push(slot);
+    }
+    let middle = record.channels[1].list.slots().nth(held.len() / 2);
+    if let Some(slot) = middle.filter(|_| fragments > 0) {
+        let length = record.incoming_slots[slot].length.max(1);
+        block::put_whole(&mut record, slot, length, fragments);
     }
     sound::settle(&mut record);
     record
@@ -220,11 +225,14 @@ mod tests {
     #[test]
     fn case_p9_by_arrival() {
         let mut model = waiting(65_534);
-        for (slot, (number, fragments)) in [(0, 3), (3, 0)].into_iter().enumerate() {
+        for (slot, number) in [0, 3].into_iter().enumerate() {
             model.record.incoming_slots[slot] =
-                Incoming { byte: 136, channel: 1, number, fragments, ..Incoming::default() };
+                Incoming { byte: 136, channel: 1, number, ..Incoming::default() };
             model.record.channels[1].list.push(slot);
         }
+        block::put_whole(&mut model.record, 0, 3, 3);
+        sound::settle(&mut model.record);
+        assert_eq!(model.record.marks, [7, 0]);
         assert_eq!(answered(&mut model, 65_535), "11 0 1");
         assert_eq!(model.record.dispatched.items(), [2, 0, 1]);
         assert_eq!(model.record.channels[1].numbers[LAST], 3);

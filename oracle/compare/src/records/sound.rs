@@ -7,6 +7,7 @@ use enet::{
     record::{place, Incoming, List, Outgoing, Record, CHANNELS, INCOMING, OUTGOING},
 };
 
+use super::block;
 use crate::{damage::held, random::Random};
 
 /// How long the lists are; as many channels as lengths are given are open.
@@ -98,6 +99,7 @@ pub fn shaped(random: &mut Random, shape: &Shape) -> Record {
             record.incoming_slots[slot] = incoming(random, number);
         }
     }
+    block::choose(&mut record);
     settle(&mut record);
     record
 }
