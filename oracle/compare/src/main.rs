@@ -5,6 +5,7 @@ mod arriving;
 mod build;
 mod damage;
 mod events;
+mod fragments;
 mod frame;
 mod lines;
 mod living;
@@ -15,6 +16,7 @@ mod model;
 mod ops;
 mod output;
 mod packing;
+mod piecing;
 mod queueing;
 mod random;
 mod records;
@@ -47,6 +49,7 @@ fn main() -> ExitCode {
         ["every", set, script, lines] => write_every(set, script, lines),
         ["packing", seed, count] => beside(packing::compare, seed, count),
         ["reliable", seed, count] => beside(queueing::compare, seed, count),
+        ["pieces", seed, count] => beside(piecing::compare, seed, count),
         ["events", seed, count] => beside(events::compare, seed, count),
         ["vectors", script, lines] => write_vectors(script, lines),
         ["lines", expected, got] => compare(expected, got),
@@ -80,6 +83,7 @@ fn usage() -> String {
       SET: {}, {}, {}
   compare packing SEED COUNT
   compare reliable SEED COUNT
+  compare pieces SEED COUNT
   compare events SEED COUNT
   compare vectors SCRIPT_FILE LINES_FILE
   compare lines EXPECTED GOT",
