@@ -4,7 +4,12 @@ use std::io;
 
 use enet::record::{place, Incoming, Record, INCOMING};
 
-use super::{connected, order, payload, start, stores, whole_store};
+use super::{
+    connected,
+    order::{self, CAUSES},
+    payload::{self, Asked},
+    start, stores, whole_store,
+};
 use crate::{
     frame::Frame,
     model::{Settings, CONNECTED, DISCONNECT_LATER},
@@ -68,8 +73,9 @@ pub fn write(output: &mut Output) -> io::Result<()> {
     }
     start(output)?;
     let record = connected(2);
-    payload::write(output, &mut random, &record, &frame(11, vec![134, 1, 1]))?;
-    order::write(output, &record, &three())?;
+    let asked = |length, place| frame(11, vec![134, 1, 1, length, place]);
+    payload::write(output, &mut random, &record, &Asked { frame: asked, store: 0 })?;
+    order::write(output, &record, &three(), CAUSES)?;
     order::write_each(output, &mut random, &record, &three())
 }
 
@@ -84,7 +90,7 @@ pub fn write_slice(output: &mut Output) -> io::Result<()> {
     for (last, distance) in [(65_535, 1), (65_535, 2), (0, 32_767), (0, 32_768)] {
         write_held(output, &mut random, (last, distance), &FEW)?;
     }
-    order::write_alone(output, &connected(2), &three())
+    order::write_alone(output, &connected(2), &three(), CAUSES)
 }
 
 /// Every list with all that is tried, and the same arrival once more.

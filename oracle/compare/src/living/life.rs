@@ -9,7 +9,7 @@ use crate::{
     frame::Frame,
     model::{Model, ACKNOWLEDGING_CONNECT, CONNECTED, DISCONNECTING, DISCONNECT_LATER},
     ops::{
-        acknowledgement,
+        acknowledgement, fragment,
         reliable::{self, LAST},
         throttle, timeouts,
         unsequenced::{self, WINDOW},
@@ -83,7 +83,8 @@ impl Life {
             39..=48 if !self.kept.is_empty() => self.kept.any(random),
             39..=50 => unsequenced::drawn(random, record),
             51..=52 => reliable::drawn(random, record),
-            53..=57 => near_group(random, record),
+            53..=54 => near_group(random, record),
+            55..=57 => fragment::drawn(random, record),
             _ => near_number(random, record),
         }
     }

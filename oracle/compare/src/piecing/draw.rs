@@ -1,6 +1,6 @@
 //! Random records that hold a block, mostly an unfinished one, and pieces that suit them.
 
-use enet::record::{place, Record};
+use enet::record::Record;
 
 use crate::{
     model::{Settings, PIECES, SECOND},

@@ -1,6 +1,6 @@
 //! A piece of a block beside the source's own, `enet_protocol_handle_send_fragment`, on random records.
 
-mod draw;
+pub mod draw;
 
 use std::fmt;
 

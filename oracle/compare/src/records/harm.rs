@@ -4,7 +4,7 @@ use enet::record::{place, List, Record};
 
 use super::{
     block,
-    sound::{rich, settle, shaped, Shape},
+    sound::{packets, rich, settle, shaped, Shape},
 };
 use crate::random::Random;
 
@@ -283,8 +283,7 @@ fn waiting(random: &mut Random, change: fn(u32) -> u32) -> Record {
 
 /// An unfinished block of 40 pieces at the end of the list, after this edit.
 fn blocked(random: &mut Random, which: Which, edit: impl Fn(&mut Record, usize)) -> Record {
-    let mut record = rich(random);
-    block::strip(&mut record);
+    let mut record = packets(random);
     let slot = last(&mut record, which);
     block::put(&mut record, slot, 900, 40, random.next() & 0x7F_FFFF_FFFE);
     settle(&mut record);
@@ -317,8 +316,7 @@ fn past(random: &mut Random, pieces: u32, mark: u64) -> Record {
 }
 
 fn stray(random: &mut Random, marks: [u32; 2]) -> Record {
-    let mut record = rich(random);
-    block::strip(&mut record);
+    let mut record = packets(random);
     record.marks = marks;
     record
 }

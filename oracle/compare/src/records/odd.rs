@@ -4,7 +4,7 @@ use enet::record::{place, Record};
 
 use super::{
     block,
-    sound::{rich, settle, shaped, Shape},
+    sound::{packets, rich, settle, shaped, Shape},
 };
 use crate::random::Random;
 
@@ -127,8 +127,7 @@ pub const ODDS: &[Odd] = &[
         blocked(random, |record, slot| block::put(record, slot, 3, 64, u64::MAX >> 1))
     }),
     ("an unfinished block in dispatched", |random| {
-        edited(random, |record| {
-            block::strip(record);
+        blocked(random, |record, _| {
             let slot = usize::from(record.dispatched.cells[0]);
             block::put(record, slot, 700, 5, 0b10);
         })
@@ -146,8 +145,7 @@ pub const ODDS: &[Odd] = &[
 
 /// A rich record whose last channel's last packet this makes a block.
 fn blocked(random: &mut Random, make: fn(&mut Record, usize)) -> Record {
-    let mut record = rich(random);
-    block::strip(&mut record);
+    let mut record = packets(random);
     let channel = record.open_channels().last().expect("a rich record has channels");
     let slot = channel.list.slots().last().expect("and two in each list");
     make(&mut record, slot);
