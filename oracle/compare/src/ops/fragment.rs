@@ -289,3 +289,46 @@ fn distance(random: &mut Random) -> u16 {
         _ => random.next() as u16,
     }
 }
+
+#[cfg(test)]
+mod tests {
+    use super::*;
+    use crate::{piecing::draw, records::sound};
+    use enet::Bench;
+
+    #[test]
+    fn the_hand_on_the_sources_structs_does_as_c_11_says() {
+        let (mut random, mut bench) = (Random::new(1), Bench::new());
+        let (mut first, mut later) = (0, 0);
+        for turn in 0..20_000 {
+            let mut record = match turn % 4 {
+                0 => sound::any(&mut random),
+                _ => draw::holding(&mut random),
+            };
+            record.numbers[place::STATE] = 5;
+            let asked = drawn(&mut random, &record);
+            let Some(part) = part(&asked) else {
+                continue;
+            };
+            if part.came.judged(&record, &Settings::START).is_some() {
+                continue;
+            }
+            let (slot, place) = match part.fate(&record, &Settings::START) {
+                Fate::First { slot, place } => (slot, Some(place)),
+                Fate::Later(slot) => (slot, None),
+                Fate::PassedOver | Fate::Refused(_) => continue,
+            };
+            let mut after = record.clone();
+            part.put(&mut after, slot, place);
+            if let Some(place) = place {
+                let zeros = vec![0; part.total as usize];
+                record = bench.hold(&record, &part.block(), &zeros, place);
+            }
+            let payload = part.came.payload();
+            let got = bench.put_piece(&record, slot, part.piece, part.offset, payload);
+            assert_eq!(got.row(), after.row());
+            *(if place.is_some() { &mut first } else { &mut later }) += 1;
+        }
+        assert!(first >= 500 && later >= 500, "{first} {later}");
+    }
+}

@@ -321,3 +321,242 @@ fn ready(record: &Record, part: &Part) -> bool {
         head.remaining == 0 && head.number == channel.numbers[LAST].wrapping_add(1)
     })
 }
+
+#[cfg(test)]
+mod tests {
+    use super::*;
+    use crate::{
+        fragments::cut::Block,
+        model::CONNECTED,
+        ops::{
+            arrival::Came,
+            fragment,
+            reliable::{self, Fate::Stored},
+        },
+        records::{block, sound},
+    };
+    use enet::record::Incoming;
+    use Verdict::{Delivered, PassedOver, Refused};
+
+    #[test]
+    fn the_source_takes_100000_pieces_as_c_11_and_the_kinds_say() {
+        assert!(compare(1, 100_000));
+    }
+
+    /// A record of one channel with last number 0, which holds these.
+    fn with(numbers: &[u16]) -> Record {
+        let mut record = Record::fresh(1_392);
+        record.numbers[place::STATE] = CONNECTED;
+        record.numbers[place::CHANNEL_COUNT] = 1;
+        for (slot, number) in numbers.iter().enumerate() {
+            record.incoming_slots[slot] =
+                Incoming { byte: 136, number: *number, ..Incoming::default() };
+            record.channels[0].list.push(slot);
+        }
+        record
+    }
+
+    /// The same, of which the first is a block of two pieces and two bytes, with these pieces.
+    fn with_block(numbers: &[u16], marked: u64) -> Record {
+        let mut record = with(numbers);
+        block::put(&mut record, 0, 2, 2, marked);
+        sound::settle(&mut record);
+        record
+    }
+
+    /// A piece by start, count, piece, total and length, at the block's end.
+    type Asked = (u16, u32, u32, u32, u32);
+
+    /// The kind of a piece, what C-11 makes of it, and what the source.
+    fn both(record: &Record, asked: Asked) -> (Option<Kind>, End, End) {
+        let (number, count, piece, total, length) = asked;
+        let (datagram, second) = (vec![7; length as usize], vec![9; SECOND]);
+        let (byte, channel, group, place) = (136, 0, 0, 0);
+        let came = Came { byte, channel, number, group, length, place, datagram: &datagram };
+        let offset = total.saturating_sub(length.max(1));
+        let part = Part { came, number, count, piece, total, offset };
+        let (case, mut bench) =
+            (Case { record, settings: Settings::START, part, second: &second }, Bench::new());
+        let (kind, told) = case.told(&mut bench);
+        let theirs = case.theirs(&mut bench, told.shown.is_some());
+        assert_eq!(theirs, told);
+        (kind, case.ours(&mut bench), theirs)
+    }
+
+    fn verdicts(record: &Record, asked: Asked) -> (Option<Kind>, Verdict, Verdict) {
+        let (kind, ours, theirs) = both(record, asked);
+        (kind, ours.verdict, theirs.verdict)
+    }
+
+    #[test]
+    fn pieces_of_a_block_are_stored_alike() {
+        assert_eq!(verdicts(&with(&[]), (1, 2, 1, 2, 1)), (None, Delivered, Delivered));
+        let record = with_block(&[1], 0b10);
+        assert_eq!(verdicts(&record, (1, 2, 0, 2, 1)), (None, Delivered, Delivered));
+        assert_eq!(verdicts(&record, (1, 2, 1, 2, 1)), (None, PassedOver, PassedOver));
+        assert_eq!(verdicts(&record, (1, 3, 0, 3, 1)), (None, Refused, Refused));
+    }
+
+    #[test]
+    fn the_source_refuses_a_length_of_0_and_a_total_below_the_count() {
+        let record = with(&[]);
+        assert_eq!(verdicts(&record, (1, 1, 0, 1, 0)), (Some(Kind::Empty), Delivered, Refused));
+        assert_eq!(verdicts(&record, (1, 2, 0, 1, 1)), (Some(Kind::Below), Delivered, Refused));
+        assert_eq!(verdicts(&record, (1, 2, 0, 2, 1)), (None, Delivered, Delivered));
+    }
+
+    #[test]
+    fn the_source_has_no_cells_no_slots_and_larger_blocks() {
+        let record = with(&[]);
+        assert_eq!(verdicts(&record, (1, 1, 0, 4_096, 4_096)), (None, Delivered, Delivered));
+        let long = (1, 1, 0, 4_097, 4_097);
+        assert_eq!(verdicts(&record, long), (Some(Kind::Long), Refused, Delivered));
+        assert_eq!(verdicts(&record, (1, 64, 0, 64, 1)), (None, Delivered, Delivered));
+        assert_eq!(verdicts(&record, (1, 65, 0, 65, 1)), (Some(Kind::Pieces), Refused, Delivered));
+        assert_eq!(verdicts(&record, (1, 2, 0, 32_768, 1)), (None, Delivered, Delivered));
+        let many = (1, 2, 0, 32_769, 1);
+        assert_eq!(verdicts(&record, many), (Some(Kind::Bytes), Refused, Delivered));
+        let full: Vec<u16> = (2..14).collect();
+        assert_eq!(verdicts(&with(&full), (1, 2, 0, 2, 1)), (Some(Kind::Full), Refused, Delivered));
+    }
+
+    #[test]
+    fn the_source_puts_many_blocks_together_at_once() {
+        let second = (5, 2, 0, 2, 1);
+        let told = (Some(Kind::Second), Refused, Delivered);
+        assert_eq!(verdicts(&with_block(&[1], 0b10), second), told);
+    }
+
+    #[test]
+    fn the_sources_windows_end_at_28672_after_0() {
+        let record = with(&[]);
+        assert_eq!(verdicts(&record, (28_671, 1, 0, 1, 1)), (None, Delivered, Delivered));
+        let past = (28_672, 1, 0, 1, 1);
+        assert_eq!(verdicts(&record, past), (Some(Kind::Window), Delivered, PassedOver));
+        assert_eq!(verdicts(&record, (32_768, 1, 0, 1, 1)), (None, PassedOver, PassedOver));
+        // Of a block that is held behind the last number.
+        let mut behind = with_block(&[1], 0b10);
+        behind.channels[0].numbers[LAST] = 1;
+        assert_eq!(verdicts(&behind, (1, 2, 0, 2, 1)), (None, Delivered, Delivered));
+        behind.channels[0].numbers[LAST] = 2;
+        let told = (Some(Kind::Window), Delivered, PassedOver);
+        assert_eq!(verdicts(&behind, (1, 2, 0, 2, 1)), told);
+    }
+
+    #[test]
+    fn what_is_passed_over_here_is_mostly_refused_there() {
+        let asked = (0, 2, 0, 2, 1);
+        let told = |kind| (Some(kind), PassedOver, Refused);
+        assert_eq!(verdicts(&with(&[]), asked), told(Kind::Discarded));
+        assert_eq!(verdicts(&with(&[]), (0, 2, 2, 2, 1)), told(Kind::Early));
+        assert_eq!(verdicts(&with(&[2]), (2, 2, 0, 2, 1)), told(Kind::Held));
+        let whole = with_block(&[2], 0b11);
+        assert_eq!(verdicts(&whole, (2, 2, 0, 2, 1)), (None, PassedOver, PassedOver));
+        assert_eq!(verdicts(&whole, (2, 3, 0, 3, 1)), told(Kind::Held));
+    }
+
+    #[test]
+    fn in_state_6_the_source_goes_on_with_a_block_and_refuses_another() {
+        let mut record = with_block(&[1], 0b10);
+        record.numbers[place::STATE] = DISCONNECT_LATER;
+        let told = (Some(Kind::Later), PassedOver, Delivered);
+        assert_eq!(verdicts(&record, (1, 2, 0, 2, 1)), told);
+        let told = (Some(Kind::Discarded), PassedOver, Refused);
+        assert_eq!(verdicts(&record, (5, 2, 0, 2, 1)), told);
+    }
+
+    #[test]
+    fn the_source_asks_for_the_byte_of_a_block() {
+        let mut record = with_block(&[1], 0b10);
+        record.incoming_slots[0].byte = 134;
+        let told = (Some(Kind::Byte), Delivered, Refused);
+        assert_eq!(verdicts(&record, (1, 2, 0, 2, 1)), told);
+    }
+
+    #[test]
+    fn out_of_order_the_source_searches_from_the_end() {
+        let told = (Some(Kind::Again), PassedOver, Delivered);
+        assert_eq!(verdicts(&with(&[2, 1]), (2, 2, 0, 2, 1)), told);
+        let told = (Some(Kind::Again), Delivered, Delivered);
+        assert_eq!(verdicts(&with_block(&[2, 1], 0b10), (2, 2, 0, 2, 1)), told);
+        let (kind, ours, theirs) = both(&with(&[3, 1]), (2, 2, 0, 2, 1));
+        assert_eq!((kind, ours.verdict, theirs.verdict), (Some(Kind::Order), Delivered, Delivered));
+        assert_ne!(ours, theirs);
+    }
+
+    #[test]
+    fn a_first_piece_dispatches_what_was_ready_there() {
+        let (kind, ours, theirs) = both(&with(&[1]), (2, 2, 0, 2, 1));
+        // The dispatched list's length, after the numbers and the three outgoing lists.
+        let dispatched = |end: &End| end.shown.as_ref().unwrap().0[place::FLAGS + 3];
+        assert_eq!((kind, dispatched(&ours), dispatched(&theirs)), (Some(Kind::Ready), 0, 1));
+        assert!(both(&with(&[1]), (2, 1, 0, 1, 1)).0.is_none());
+    }
+
+    /// A sender that gives each number once, or any; the kinds that its pieces and packets meet from a reset.
+    fn from_a_reset(once: bool) -> Vec<Kind> {
+        let (mut random, mut bench, mut tally) = (Random::new(1), Bench::new(), Tally::new());
+        for _ in 0..400 {
+            let (mut record, mut second, mut next) = (with(&[]), vec![0; SECOND], 1);
+            let mut way = Vec::new();
+            for _ in 0..60 {
+                if way.is_empty() || random.once_in(6) {
+                    let start = if once { next } else { 1 + random.below(12) as u16 };
+                    let total = 1 + random.below(12) as u32;
+                    let block = Block { channel: 0, start, total, cut: 1 + random.below(4) as u32 };
+                    next += block.count() as u16;
+                    way.extend(block.pieces(&mut random));
+                }
+                let asked = way.remove(random.below(way.len() as u64) as usize);
+                let part = || fragment::part(&asked).expect("every number fits");
+                let settings = Settings::START;
+                let case = Case { record: &record, settings, part: part(), second: &second };
+                case.compare(&mut bench, &mut tally);
+                let stored = match case.part.fate(&record, &settings) {
+                    Fate::First { slot, place } => Some((slot, Some(place))),
+                    Fate::Later(slot) => Some((slot, None)),
+                    Fate::PassedOver | Fate::Refused(_) => None,
+                };
+                let (part, mut after) = (part(), record.clone());
+                if let Some((slot, place)) = stored {
+                    part.put(&mut after, slot, place);
+                    part.keep(&mut second, place.is_some());
+                    if after.incoming_slots[slot].remaining == 0 {
+                        after = bench.dispatch(&after, 0);
+                    }
+                }
+                // What was not stored comes again, and now and then what was.
+                if random.once_in(if stored.is_some() { 6 } else { 2 }) {
+                    way.push(asked);
+                }
+                // A whole packet, of a number of its own or of any.
+                let number = if once { next } else { 1 + random.below(12) as u16 };
+                let came = Came {
+                    byte: 134,
+                    channel: 0,
+                    number,
+                    group: 0,
+                    length: 0,
+                    place: 0,
+                    datagram: &[],
+                };
+                if random.once_in(4)
+                    && matches!(reliable::store(&mut after, 9, &came), Stored { .. })
+                {
+                    next += 1;
+                    after = bench.dispatch(&after, 0);
+                }
+                record = if random.once_in(3) { bench.received(&after).1 } else { after };
+            }
+        }
+        assert_eq!(tally.others, 0);
+        tally.kinds.keys().copied().collect()
+    }
+
+    #[test]
+    fn from_a_reset_lists_get_out_of_order_only_by_a_number_that_comes_twice() {
+        use Kind::{Again, Discarded, Held, Order, Second};
+        assert_eq!(from_a_reset(true), [Discarded, Second]);
+        assert_eq!(from_a_reset(false), [Held, Discarded, Again, Order, Second]);
+    }
+}
