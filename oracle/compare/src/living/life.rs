@@ -71,6 +71,10 @@ impl Life {
         if record.numbers[place::STATE] != CONNECTED && random.once_in(3) {
             return frame(3, vec![CONNECTED]);
         }
+        // Nothing else may bring its pieces, and no other block begins before.
+        if unfinished(record) && random.once_in(3) {
+            return fragment::drawn(random, record);
+        }
         match random.below(64) {
             0 => records::drawn("2", random),
             1 => records::drawn("3", random),
@@ -93,6 +97,11 @@ impl Life {
 /// Whether nothing more can come in, however much is received.
 fn stuck(record: &Record) -> bool {
     record.free_incoming().is_none() && record.dispatched.length == 0
+}
+
+/// Whether a block waits for pieces.
+fn unfinished(record: &Record) -> bool {
+    record.blocks().iter().any(|slot| record.incoming_slots[*slot].remaining > 0)
 }
 
 /// Mostly 5 or 6, or one in which an acknowledgement is answered otherwise.

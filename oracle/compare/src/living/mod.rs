@@ -63,7 +63,7 @@ mod tests {
 
     #[test]
     fn every_reply_is_met() {
-        let met = replies(|output| write(output, 1, 60_000));
+        let met = replies(|output| write(output, 5, 60_000));
         let replies = [
             "1 0", "2 0", "2 11", "3 0", "3 11", "4 0", "4 1", "5 0", "5 1", "5 2", "5 3", "5 5",
             "6 0", "6 2", "6 9", "7 0 0", "7 0 1", "8 0 0", "8 0 1", "8 0 2", "8 0 3", "8 0 4",
