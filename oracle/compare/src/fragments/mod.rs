@@ -33,3 +33,19 @@ pub fn write_stored(output: &mut Output, seed: u64, count: u64) -> io::Result<()
     sequences::write(output, seed, count)?;
     sets::write_slice(output)
 }
+
+#[cfg(test)]
+mod tests {
+    use super::*;
+    use crate::met::{assert_met, replies};
+
+    #[test]
+    fn what_is_stored_meets_every_reply() {
+        let met = replies(|output| write_stored(output, 17, 300));
+        let replies = [
+            "18 0 0", "18 0 1", "18 6", "18 7", "18 8", "18 9", "18 11", "18 13", "18 14",
+            "18 bad", "13 0 2", "16 bad", "17 bad", "20 bad", "0 bad",
+        ];
+        assert_met(&met, 1, &replies);
+    }
+}

@@ -48,7 +48,7 @@ impl fmt::Display for Kind {
             Kind::Empty => "a length of 0: refused there, stored or passed over here",
             Kind::Long => "longer than a cell: stored or passed over there, 7 here",
             Kind::Window => "past the source's windows: passed over there, stored, 14 or 8 here",
-            Kind::Below => "a total below the count: refused there, stored, passed over or 8 here",
+            Kind::Below => "a total below the count: refused there, stored or passed over here",
             Kind::Early => "fields out of range: refused there, passed over for its start here",
             Kind::Held => "its start held by a packet or another whole block: refused there, passed over here",
             Kind::Byte => "a block whose byte names another command: refused there, taken on here",
