@@ -1,5 +1,5 @@
-//! Op 18: a piece of a block. C-11's rule in Rust, and then the source's own dispatch; a living peer takes it by the source's
-//! own handler where nothing listed differs, else by hand.
+//! Op 18: a piece of a block. C-11's rule in Rust, and then the source's own dispatch, with the source's own handler run
+//! beside it; a living peer takes it by that handler where nothing listed differs, else by hand.
 
 use enet::{
     record::{place, Incoming, Record},
@@ -155,8 +155,13 @@ fn line(model: &mut Model, frame: &Frame) -> String {
         return frame.bad();
     };
     let refused = model.both_refusal().or((part.came.byte & 15 != KIND).then_some(9));
-    let judged = || part.came.judged(&model.record, &model.settings);
-    if let Some(number) = refused.or_else(judged) {
+    if let Some(number) = refused {
+        return model.reply(frame, number);
+    }
+    if !model.bench.lives() {
+        piecing::check(&model.record, &model.settings, &part, &model.second);
+    }
+    if let Some(number) = part.came.judged(&model.record, &model.settings) {
         return model.reply(frame, number);
     }
     match part.fate(&model.record, &model.settings) {

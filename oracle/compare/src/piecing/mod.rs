@@ -92,13 +92,23 @@ enum Told {
 struct Case<'a> {
     record: &'a Record,
     settings: Settings,
-    part: Part<'a>,
+    part: &'a Part<'a>,
     second: &'a [u8],
 }
 
 /// Whether nothing listed here can tell the source's own handler from C-11's rule.
 pub fn alike(record: &Record, settings: &Settings, part: &Part) -> bool {
     tell(record, settings, part).1.is_empty()
+}
+
+/// Stops where the source's own handler does with a piece on a sound record what neither C-11 nor a kind says.
+pub fn check(record: &Record, settings: &Settings, part: &Part, second: &[u8]) {
+    // The source has no such place.
+    if part.piece().is_some() {
+        let (case, mut tally) = (Case { record, settings: *settings, part, second }, Tally::new());
+        case.compare(&mut Bench::new(), &mut tally);
+        assert_eq!(tally.others, 0, "a difference of no kind");
+    }
 }
 
 /// Compares so many pieces; whether each difference is of a kind.
@@ -110,7 +120,7 @@ pub fn compare(seed: u64, count: u64) -> bool {
         let record = draw::holding(&mut random);
         let datagram = random.bytes(5_000);
         let (settings, part) = draw::piece(&mut random, &record, &datagram);
-        let case = Case { record: &record, settings, part, second: &second };
+        let case = Case { record: &record, settings, part: &part, second: &second };
         stored += u64::from(case.compare(&mut bench, &mut tally) == Verdict::Delivered);
     }
     tally.close(&format!("pieces, {stored} of them stored by the source"), "C-11")
@@ -123,7 +133,7 @@ impl Case<'_> {
         let got = self.theirs(bench, told.shown.is_some());
         let same = got == told && (ours == got) == kind.is_none();
         tally.add(kind.into_iter().collect(), same, || {
-            let Part { ref came, count, piece, total, offset, .. } = self.part;
+            let &Part { ref came, count, piece, total, offset, .. } = self.part;
             format!(
                 "start {} of {count} pieces and {total} bytes, piece {piece} at {offset}, {} from \
                  {}, on {:?}\ngives {got:?}, told {told:?}, ours {ours:?}",
@@ -160,7 +170,7 @@ impl Case<'_> {
 
     /// What the source should do, and by what kind that differs from C-11's rule.
     fn told(&self, bench: &mut Bench) -> (Option<Kind>, End) {
-        let (told, causes) = tell(self.record, &self.settings, &self.part);
+        let (told, causes) = tell(self.record, &self.settings, self.part);
         let end = match told {
             Told::PassedOver => End::same(Verdict::PassedOver, self.record),
             Told::Refused => End::same(Verdict::Refused, self.record),
@@ -375,8 +385,10 @@ mod tests {
         let came = Came { byte, channel, number, group, length, place, datagram: &datagram };
         let offset = total.saturating_sub(length.max(1));
         let part = Part { came, number, count, piece, total, offset };
-        let (case, mut bench) =
-            (Case { record, settings: Settings::START, part, second: &second }, Bench::new());
+        let (case, mut bench) = (
+            Case { record, settings: Settings::START, part: &part, second: &second },
+            Bench::new(),
+        );
         let (kind, told) = case.told(&mut bench);
         let theirs = case.theirs(&mut bench, told.shown.is_some());
         assert_eq!(theirs, told);
@@ -508,16 +520,16 @@ mod tests {
                     way.extend(block.pieces(&mut random));
                 }
                 let asked = way.remove(random.below(way.len() as u64) as usize);
-                let part = || fragment::part(&asked).expect("every number fits");
+                let part = fragment::part(&asked).expect("every number fits");
                 let settings = Settings::START;
-                let case = Case { record: &record, settings, part: part(), second: &second };
+                let case = Case { record: &record, settings, part: &part, second: &second };
                 case.compare(&mut bench, &mut tally);
-                let stored = match case.part.fate(&record, &settings) {
+                let stored = match part.fate(&record, &settings) {
                     Fate::First { slot, place } => Some((slot, Some(place))),
                     Fate::Later(slot) => Some((slot, None)),
                     Fate::PassedOver | Fate::Refused(_) => None,
                 };
-                let (part, mut after) = (part(), record.clone());
+                let mut after = record.clone();
                 if let Some((slot, place)) = stored {
                     part.put(&mut after, slot, place);
                     part.keep(&mut second, place.is_some());
