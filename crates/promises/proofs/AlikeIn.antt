@@ -1,6 +1,6 @@
--- The receiving side on two records that are the same: each call gives the same answer and leaves the same store, and what it leaves is alike, the
--- slots named included. The argument: what follows, what is held and which slot is free go by what the lists name and by what those slots hold, equal on
--- both sides; an arrival writes the same slot alike, and the lists then name nothing but that slot and what they named.
+-- The receiving side on two records that are the same, but for pieces (AlikePieces): each call gives the same answer and leaves the same stores, and what it
+-- leaves is alike, the slots named included. The argument: what follows, what is held and which slot is free go by what the lists name and by what those slots
+-- hold, equal on both sides; an arrival writes the same slot alike, and the lists then name nothing but that slot and what they named.
 use Prim.Native.Nat.{ℕ, suc, _+_, _≤_, _<_}
 use mathlib.Core.Path.{_≡_, refl, ap, ap₂, sym, subst, _∙_}
 use mathlib.Core.Bool.{Bool, true, false}
@@ -29,7 +29,6 @@ use Rattle.record.specs.declared.groups.Unsequenced.{Unsequenced}
 use Rattle.record.specs.declared.groups.Lists.{Lists}
 use Rattle.record.specs.declared.groups.Channel.{Channel}
 use Rattle.record.specs.declared.groups.Incoming.{Incoming}
-use Rattle.record.specs.declared.groups.Marks.{Marks}
 use Rattle.peer.specs.Damage.{sound}
 use Rattle.peer.specs.Sounds.{Whole}
 use Rattle.peer.specs.Outcome.{State, Outcome, finished}
@@ -232,7 +231,7 @@ module _ (p : Peer) (whole : Whole p) (few : p .standing .channels ≤ sizes.cha
   old-is : getD cs i noChannel ≡ old
   old-is = getD-take (p .standing .channels) (p .channels) i noChannel on
 
-  pub held-named : (s : ℕ) → times (inItems (old .held)) s ≤ times (named p) s
+  held-named : (s : ℕ) → times (inItems (old .held)) s ≤ times (named p) s
   held-named s =
       let within = rw old-is at (held-within (λ (xs : List ℕ). times xs s) (λ xs ys. times-append xs ys s) cs i noChannel here) in
       omega (arith, within, used-adds (p .lists) cs s)
@@ -522,8 +521,8 @@ module _ (p q : Peer) (k : Like p q) (w : Within p q) where
 
           then-gone : Gone (dispatchedWith n a p) (dispatchedWith n a q)
           then-gone =
-              dispatched-gone now now′ (with-shape whole whole′ few (a .channel) (a .number .0) on n) (p .lists) (q .lists) (k .lists) (p .unsequenced) (q .unsequenced) (k .unsequenced) (set (p .incoming) n (arrivedSlot a))
-              (set (q .incoming) n (arrivedSlot a))
+              dispatched-gone now now′ (with-shape whole whole′ few (a .channel) (a .number .0) on n) (p .lists) (q .lists) (k .lists) (p .unsequenced)
+              (q .unsequenced) (k .unsequenced) (set (p .incoming) n (arrivedSlot a)) (set (q .incoming) n (arrivedSlot a))
               (pooled whole whole′ (arrivedSlot a) n free (inItems (now .held)) (λ t. omega (arith, now-names t, held-named p whole few (a .channel) on t)))
 
           stored-landed : (answer : Answer) → Landed (record { answer = answer; after = reliableAfter (fate.Stored n) a datagram x })

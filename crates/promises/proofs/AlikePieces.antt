@@ -7,7 +7,7 @@ use mathlib.Core.Bool.{Bool, true, false, not}
 use mathlib.Core.List.{List, [], _∷_}
 use native.Mathlib.Omega.{arith}
 use lib.Dec.{eqb}
-use lib.ListN.{length, getD, set, length-set}
+use lib.ListN.{length, getD, length-set}
 use borrow.Author.Tests.{eqb-true}
 use Rattle.numbers.specs.Pick.{pick, both}
 use Rattle.cells.specs.declared.First.{First}
@@ -36,7 +36,7 @@ use Rattle.peer.specs.declared.Peer.{Peer}
 use Rattle.peer.specs.declared.gate.Lent.the-variants as lent
 use Rattle.peer.proofs.Gates.{sound-open}
 use Rattle.peer.proofs.Ranges.{count-high}
-use Rattle.laws.proofs.SameLaws.{Agree, agree-less, agree-set, named-first, ranked-set, Like, named, Within, channelShape}
+use Rattle.laws.proofs.SameLaws.{Agree, agree-less, agree-set, named-first, ranked-set, Like, named, Within}
 use Rattle.laws.proofs.SamePairs.{ranked-by, rebuilt-like}
 use Rattle.laws.proofs.Fates.{unfinished-found, first-piece, later-piece}
 use Rattle.arrival.specs.Storing.{freeSlot, awaiting}
@@ -44,14 +44,14 @@ use Rattle.arrival.specs.Arrivals.{answerOf, arrivalGate}
 use Rattle.arrival.specs.declared.Fate.{Fate as Room}
 use Rattle.arrival.proofs.Admitted.{admitted}
 use Rattle.dispatch.specs.Calls.{dispatchedOn}
-use Rattle.arrive_reliable.specs.Holding.{isPassed, heldWith}
+use Rattle.arrive_reliable.specs.Holding.{heldWith}
 use Rattle.arrive_fragment.specs.Pieces.{channelOf, isUnfinished, unfinished, unfinishedOn, anyBlock, firstFate, laterFate, fateBy, fateOn, replyOf}
-use Rattle.arrive_fragment.specs.Calls.{sendFragment, arrivalOf, openedOn, piecedOn, finishedOn, pieceOn, fragmentAfter, fragmentSound, arrivesFragment}
+use Rattle.arrive_fragment.specs.Calls.{sendFragment, arrivalOf, openedOn, piecedOn, pieceOn, fragmentAfter, fragmentSound, arrivesFragment}
 use Rattle.arrive_fragment.specs.declared.Piece.{Piece}
 use Rattle.arrive_fragment.specs.declared.Fate.{Fate}
 use Rattle.arrive_fragment.specs.declared.Fate.the-variants as fate
 use Rattle.promises.proofs.AlikeOut.{ap₃}
-use Rattle.promises.proofs.AlikeIn.{Landed, items-same, held-named, landed-names, shape, in-list, dispatched-like, dispatched-within}
+use Rattle.promises.proofs.AlikeIn.{Landed, items-same, landed-names, shape, in-list, dispatched-like, dispatched-within}
 use Rattle.promises.proofs.AlikeIn.{names-same, room-same, pools, pooled, passed-same, with-shape, with-names, behind-landed}
 
 -- ---- what slots of a list are, by what they hold
@@ -94,40 +94,41 @@ pieced-whole : (n : ℕ) (a : Piece) (p : Peer) → Whole p → Whole (piecedOn 
 pieced-whole n a p l =
     record { channels = l .channels; outgoing = l .outgoing; incoming = length-set (p .incoming) n _ ∙ l .incoming }
 
+-- ---- a piece stored in slot n, which is alike in both
+module _ (p q : Peer) (k : Like p q) (w : Within p q) (whole : Whole p) (whole′ : Whole q) (few : p .standing .channels ≤ sizes.channels)
+    (a : Piece) (on : a .channel < p .standing .channels) (n : ℕ) (same : getD (p .incoming) n noIncoming ≡ getD (q .incoming) n noIncoming) where
+  pieced-pools : Agree noIncoming (n ∷ named p) (piecedOn n a p .incoming) (piecedOn n a q .incoming)
+  pieced-pools =
+      agree-set noIncoming (n ∷ named p) (p .incoming) (q .incoming) (agree-more (p .incoming) (q .incoming) (named p) n w same) n _ _
+      (whole .incoming ∙ sym (whole′ .incoming)) (ap oneLess same)
+
+  pieced : Pair (piecedOn n a p) (piecedOn n a q)
+  pieced =
+      record {
+        like =
+            rebuilt-like p q k (k .standing) (k .totals) (k .times) (k .loss) (k .throttling) (k .trips) (k .flow) (k .lists) (k .unsequenced) (k .waiting)
+            (ranked-by p q k) (k .outs) (ap (λ (m : Marks). withPiece m (a .fragment .number)) (k .marks));
+        within =
+            agree-less noIncoming (n ∷ named p) (piecedOn n a p .incoming) (piecedOn n a q .incoming) pieced-pools (named (piecedOn n a p))
+            (λ s h. omega (arith, h));
+      }
+
+  piece-pair : Pair (pieceOn n a p) (pieceOn n a q)
+  piece-pair =
+      subst (λ (i : Incoming). Pair (pieceOn n a p) (pick (eqb (i .remaining) 0) (dispatchedOn (a .channel) (piecedOn n a q)) (piecedOn n a q)))
+      (pieced-pools n (named-first n (named p))) (go (eqb (getD (piecedOn n a p .incoming) n noIncoming .remaining) 0))
+    where
+      go : (b : Bool) → Pair (pick b (dispatchedOn (a .channel) (piecedOn n a p)) (piecedOn n a p)) (pick b (dispatchedOn (a .channel) (piecedOn n a q)) (piecedOn n a q))
+      go true =
+          let then = pieced-whole n a p whole in
+          record {
+            like = dispatched-like (piecedOn n a p) (piecedOn n a q) (pieced .like) (pieced .within) then few (a .channel) on;
+            within = dispatched-within (piecedOn n a p) (piecedOn n a q) (pieced .like) (pieced .within) then few (a .channel) on;
+          }
+      go false = pieced
+
 module _ (p q : Peer) (k : Like p q) (w : Within p q) (whole : Whole p) (whole′ : Whole q) (few : p .standing .channels ≤ sizes.channels)
     (a : Piece) (on : a .channel < p .standing .channels) where
-  -- ---- a piece stored in slot n, which is alike in both
-  module _ (n : ℕ) (same : getD (p .incoming) n noIncoming ≡ getD (q .incoming) n noIncoming) where
-    pieced-pools : Agree noIncoming (n ∷ named p) (piecedOn n a p .incoming) (piecedOn n a q .incoming)
-    pieced-pools =
-        agree-set noIncoming (n ∷ named p) (p .incoming) (q .incoming) (agree-more (p .incoming) (q .incoming) (named p) n w same) n _ _
-        (whole .incoming ∙ sym (whole′ .incoming)) (ap oneLess same)
-
-    pieced : Pair (piecedOn n a p) (piecedOn n a q)
-    pieced =
-        record {
-          like =
-              rebuilt-like p q k (k .standing) (k .totals) (k .times) (k .loss) (k .throttling) (k .trips) (k .flow) (k .lists) (k .unsequenced) (k .waiting)
-              (ranked-by p q k) (k .outs) (ap (λ (m : Marks). withPiece m (a .fragment .number)) (k .marks));
-          within =
-              agree-less noIncoming (n ∷ named p) (piecedOn n a p .incoming) (piecedOn n a q .incoming) pieced-pools (named (piecedOn n a p))
-              (λ s h. omega (arith, h));
-        }
-
-    piece-pair : Pair (pieceOn n a p) (pieceOn n a q)
-    piece-pair =
-        subst (λ (i : Incoming). Pair (pieceOn n a p) (pick (eqb (i .remaining) 0) (dispatchedOn (a .channel) (piecedOn n a q)) (piecedOn n a q)))
-        (pieced-pools n (named-first n (named p))) (go (eqb (getD (piecedOn n a p .incoming) n noIncoming .remaining) 0))
-      where
-        go : (b : Bool) → Pair (pick b (dispatchedOn (a .channel) (piecedOn n a p)) (piecedOn n a p)) (pick b (dispatchedOn (a .channel) (piecedOn n a q)) (piecedOn n a q))
-        go true =
-            let then = pieced-whole n a p whole in
-            record {
-              like = dispatched-like (piecedOn n a p) (piecedOn n a q) (pieced .like) (pieced .within) then few (a .channel) on;
-              within = dispatched-within (piecedOn n a p) (piecedOn n a q) (pieced .like) (pieced .within) then few (a .channel) on;
-            }
-        go false = pieced
-
   -- ---- the block's slot, free before, joins the channel's list
   module _ (n : ℕ) (free : freeSlot (p .lists) (p .channels) (p .standing .channels) ≡ Lowest n) where
     abbrev block : Incoming
@@ -157,9 +158,13 @@ module _ (p q : Peer) (k : Like p q) (w : Within p q) (whole : Whole p) (whole�
 
   -- ---- what becomes of the piece
   module _ (s : Settings) where
+    -- a slot that its channel holds is alike
+    held-same : Agree noIncoming (inItems (channelOf a p .held)) (p .incoming) (q .incoming)
+    held-same = in-list p q k w whole few (a .channel) on
+
     unfinished-same : unfinishedOn a p ≡ unfinishedOn a q
     unfinished-same =
-        unfinished-agree (p .incoming) (q .incoming) (inItems (channelOf a p .held)) (a .start .0) (in-list p q k w whole few (a .channel) on)
+        unfinished-agree (p .incoming) (q .incoming) (inItems (channelOf a p .held)) (a .start .0) held-same
         ∙ ap (λ (xs : List ℕ). unfinished (q .incoming) xs (a .start .0))
         (items-same (channelOf a p) (channelOf a q) (shape p q k w whole few (a .channel) on))
 
@@ -167,10 +172,6 @@ module _ (p q : Peer) (k : Like p q) (w : Within p q) (whole : Whole p) (whole�
     any-same =
         ap (λ (n : ℕ). not (eqb n 0))
         (blocks-agree (p .incoming) (q .incoming) (named p) w ∙ ap (blocks (q .incoming)) (names-same p q k w whole whole′))
-
-    -- a slot that its channel holds is alike
-    held-same : (n : ℕ) → 0 < times (inItems (channelOf a p .held)) n → getD (p .incoming) n noIncoming ≡ getD (q .incoming) n noIncoming
-    held-same = in-list p q k w whole few (a .channel) on
 
     by-same : (f : First) → unfinishedOn a p ≡ f → fateBy f s a p ≡ fateBy f s a q
     by-same Empty e =
