@@ -38,6 +38,7 @@ use Rattle.peer.proofs.Gates.{sound-open}
 use Rattle.peer.proofs.Ranges.{count-high}
 use Rattle.laws.proofs.SameLaws.{Agree, agree-less, agree-set, named-first, ranked-set, Like, named, Within}
 use Rattle.laws.proofs.SamePairs.{ranked-by, rebuilt-like}
+use Rattle.laws.proofs.Pieced.{pieced-on-whole}
 use Rattle.laws.proofs.Fates.{unfinished-found, first-piece, later-piece}
 use Rattle.arrival.specs.Storing.{freeSlot, awaiting}
 use Rattle.arrival.specs.Arrivals.{answerOf, arrivalGate}
@@ -81,7 +82,7 @@ record Pair (p q : Peer) : Type 0 where
   like : Like p q
   within : Within p q
 
--- a record in which a piece is stored stays whole
+-- a record with the slot of a block more stays whole
 opened-whole : (n : ℕ) (a : Piece) (p : Peer) → Whole p → Whole (openedOn n a p)
 opened-whole n a p l =
     record {
@@ -89,10 +90,6 @@ opened-whole n a p l =
       outgoing = l .outgoing;
       incoming = length-set (p .incoming) n _ ∙ l .incoming;
     }
-
-pieced-whole : (n : ℕ) (a : Piece) (p : Peer) → Whole p → Whole (piecedOn n a p)
-pieced-whole n a p l =
-    record { channels = l .channels; outgoing = l .outgoing; incoming = length-set (p .incoming) n _ ∙ l .incoming }
 
 -- ---- a piece stored in slot n, which is alike in both
 module _ (p q : Peer) (k : Like p q) (w : Within p q) (whole : Whole p) (whole′ : Whole q) (few : p .standing .channels ≤ sizes.channels)
@@ -120,7 +117,7 @@ module _ (p q : Peer) (k : Like p q) (w : Within p q) (whole : Whole p) (whole�
     where
       go : (b : Bool) → Pair (pick b (dispatchedOn (a .channel) (piecedOn n a p)) (piecedOn n a p)) (pick b (dispatchedOn (a .channel) (piecedOn n a q)) (piecedOn n a q))
       go true =
-          let then = pieced-whole n a p whole in
+          let then = pieced-on-whole n a p whole in
           record {
             like = dispatched-like (piecedOn n a p) (piecedOn n a q) (pieced .like) (pieced .within) then few (a .channel) on;
             within = dispatched-within (piecedOn n a p) (piecedOn n a q) (pieced .like) (pieced .within) then few (a .channel) on;
