@@ -38,5 +38,6 @@ pub mod OutbookLaws
 pub mod AlikeOut
 pub mod AlikeSent
 pub mod AlikeIn
+pub mod AlikePieces
 pub mod Alike
 pub mod Promised
