@@ -1,7 +1,8 @@
 -- A reliable report counts once and none is skipped: on each channel, what joins dispatched since begin bears the numbers 1, 2, 3 and so on.
--- The argument: along a run a channel's last number is the last of its log; what a dispatch takes follows it number by number, as no slot has
--- fragments; reset and begin start both anew, and no other call changes a channel's last number.
-use Prim.Native.Nat.{ℕ, suc, _<_}
+-- A block of k pieces takes k of them.
+-- The argument: along a run a channel's last number is the last of its log; what a dispatch takes follows it number by number, a block's too; reset and
+-- begin start both anew, and no other call changes a channel's last number.
+use Prim.Native.Nat.{ℕ, zero, suc, _+_, _-_, _%_, _<_}
 use mathlib.Core.Path.{_≡_, refl, ap, sym, subst, _∙_}
 use mathlib.Core.Bool.{Bool, true, false}
 use mathlib.Core.List.{List, [], _∷_, _++_, map, append-nil}
@@ -84,7 +85,7 @@ use Rattle.link.specs.Runs.{Asked, comesTo, resetState}
 use Rattle.link_in.specs.declared.calls.Call.the-variants as inw
 use Rattle.link.specs.declared.calls.Call.{Call}
 use Rattle.link.specs.declared.calls.Call.the-variants as call
-use Rattle.promises.specs.Reports.{isAnew, isOn, numbersJoined, reported, reports, series, CountsOnce}
+use Rattle.promises.specs.Reports.{isAnew, isOn, numbersTaken, takenBy, numbersJoined, reported, reports, series, CountsOnce}
 use Rattle.promises.proofs.Picks.{picked}
 use Rattle.promises.proofs.Sounding.{fresh-whole, call-sounds}
 
@@ -121,55 +122,87 @@ pub part-set : {A B : Type 0} (f : A → B) (l : List A) (i : ℕ) (y d : A) (k 
 part-set {A} {B} f l i y d k e =
     sym (List·getD-map f (set l i y) k d) ∙ ap (λ (m : List B). getD m k (f d)) (map-set-same f l i y d e) ∙ List·getD-map f l k d
 
--- ---- what is ready, where no slot has fragments
+-- ---- a series: it rises, and the last of k is k past the number before them
+pub series-rises : (k n : ℕ) → Rises n (series n k)
+unfolding series
+series-rises zero n = tt
+series-rises (suc k) n = (refl, series-rises k (counters.step n))
+
+pub series-long : (k n : ℕ) → length (series n k) ≡ k
+unfolding series
+series-long zero n = refl
+series-long (suc k) n = ap (λ (m : ℕ). suc m) (series-long k (counters.step n))
+
+pub last-steps : (m : ℕ) (xs : List ℕ) → m < 65536 → Rises m xs → lastFrom m xs ≡ (m + length xs) % 65536
+last-steps m [] l r = omega arith
+last-steps m (x ∷ xs) l r =
+    let e : x ≡ counters.step m = r .0 in
+    last-steps x xs (omega arith) (r .1) ∙ omega arith
+
+-- ---- what is ready: the numbers that it takes
 abbrev pub numberOn : Channel → Reliable
 numberOn c = c .«incoming_reliable»
 
-abbrev pub numbersOf : List Incoming → List ℕ → List ℕ
-numbersOf slots ss = map (λ (s : ℕ). getD slots s noIncoming .number .0) ss
+-- those of one slot, and the last of them
+abbrev pub takenIn : Incoming → List ℕ
+takenIn i = numbersTaken (i .number .0) (i .fragments)
 
-abbrev pub Plain : List Incoming → Type 0
-Plain slots = (k : ℕ) → getD slots k noIncoming .fragments ≡ 0
+pub taken-rises : (n : ℕ) (i : Incoming) → i .number .0 ≡ counters.step n → Rises n (takenIn i)
+taken-rises n i e = (e, series-rises (i .fragments - 1) (i .number .0))
 
-pub fresh-plain : (n : ℕ) → Plain (replicate n noIncoming)
-unfolding noIncoming
-fresh-plain n k = ap (λ (i : Incoming). i .fragments) (same-all n k noIncoming)
+pub taken-last : (n : ℕ) (i : Incoming) → i .number .0 ≡ counters.step n → numberAfter i ≡ lastFrom n (takenIn i)
+unfolding series
+taken-last n i e = go (eqb (i .fragments) 0) refl
+  where
+    m : ℕ
+    m = i .number .0
 
-pub plain-set : (slots : List Incoming) (n : ℕ) (i : Incoming) → i .fragments ≡ 0 → Plain slots → Plain (set slots n i)
-plain-set slots n i z p k = part-set (λ (j : Incoming). j .fragments) slots n i noIncoming k (z ∙ sym (p n)) ∙ p k
+    far : lastFrom m (series m (i .fragments - 1)) ≡ (m + (i .fragments - 1)) % 65536
+    far =
+        last-steps m (series m (i .fragments - 1)) (omega (arith, e)) (series-rises (i .fragments - 1) m)
+        ∙ ap (λ (k : ℕ). (m + k) % 65536) (series-long (i .fragments - 1) m)
 
-pub after-plain : (i : Incoming) → i .fragments ≡ 0 → numberAfter i ≡ i .number .0
-after-plain i z = rw z
+    go : (b : Bool) → eqb (i .fragments) 0 ≡ b → pick b m ((m + (i .fragments - 1)) % 65536) ≡ lastFrom m (series m (i .fragments - 1))
+    go true z = let none : i .fragments ≡ 0 = eqb-true (i .fragments) 0 z in rw none
+    go false z = sym far
 
-module _ (slots : List Incoming) (p : Plain slots) where
+module _ (slots : List Incoming) where
   abbrev at : ℕ → Incoming
   at s = getD slots s noIncoming
 
+  pub follows-number : (n : ℕ) (i : Incoming) → follows n i ≡ true → i .number .0 ≡ counters.step n
+  follows-number n i e =
+      eqb-true (i .number .0) (counters.step n) (both-right (eqb (i .remaining) 0) (eqb (i .number .0) (counters.step n)) e)
+
   -- the first of a list goes, and then what is so of the rest; or it stays, and none goes
-  pub ready-rises : (ss : List ℕ) (n : ℕ) → Rises n (numbersOf slots (take (readyCount slots ss n) ss))
-  unfolding readyCount
+  pub ready-rises : (ss : List ℕ) (n : ℕ) → Rises n (takenBy slots (take (readyCount slots ss n) ss))
+  unfolding readyCount takenBy
   ready-rises [] n = tt
-  ready-rises (s ∷ ss) n = go (follows n (at s)) refl (ready-rises ss (at s .number .0))
+  ready-rises (s ∷ ss) n = go (follows n (at s)) refl (ready-rises ss (numberAfter (at s)))
     where
-      go : (b : Bool) → follows n (at s) ≡ b → Rises (at s .number .0) (numbersOf slots (take (readyCount slots ss (at s .number .0)) ss))
-          → Rises n (numbersOf slots (take (pick b (suc (readyCount slots ss (numberAfter (at s)))) 0) (s ∷ ss)))
-      go true e r = (
-        eqb-true (at s .number .0) (counters.step n) (both-right (eqb (at s .remaining) 0) (eqb (at s .number .0) (counters.step n)) e),
-        rw (after-plain (at s) (p s)) r,
-      )
+      go : (b : Bool) → follows n (at s) ≡ b
+          → Rises (numberAfter (at s)) (takenBy slots (take (readyCount slots ss (numberAfter (at s))) ss))
+          → Rises n (takenBy slots (take (pick b (suc (readyCount slots ss (numberAfter (at s)))) 0) (s ∷ ss)))
+      go true e r =
+          let next = follows-number n (at s) e in
+          let rest = takenBy slots (take (readyCount slots ss (numberAfter (at s))) ss) in
+          rises-on n (takenIn (at s)) rest (taken-rises n (at s) next) (subst (λ (m : ℕ). Rises m rest) (taken-last n (at s) next) r)
       go false e r = tt
 
-  pub ready-last : (ss : List ℕ) (n : ℕ) → readyLast slots ss n ≡ lastFrom n (numbersOf slots (take (readyCount slots ss n) ss))
-  unfolding readyCount readyLast
+  pub ready-last : (ss : List ℕ) (n : ℕ) → readyLast slots ss n ≡ lastFrom n (takenBy slots (take (readyCount slots ss n) ss))
+  unfolding readyCount readyLast takenBy
   ready-last [] n = refl
-  ready-last (s ∷ ss) n = go (follows n (at s)) (ready-last ss (at s .number .0))
+  ready-last (s ∷ ss) n = go (follows n (at s)) refl (ready-last ss (numberAfter (at s)))
     where
-      go : (b : Bool)
-          → readyLast slots ss (at s .number .0) ≡ lastFrom (at s .number .0) (numbersOf slots (take (readyCount slots ss (at s .number .0)) ss))
+      go : (b : Bool) → follows n (at s) ≡ b
+          → readyLast slots ss (numberAfter (at s)) ≡ lastFrom (numberAfter (at s)) (takenBy slots (take (readyCount slots ss (numberAfter (at s))) ss))
           → pick b (readyLast slots ss (numberAfter (at s))) n
-          ≡ lastFrom n (numbersOf slots (take (pick b (suc (readyCount slots ss (numberAfter (at s)))) 0) (s ∷ ss)))
-      go true r = rw (after-plain (at s) (p s)) r
-      go false r = refl
+          ≡ lastFrom n (takenBy slots (take (pick b (suc (readyCount slots ss (numberAfter (at s)))) 0) (s ∷ ss)))
+      go true e r =
+          let next = follows-number n (at s) e in
+          let rest = takenBy slots (take (readyCount slots ss (numberAfter (at s))) ss) in
+          r ∙ ap (λ (m : ℕ). lastFrom m rest) (taken-last n (at s) next) ∙ sym (last-on n (takenIn (at s)) rest)
+      go false e r = refl
 
 -- ---- what stands along a run, on one channel
 module _ (channel : ℕ) where
@@ -179,7 +212,6 @@ module _ (channel : ℕ) where
   pub record Counted (p : Peer) (log : List ℕ) : Type 0 where
     pub rises : Rises 0 log
     pub last : lastOn p ≡ lastFrom 0 log
-    pub plain : Plain (p .incoming)
 
   -- what a call leaves as it was, if it reports nothing on the channel
   pub record Unreported (p q : Peer) : Type 0 where
@@ -202,50 +234,46 @@ module _ (channel : ℕ) where
   unreported p = left-unreported p p refl refl refl
 
   same-counted : (p q : Peer) (log : List ℕ) → numberOn (getD (q .channels) channel noChannel) ≡ numberOn (getD (p .channels) channel noChannel)
-      → q .incoming ≡ p .incoming → Counted p log → Counted q log
-  same-counted p q log e i c =
-      record {
-        rises = c .rises;
-        last = ap (λ (n : Reliable). n .0) e ∙ c .last;
-        plain = λ k. ap (λ (slots : List Incoming). getD slots k noIncoming .fragments) i ∙ c .plain k;
-      }
+      → Counted p log → Counted q log
+  same-counted p q log e c = record { rises = c .rises; last = ap (λ (n : Reliable). n .0) e ∙ c .last }
 
   unreported-counted : (p q : Peer) (log : List ℕ) → Unreported p q → Counted p log → Counted q log
-  unreported-counted p q log s c = same-counted p q log (s .last) (s .slots) c
+  unreported-counted p q log s c = same-counted p q log (s .last) c
 
   -- the numbers that joined
   abbrev pub joined : Peer → Peer → List ℕ
-  joined p q = numbersOf (q .incoming) (drop (length (inItems (p .lists .dispatched))) (inItems (q .lists .dispatched)))
+  joined p q = takenBy (q .incoming) (drop (length (inItems (p .lists .dispatched))) (inItems (q .lists .dispatched)))
 
   none-joined : (p : Peer) (log : List ℕ) → Counted p log → Counted p (log ++ joined p p)
+  unfolding takenBy
   none-joined p log c = rw (drop-length (inItems (p .lists .dispatched)), append-nil log) c
 
   -- ---- a dispatch on the channel
-  module _ (p : Peer) (whole : Whole p) (good : sound p ≡ true) (on : channel < p .standing .channels) (plain : Plain (p .incoming)) where
+  module _ (p : Peer) (whole : Whole p) (good : sound p ≡ true) (on : channel < p .standing .channels) where
     abbrev pub more : List ℕ
-    more = numbersOf (p .incoming) (take (ready channel p) (inItems (chosen channel p .held)))
+    more = takenBy (p .incoming) (take (ready channel p) (inItems (chosen channel p .held)))
 
     pub now-last : lastOn (dispatchedOn channel p) ≡ lastFrom (lastOn p) more
+    unfolding takenBy
     now-last =
         dispatched-has channel p (λ (q : Peer). lastOn q ≡ lastFrom (lastOn p) more) (λ z. rw z)
         (ap (λ (d : Channel). numberOn d .0)
         (getD-set-same (p .channels) channel (gone channel p .channel) noChannel (omega (arith, on, count-high p good, whole .channels)))
-        ∙ ready-last (p .incoming) plain (inItems (chosen channel p .held)) (lastOn p))
+        ∙ ready-last (p .incoming) (inItems (chosen channel p .held)) (lastOn p))
 
     pub is-more : joined p (dispatchedOn channel p) ≡ more
     is-more =
-        ap (λ (ss : List ℕ). numbersOf (p .incoming) (drop (length (inItems (p .lists .dispatched))) ss))
+        ap (λ (ss : List ℕ). takenBy (p .incoming) (drop (length (inItems (p .lists .dispatched))) ss))
         (dispatch-order channel p whole good on .joined)
-        ∙ ap (numbersOf (p .incoming)) (drop-append-seam (inItems (p .lists .dispatched)) _)
+        ∙ ap (takenBy (p .incoming)) (drop-append-seam (inItems (p .lists .dispatched)) _)
 
     dispatched-counted : (log : List ℕ) → Counted p log → Counted (dispatchedOn channel p) (log ++ joined p (dispatchedOn channel p))
     dispatched-counted log c =
-        let rises = ready-rises (p .incoming) plain (inItems (chosen channel p .held)) (lastOn p) in
+        let rises = ready-rises (p .incoming) (inItems (chosen channel p .held)) (lastOn p) in
         rw is-more
         (record {
           rises = rises-on 0 log more (c .rises) (subst (λ (n : ℕ). Rises n more) (c .last) rises);
           last = now-last ∙ ap (λ (n : ℕ). lastFrom n more) (c .last) ∙ sym (last-on 0 log more);
-          plain = plain;
         })
 
   own-dispatch : (s : Settings) (p : Peer) (log : List ℕ) → Whole p → Counted p log
@@ -253,7 +281,7 @@ module _ (channel : ℕ) where
   own-dispatch s p log w c =
       behind-has (gate s p) p (dispatchesSound channel p) Done shut
       (λ e. behind-has (dispatchGate channel (p .standing)) p (finished (dispatchedOn channel p)) Done shut
-      (λ own. dispatched-counted p w (sound-open (fits s lent.Nothing) (sound p) e) (below-count channel (p .standing) own) (c .plain) log c))
+      (λ own. dispatched-counted p w (sound-open (fits s lent.Nothing) (sound p) e) (below-count channel (p .standing) own) log c))
     where
       Done : Outcome Peer → Type 0
       Done o = Counted (o .after) (log ++ joined p (o .after))
@@ -271,7 +299,7 @@ module _ (channel : ℕ) where
           (own-dispatch s p log w c)
       go false e =
           let k = dispatch-keeps on p s in
-          same-counted p (dispatches s on p .after) log (ap numberOn (k .others channel (λ i. eqb-false on channel e (sym i)))) (k .incoming) c
+          same-counted p (dispatches s on p .after) log (ap numberOn (k .others channel (λ i. eqb-false on channel e (sym i)))) c
 
   -- ---- arrivals: a slot is written, with no fragments; a reliable one that is stored is a dispatch on the record that holds it
   module _ (s : Settings) (a : Arrival) (datagram : List ℕ) (x : State) (log : List ℕ) (w : Whole (x .peer)) (c : Counted (x .peer) log) where
@@ -279,10 +307,9 @@ module _ (channel : ℕ) where
     unsequenced-counted group =
         unsequenced-has s a group datagram x (λ (o : Outcome State). Counted (o .after .peer) log)
         (λ why. c)
-        (λ good e. record { rises = c .rises; last = c .last; plain = c .plain })
-        (λ good e. record { rises = c .rises; last = c .last; plain = c .plain })
-        (λ n good long may e.
-        record { rises = c .rises; last = c .last; plain = plain-set (x .peer .incoming) n (arrivedSlot a) refl (c .plain) })
+        (λ good e. record { rises = c .rises; last = c .last })
+        (λ good e. record { rises = c .rises; last = c .last })
+        (λ n good long may e. record { rises = c .rises; last = c .last })
 
     abbrev After : State → Type 0
     After y = Counted (y .peer) (pick (eqb (a .channel) channel) (log ++ joined (x .peer) (y .peer)) log)
@@ -308,7 +335,6 @@ module _ (channel : ℕ) where
               rises = c .rises;
               last =
                   ap (λ (r : Reliable). r .0) (part-set numberOn (x .peer .channels) (a .channel) _ noChannel channel refl) ∙ c .last;
-              plain = plain-set (x .peer .incoming) n (arrivedSlot a) refl (c .plain);
             }
 
         go : (b : Bool) → eqb (a .channel) channel ≡ b
@@ -318,7 +344,7 @@ module _ (channel : ℕ) where
             subst (λ (y : Peer). Counted y (log ++ joined (x .peer) y))
             (ap (λ (i : ℕ). dispatchedOn i q) (sym is) ∙ sym (left-dispatched a datagram x n w good may free))
             (dispatched-counted q (between-whole a datagram x n w good may free) (between-sound a datagram x n w good may free)
-            (subst (λ (i : ℕ). i < x .peer .standing .channels) is (may .on)) (held-counted .plain) log held-counted)
+            (subst (λ (i : ℕ). i < x .peer .standing .channels) is (may .on)) log held-counted)
         go false e =
             record {
               rises = c .rises;
@@ -326,7 +352,6 @@ module _ (channel : ℕ) where
                   ap (λ (d : Channel). numberOn d .0)
                   (getD-set-other (x .peer .channels) (a .channel) channel _ noChannel (λ i. eqb-false (a .channel) channel e (sym i)))
                   ∙ c .last;
-              plain = plain-set (x .peer .incoming) n (arrivedSlot a) refl (c .plain);
             }
 
     reliable-counted : After (arrivesReliable s a datagram x .after)
@@ -431,7 +456,7 @@ module _ (channel : ℕ) where
 
   pub fresh-counted : (mtu : ℕ) (k : Kept) → Counted (freshPeer mtu k) []
   unfolding freshPeer
-  fresh-counted mtu k = record { rises = tt; last = anew-last; plain = fresh-plain incoming }
+  fresh-counted mtu k = record { rises = tt; last = anew-last }
 
   -- the log of a call that may begin the channels anew, by its answer
   abbrev Anew : List ℕ → Outcome Peer → Type 0
@@ -448,7 +473,7 @@ module _ (channel : ℕ) where
   begin-counted s mtu count p log c =
       behind-has (gate s p) p (beginsSound mtu count p) (Anew log) (refused-counted p log c)
       (λ e. picked (Anew log) (beginFits mtu count (p .standing .channels)) (finished (begun mtu count p)) (unchanged OutOfRange p)
-      (record { rises = tt; last = anew-last; plain = c .plain }) c)
+      (record { rises = tt; last = anew-last }) c)
 
   -- ---- each call, and a run
   pub call-counted : (a : Call) (s : Settings) (datagram : List ℕ) (x : State) (log : List ℕ) → Whole (x .peer) → Counted (x .peer) log
@@ -470,7 +495,7 @@ module _ (channel : ℕ) where
   run-rises [] x log w c = c .rises
   run-rises (a ∷ rest) x log w c =
       run-rises rest (comesTo a x .after) (reported channel a x log)
-      (call-sounds (a .settings) (a .call) (a .datagram) (x .store) .whole (x .peer) w)
+      (call-sounds (a .settings) (a .call) (a .datagram) (x .store) (x .second) .whole (x .peer) w)
       (call-counted (a .call) (a .settings) (a .datagram) x log w c)
 
 pub counts-once : CountsOnce
