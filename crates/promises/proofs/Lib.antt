@@ -9,6 +9,7 @@ pub mod Stepping
 pub mod Traces
 pub mod Sounding
 pub mod Waiting
+pub mod Unreported
 pub mod Reporting
 pub mod Presence
 pub mod Quiet

@@ -40,7 +40,8 @@ use Rattle.promises.specs.Reports.{reported}
 use Rattle.promises.specs.ReportRepeats.{Report, brings, Reported, RepeatsReports, NoTraceReports, PieceReport, bringsPiece, RepeatsPiece, RepeatsPieces, NoTracePieces}
 use Rattle.promises.proofs.Sounding.{fresh-whole, call-sounds}
 use Rattle.promises.proofs.Eight.{passed-quiet}
-use Rattle.promises.proofs.Reporting.{Rises, lastFrom, last-on, last-steps, numberOn, Counted, call-counted, fresh-counted}
+use Rattle.promises.proofs.Unreported.{numberOn}
+use Rattle.promises.proofs.Reporting.{Rises, lastFrom, last-on, last-steps, Counted, call-counted, fresh-counted}
 
 -- ---- numbers one after another, from one of them on
 rises-split : (m : ℕ) (front back : List ℕ) (n : ℕ) → Rises m (front ++ (n ∷ back)) → (n < 65536) × Rises n back
