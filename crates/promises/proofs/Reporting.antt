@@ -140,13 +140,13 @@ taken-last n i e = go (eqb (i .fragments) 0) refl
     go true z = let none : i .fragments ≡ 0 = eqb-true (i .fragments) 0 z in rw none
     go false z = sym far
 
+pub follows-number : (n : ℕ) (i : Incoming) → follows n i ≡ true → i .number .0 ≡ counters.step n
+follows-number n i e =
+    eqb-true (i .number .0) (counters.step n) (both-right (eqb (i .remaining) 0) (eqb (i .number .0) (counters.step n)) e)
+
 module _ (slots : List Incoming) where
   abbrev at : ℕ → Incoming
   at s = getD slots s noIncoming
-
-  pub follows-number : (n : ℕ) (i : Incoming) → follows n i ≡ true → i .number .0 ≡ counters.step n
-  follows-number n i e =
-      eqb-true (i .number .0) (counters.step n) (both-right (eqb (i .remaining) 0) (eqb (i .number .0) (counters.step n)) e)
 
   -- the first of a list goes, and then what is so of the rest; or it stays, and none goes
   pub ready-rises : (ss : List ℕ) (n : ℕ) → Rises n (takenBy slots (take (readyCount slots ss n) ss))
