@@ -127,6 +127,15 @@ module _ (slots now : List Incoming) (last : ℕ) where
       → Stands slots last ss → Stands now last ss
   stands-alike ss e c = record { low = c .low; climbs = climbs-alike 0 ss e (c .climbs) }
 
+-- the same slots, as far as the list names them
+pub rests-with : (slots now : List Incoming) (last : ℕ) (ss : List ℕ) → ((s : ℕ) → 0 < times ss s → getD now s noIncoming ≡ getD slots s noIncoming)
+    → Rests slots last ss → Rests now last ss
+rests-with slots now last ss e r =
+    record {
+      stands = stands-alike slots now last ss (λ s h. same-alike _ _ (e s h)) (r .stands);
+      waits = λ s h. ap (follows last) (e s h) ∙ r .waits s h;
+    }
+
 -- ---- a dispatch
 module _ (slots : List Incoming) where
   abbrev at : ℕ → Incoming

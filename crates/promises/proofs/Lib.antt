@@ -23,6 +23,7 @@ pub mod ReportTraces
 pub mod Transits
 pub mod Shown
 pub mod HeldLaws
+pub mod HeldWays
 pub mod Held
 pub mod NextReliable
 pub mod Sorts
