@@ -3,7 +3,7 @@
 -- then is next goes at once; a piece that leaves some remaining leaves its block unready; the written slot was free, so that no list names it; no other call
 -- changes a channel's last number or what it holds, but reset and begin, which make the channels new.
 use Prim.Native.Nat.{ℕ, _≤_, _<_}
-use mathlib.Core.Path.{_≡_, refl, ap, sym, subst, _∙_}
+use mathlib.Core.Path.{_≡_, refl, ap, sym, subst}
 use mathlib.Core.Bool.{Bool, true, false, not}
 use mathlib.Core.List.{List, [], _∷_}
 use native.Mathlib.Omega.{arith}
@@ -46,7 +46,6 @@ use Rattle.arrival.proofs.Admitted.{Admitted}
 use Rattle.arrive_reliable.specs.Holding.{numberDistance, holds, farthest, isPassed}
 use Rattle.arrive_unsequenced.specs.Calls.{judgedOn, arrivesUnsequenced}
 use Rattle.arrive_reliable.specs.Calls.{channelOf, fateOf, fateOn, reliableAfter, arrivesReliable}
-use Rattle.arrive_fragment.specs.Pieces.{unfinishedOn}
 use Rattle.arrive_fragment.specs.Calls.{openedOn, pieceOn, arrivesFragment}
 use Rattle.arrive_fragment.specs.declared.Piece.{Piece}
 use Rattle.laws.proofs.Unsequenced.{unsequenced-has, stored-free}
@@ -65,18 +64,14 @@ use Rattle.promises.proofs.Picks.{picked}
 use Rattle.promises.proofs.Sounding.{fresh-whole, call-sounds}
 use Rattle.promises.proofs.Unreported.{state-unreported, outward-unreported, receive-unreported}
 use Rattle.promises.proofs.Reporting.{lastOn}
-use Rattle.promises.proofs.HeldLaws.{Rests, spanOf, climbs-rising, unnamed-same}
-use Rattle.promises.proofs.HeldWays.{on, Orderly, same-named, unreported-orderly, dispatched-orderly, unnamed, JoinedWays, joined-ways, PieceWays, piece-orderly, later-unnamed}
+use Rattle.promises.proofs.HeldLaws.{neither-first, Rests, spanOf, climbs-rising, unnamed-same}
+use Rattle.promises.proofs.HeldWays.{on, Orderly, same-named, unreported-orderly, dispatched-orderly, unnamed, longer, Ways, joined-ways, piece-orderly, later-unnamed}
 
 -- ---- an arrival that is not passed over is past the last number
 pub passed-past : (slots : List Incoming) (c : Channel) (n : ℕ) → isPassed slots c n ≡ false → 0 < numberDistance (c .«incoming_reliable» .0) n
 passed-past slots c n e =
     let d = numberDistance (c .«incoming_reliable» .0) n in
-    omega (arith, eqb-false d 0 (first-test (eqb d 0) (pick (ltb farthest d) true (holds slots (inItems (c .held)) n)) e))
-  where
-    first-test : (a b : Bool) → pick a true b ≡ false → a ≡ false
-    first-test true b e = e
-    first-test false b e = refl
+    omega (arith, eqb-false d 0 (neither-first (eqb d 0) (pick (ltb farthest d) true (holds slots (inItems (c .held)) n)) e))
 
 stored-new : (b : Bool) (room : Fate) (s : ℕ) → fateOf b room ≡ fate.Stored s → b ≡ false
 stored-new true room s e = let z : _≡_ {A = ℕ} 0 1 = cc in absurd (omega arith)
@@ -115,9 +110,9 @@ module _ (s : Settings) (a : Arrival) (datagram : List ℕ) (x : State) (n : ℕ
   abbrev p : Peer
   p = x .peer
 
-  ways : (channel : ℕ) → Orderly channel p → JoinedWays channel p (a .channel) n (arrivedSlot a) w good (may .on) (held-free s a datagram x n e)
+  ways : (channel : ℕ) → Orderly channel p → Ways channel (a .channel) n (longer p (a .channel) n (arrivedSlot a) w good (may .on) (held-free s a datagram x n e))
   ways channel =
-      joined-ways channel p (a .channel) n (arrivedSlot a) w good (may .on) (held-free s a datagram x n e) low
+      joined-ways p (a .channel) n (arrivedSlot a) w good (may .on) (held-free s a datagram x n e) channel low
       (passed-past (p .incoming) (channelOf a p) (a .number .0)
       (stored-new (isPassed (p .incoming) (channelOf a p) (a .number .0)) (roomOf s p) n e)) apart
 
@@ -158,10 +153,9 @@ module _ (s : Settings) (a : Piece) (p : Peer) (n : ℕ) (w : Whole p) (good : s
   first-orderly f store second low apart =
       let x : State = record { peer = p; store = store; second = second } in
       let old = getD (p .channels) (a .channel) noChannel in
-      let ways = joined-ways channel p (a .channel) n slot w good here (f .free) low (passed-past (p .incoming) old (a .start .0) (f .new))
+      let ways = joined-ways p (a .channel) n slot w good here (f .free) channel low (passed-past (p .incoming) old (a .start .0) (f .new))
       (subst (λ (m : ℕ). isFree x (a .channel) (a .start .0) m ≡ true) (sym (block-span f)) apart) k in
-      piece-orderly channel n a (openedOn n a p) (opened-pieced-whole s a p n w good here f) (opened-pieced-sound s a p n w good here f) here
-      (record { own = ways .own; others = ways .others; other = ways .other; unnamed = ways .unnamed })
+      piece-orderly channel n a (openedOn n a p) (opened-pieced-whole s a p n w good here f) (opened-pieced-sound s a p n w good here f) here ways
 
 -- ---- each call, and a run
 module _ (channel : ℕ) where

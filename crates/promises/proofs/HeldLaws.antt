@@ -10,8 +10,8 @@ use native.Mathlib.Omega.{arith}
 use lib.Dec.{eqb, leb, ltb}
 use lib.ListN.{length, take, drop, getD, set}
 use lib.Seq.{getD-set-same, getD-set-other}
-use borrow.Author.Tests.{eqb-true, eqb-false, eq-eqb, ne-eqb, ltb-true, ltb-false, lt-ltb, leb-true}
-use Rattle.numbers.specs.Pick.{pick, both}
+use borrow.Author.Tests.{eqb-true, eqb-false, eq-eqb, ltb-true, ltb-false, lt-ltb, leb-true}
+use Rattle.numbers.specs.Pick.{pick}
 use Rattle.numbers.specs.Counters.{step}
 use Rattle.numbers.proofs.BoolLaws.{both-left, both-right}
 use Rattle.record.proofs.Keeps.{one, times}
@@ -22,6 +22,11 @@ use Rattle.dispatch.specs.Dispatching.{follows, numberAfter, readyCount, readyL
 use Rattle.arrive_reliable.specs.Holding.{numberDistance, numberAt, placeOf}
 use Rattle.promises.specs.Held.{spanAt, Rising, isApart}
 use Rattle.promises.proofs.Reporting.{follows-number}
+
+-- the first of two tests, of which none is so
+pub neither-first : (a b : Bool) → pick a true b ≡ false → a ≡ false
+neither-first true b e = e
+neither-first false b e = refl
 
 -- ---- numbers below 65,536
 pub next-near : (last : ℕ) → last < 65536 → numberDistance last (step last) ≡ 1

@@ -10,7 +10,6 @@ use lib.Dec.{eqb}
 use lib.ListN.{length, take, drop, getD, set, length-take, take-append-drop}
 use lib.Seq.{getD-set-same, getD-set-other, getD-take}
 use borrow.Author.Tests.{eqb-true, eqb-false, ne-eqb}
-use Rattle.numbers.specs.Pick.{pick, both}
 use Rattle.numbers.specs.declared.counters.Reliable.{Reliable}
 use Rattle.numbers.proofs.BoolLaws.{both-left, both-right}
 use Rattle.record.specs.Lists.{inItems}
@@ -126,20 +125,21 @@ inserted-named xs k n s h m =
       ap (λ (ys : List ℕ). times ys s) (take-append-drop k xs),
     )
 
--- ---- a slot that joins a list: what is so of the record that holds it, on the list's channel and on another
-module _ (channel : ℕ) (q : Peer) (i n : ℕ) (slot : Incoming) (whole : Whole q) (good : sound q ≡ true) (here : i < q .standing .channels)
+-- ---- a record in which slot n joined channel i's list, or stands there: on that channel the order stands and all but the slot wait, another's list does not name it
+pub record Ways (channel i n : ℕ) (r : Peer) : Type 0 where
+  pub own : channel ≡ i → channel < r .standing .channels → StandsAt channel r
+  pub others : channel ≡ i → channel < r .standing .channels → (s : ℕ) → 0 < times (itemsOn channel r) s → (n ≡ s → ⊥)
+      → follows (lastOn channel r) (getD (r .incoming) s noIncoming) ≡ false
+  pub other : (channel ≡ i → ⊥) → Orderly channel r
+  pub unnamed : (channel ≡ i → ⊥) → channel < r .standing .channels → times (itemsOn channel r) n ≡ 0
+
+-- ---- a slot that joins a list
+module _ (q : Peer) (i n : ℕ) (slot : Incoming) (whole : Whole q) (good : sound q ≡ true) (here : i < q .standing .channels)
     (free : freeSlot (q .lists) (q .channels) (q .standing .channels) ≡ Lowest n) where
   abbrev pub longer : Peer
   longer = joined q i (slot .number .0) n slot whole good here free
 
-  pub record JoinedWays : Type 0 where
-    pub own : channel ≡ i → channel < q .standing .channels → StandsAt channel longer
-    pub others : channel ≡ i → channel < q .standing .channels → (s : ℕ) → 0 < times (itemsOn channel longer) s → (n ≡ s → ⊥)
-        → follows (lastOn channel longer) (getD (longer .incoming) s noIncoming) ≡ false
-    pub other : (channel ≡ i → ⊥) → Orderly channel longer
-    pub unnamed : (channel ≡ i → ⊥) → channel < q .standing .channels → times (itemsOn channel longer) n ≡ 0
-
-  module _ (low : slot .number .0 < 65536) (past : 0 < numberDistance (on i q .«incoming_reliable» .0) (slot .number .0))
+  module _ (channel : ℕ) (low : slot .number .0 < 65536) (past : 0 < numberDistance (on i q .«incoming_reliable» .0) (slot .number .0))
       (apart : let last = on i q .«incoming_reliable» .0 in
       all (λ (s : ℕ). isApart (numberDistance last (slot .number .0)) (spanOf slot) (numberDistance last (numberAt (q .incoming) s)) (spanAt (q .incoming) s))
       (itemsOn i q) ≡ true)
@@ -179,7 +179,7 @@ module _ (channel : ℕ) (q : Peer) (i n : ℕ) (slot : Incoming) (whole : Whole
         ∙ ap (follows last) (getD-set-other (q .incoming) n s slot noIncoming (λ z. m (sym z)))
         ∙ r .waits s before
 
-    pub joined-ways : JoinedWays
+    pub joined-ways : Ways channel i n longer
     joined-ways =
         record {
           own = λ is h. subst (λ (j : ℕ). StandsAt j longer) (sym is) (own-stands (rests is));
@@ -204,20 +204,13 @@ unready : (last : ℕ) (i : Incoming) → (i .remaining ≡ 0 → ⊥) → follo
 unready last i some = rw (ne-eqb (i .remaining) 0 some)
 
 module _ (channel n : ℕ) (a : Piece) (r : Peer) where
-  pub record PieceWays : Type 0 where
-    pub own : channel ≡ a .channel → channel < r .standing .channels → StandsAt channel r
-    pub others : channel ≡ a .channel → channel < r .standing .channels → (s : ℕ) → 0 < times (itemsOn channel r) s → (n ≡ s → ⊥)
-        → follows (lastOn channel r) (getD (r .incoming) s noIncoming) ≡ false
-    pub other : (channel ≡ a .channel → ⊥) → Orderly channel r
-    pub unnamed : (channel ≡ a .channel → ⊥) → channel < r .standing .channels → times (itemsOn channel r) n ≡ 0
-
   abbrev now : Peer
   now = piecedOn n a r
 
   abbrev old : Incoming
   old = getD (r .incoming) n noIncoming
 
-  module _ (whole : Whole now) (good : sound now ≡ true) (here : a .channel < r .standing .channels) (v : PieceWays) where
+  module _ (whole : Whole now) (good : sound now ≡ true) (here : a .channel < r .standing .channels) (v : Ways channel (a .channel) n r) where
     alike : (s : ℕ) → Alike (getD (now .incoming) s noIncoming) (getD (r .incoming) s noIncoming)
     alike s =
         record {

@@ -45,7 +45,7 @@ use Rattle.promises.specs.Next.{Fits, Delivers, NextDelivered}
 use Rattle.promises.proofs.Fitting.{fits-open, fits-admitted, fits-room}
 use Rattle.promises.proofs.Sounding.{fresh-whole, reset-stands, run-stands}
 use Rattle.promises.proofs.Reporting.{rises-series, ready-rises, joined, is-more}
-use Rattle.promises.proofs.HeldLaws.{Climbs, Stands, next-near, near-next, nearest}
+use Rattle.promises.proofs.HeldLaws.{neither-first, Climbs, Stands, next-near, near-next, nearest}
 use Rattle.promises.proofs.HeldWays.{Orderly}
 use Rattle.promises.proofs.Held.{stored-orderly, fresh-orderly, run-orderly, none-ready}
 
@@ -58,13 +58,9 @@ module _ (slots : List Incoming) (last : ℕ) (h : last < 65536) where
       let m = numberAt slots s in
       let far = c .0 .past in
       let low = c .0 .low in
-      let differs : m ≡ step last → ⊥ = eqb-false m (step last) (first-test (eqb m (step last)) (holds slots ss (step last)) e) in
+      let differs : m ≡ step last → ⊥ = eqb-false m (step last) (neither-first (eqb m (step last)) (holds slots ss (step last)) e) in
       let other : numberDistance last m ≡ 1 → ⊥ = λ z. differs (near-next last m h low z) in
       (record { low = low; past = omega (arith, far, other) }, c .1)
-    where
-      first-test : (a b : Bool) → pick a true b ≡ false → a ≡ false
-      first-test true b e = e
-      first-test false b e = refl
 
   next-apart : (k : ℕ) (ss : List ℕ) → 1 ≤ k → Climbs slots last k ss
       → all (λ (s : ℕ). isApart 1 1 (numberDistance last (numberAt slots s)) (spanAt slots s)) ss ≡ true

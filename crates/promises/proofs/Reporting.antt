@@ -21,6 +21,7 @@ use Rattle.numbers.specs.declared.refusals.Refusal.the-variants.{OutOfRange}
 use Rattle.numbers.proofs.BoolLaws.{both-right}
 use Rattle.numbers.proofs.Settled.{refused-not-done}
 use Rattle.record.specs.Lists.{inItems}
+use Rattle.record.specs.declared.incoming.InList.{InList}
 use Rattle.cells.specs.declared.Free.the-variants.{Lowest}
 use Rattle.record.specs.Sizes.{channels}
 use Rattle.record.specs.Fresh.{noChannel, noIncoming}
@@ -52,8 +53,12 @@ use Rattle.arrival.proofs.Admitted.{Admitted}
 use Rattle.arrival.specs.Storing.{freeSlot}
 use Rattle.arrive_unsequenced.specs.Calls.{arrivesUnsequenced}
 use Rattle.arrive_reliable.specs.Calls.{reliableAfter, arrivesReliable}
+use Rattle.arrive_fragment.specs.Calls.{openedOn, piecedOn, finishedOn, arrivesFragment}
+use Rattle.arrive_fragment.specs.declared.Piece.{Piece}
 use Rattle.laws.proofs.Unsequenced.{unsequenced-has}
 use Rattle.laws.proofs.Reliable.{reliable-has, held-free, between, between-whole, between-sound, left-dispatched}
+use Rattle.laws.proofs.Fates.{first-piece, later-piece}
+use Rattle.laws.proofs.Fragments.{fragment-has, finished-has, opened-pieced-whole, opened-pieced-sound, pieced-whole, pieced-sound}
 use Rattle.laws.proofs.Carrying.{same-all}
 use Rattle.link_out.specs.Steps.{callsOut}
 use Rattle.link.specs.Steps.{calls}
@@ -62,14 +67,9 @@ use Rattle.link_in.specs.declared.calls.Call.the-variants as inw
 use Rattle.link.specs.declared.calls.Call.{Call}
 use Rattle.link.specs.declared.calls.Call.the-variants as call
 use Rattle.promises.specs.Reports.{isAnew, isOn, numbersTaken, takenBy, numbersJoined, reported, reports, series, CountsOnce}
-use Rattle.record.specs.declared.incoming.InList.{InList}
-use Rattle.arrive_fragment.specs.Calls.{openedOn, piecedOn, finishedOn, arrivesFragment}
-use Rattle.arrive_fragment.specs.declared.Piece.{Piece}
-use Rattle.laws.proofs.Fates.{first-piece, later-piece}
-use Rattle.laws.proofs.Fragments.{fragment-has, finished-has, opened-pieced-whole, opened-pieced-sound, pieced-whole, pieced-sound}
-use Rattle.promises.proofs.Unreported.{part-set, numberOn, Unreported, state-unreported, outward-unreported, receive-unreported}
 use Rattle.promises.proofs.Picks.{picked}
 use Rattle.promises.proofs.Sounding.{fresh-whole, call-sounds}
+use Rattle.promises.proofs.Unreported.{part-set, numberOn, Unreported, state-unreported, outward-unreported, receive-unreported}
 
 abbrev gate : Settings → Peer → Gate
 gate s p = gateOf (fits s lent.Nothing) (sound p)
