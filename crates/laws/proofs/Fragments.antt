@@ -4,10 +4,10 @@
 use Prim.Native.Nat.{ℕ, _+_, _<_}
 use mathlib.Core.Path.{_≡_, refl, ap, sym, _∙_}
 use mathlib.Core.Bool.{Bool, true, false, not}
-use mathlib.Core.List.{List, [], _∷_}
+use mathlib.Core.List.{List, [], _∷_, _++_}
 use native.Mathlib.Omega.{arith}
 use lib.Dec.{eqb, ltb, leb}
-use lib.ListN.{length, getD, length-set, length-take}
+use lib.ListN.{length, take, drop, getD, length-set, length-take}
 use lib.Seq.{getD-set-same, getD-take}
 use borrow.Author.Tests.{eqb-true, eqb-false, eq-eqb, ne-eqb}
 use Rattle.numbers.specs.Pick.{pick, both}
@@ -48,12 +48,13 @@ use Rattle.dispatch.proofs.Sums.{held-within}
 use Rattle.dispatch.proofs.Sound.{dispatched-sound}
 use Rattle.arrival.proofs.Admitted.{Admitted, admitted}
 use Rattle.arrival.specs.Arrivals.{passedOver, stored, answerOf, names, isReceiving, isWhole, arrivalGate}
+use Rattle.arrive_reliable.specs.Holding.{numberDistance, placeOf, heldWith}
 use Rattle.arrive_fragment.specs.Pieces.{channelOf, fateOn, replyOf}
 use Rattle.arrive_fragment.specs.Calls.{sendFragment, arrivalOf, openedOn, piecedOn, finishedOn, pieceOn, fragmentAfter, fragmentSound, arrivesFragment}
 use Rattle.arrive_fragment.specs.declared.Piece.{Piece}
 use Rattle.arrive_fragment.specs.declared.Fate.{Fate}
 use Rattle.arrive_fragment.specs.declared.Fate.the-variants as fate
-use Rattle.laws.proofs.Holding.{joined-by, joined-whole, joined-sound, now, in-pool}
+use Rattle.laws.proofs.Holding.{at-all-channels, joined-items, joined-by, joined-whole, joined-sound, now, in-pool}
 use Rattle.laws.proofs.Fates.{FirstPiece, LaterPiece, first-piece, later-piece, fields-fit, like-count, unfinished-block}
 use Rattle.laws.proofs.Pieced.{pieced-on-sound, pieced-on-whole}
 
@@ -219,10 +220,28 @@ module _ (s : Settings) (a : Piece) (p : Peer) (n : ℕ) (whole : Whole p) (good
   pub opened-slot : getD (openedOn n a p .incoming) n noIncoming ≡ slot
   opened-slot = getD-set-same (p .incoming) n slot noIncoming (in-pool p (a .channel) number n slot whole good on (f .free))
 
+  -- where it stands in its channel's list, and any sum over what is named has one more
+  abbrev place : ℕ
+  place =
+      let c = channelOf a p in
+      placeOf (p .incoming) (inItems (c .held)) (c .«incoming_reliable» .0) (numberDistance (c .«incoming_reliable» .0) number)
+
+  pub opened-items : inItems (heldWith (p .incoming) (channelOf a p) number n .held)
+      ≡ take place (inItems (channelOf a p .held)) ++ (n ∷ drop place (inItems (channelOf a p .held)))
+  opened-items = joined-items p (a .channel) number n slot whole good on (f .free)
+
+  pub opened-channel : getD (openedOn n a p .channels) (a .channel) noChannel ≡ heldWith (p .incoming) (channelOf a p) number n
+  opened-channel = getD-set-same (p .channels) (a .channel) _ noChannel (at-all-channels p (a .channel) number n slot whole good on (f .free))
+
+  pub opened-by : (g : List ℕ → ℕ) → ((xs ys : List ℕ) → g (xs ++ ys) ≡ g xs + g ys)
+      → g (usedIn (p .lists) (below (openedOn n a p .channels) (p .standing .channels))) ≡ g (n ∷ []) + g (usedIn (p .lists) (counted p))
+  opened-by g adds =
+      ap (λ (ds : List Channel). g (usedIn (p .lists) ds)) (now p (a .channel) number n slot whole good on (f .free))
+      ∙ joined-by p (a .channel) number n slot whole good on (f .free) g adds
+
   pub opened-named : 0 < times (usedIn (p .lists) (below (openedOn n a p .channels) (p .standing .channels))) n
   opened-named =
-      rw (now p (a .channel) number n slot whole good on (f .free))
-      (omega (arith, first-here, joined-by p (a .channel) number n slot whole good on (f .free) (λ (xs : List ℕ). times xs n) (λ xs ys. times-append xs ys n)))
+      omega (arith, first-here, opened-by (λ (xs : List ℕ). times xs n) (λ xs ys. times-append xs ys n))
     where
       first-here : times (n ∷ []) n ≡ 1
       first-here = rw (eq-eqb n n refl)

@@ -13,6 +13,7 @@ pub mod Pieced
 pub mod Fragments
 pub mod Landing
 pub mod Stores
+pub mod FragmentStores
 pub mod SameViews
 pub mod SameLaws
 pub mod SamePairs
