@@ -1,152 +1,224 @@
--- What a channel holds, by distance: laws on numbers and on lists of slots alone.
--- The argument: a number is next exactly at distance 1; one step of the last number brings all the others one nearer; so what a dispatch leaves of a
--- list in the order of distance begins past 1.
-use Prim.Native.Nat.{ℕ, suc, _+_, _≤_, _<_}
+-- What a channel holds, by distance: laws on numbers and on lists of slots alone. Each slot takes as many numbers as it has pieces, a packet one.
+-- The argument: a number is next exactly at distance 1; a dispatch moves the last number by as many as the slot takes and so brings all the others that much nearer;
+-- all but the first of a list in order lie past distance 1, so that nothing follows once the first does not.
+use Prim.Native.Nat.{ℕ, suc, _+_, _-_, _%_, _≤_, _<_}
 use mathlib.Core.Path.{_≡_, refl, ap, sym, subst, _∙_}
 use mathlib.Core.Bool.{Bool, true, false}
-use mathlib.Core.List.{List, [], _∷_, _++_, map}
+use mathlib.Core.List.{List, [], _∷_, _++_}
+use mathlib.Core.Logic.{_⊎_, inl, inr, ⊎-elim}
 use native.Mathlib.Omega.{arith}
-use lib.Dec.{eqb, ltb}
+use lib.Dec.{eqb, leb, ltb}
 use lib.ListN.{length, take, drop, getD, set}
 use lib.Seq.{getD-set-same, getD-set-other}
-use borrow.Author.Tests.{eqb-true, eq-eqb, ne-eqb, ltb-true, ltb-false, lt-ltb}
+use borrow.Author.Tests.{eqb-true, eqb-false, eq-eqb, ltb-true, ltb-false, lt-ltb, leb-true}
 use Rattle.numbers.specs.Pick.{pick}
 use Rattle.numbers.specs.Counters.{step}
-use Rattle.numbers.proofs.BoolLaws.{both-right, both-true}
+use Rattle.numbers.proofs.BoolLaws.{both-left, both-right}
 use Rattle.record.proofs.Keeps.{one, times}
 use Rattle.record.specs.Fresh.{noIncoming}
+use Rattle.record.specs.Damage.{all}
 use Rattle.record.specs.declared.groups.Incoming.{Incoming}
 use Rattle.dispatch.specs.Dispatching.{follows, numberAfter, readyCount, readyLast}
-use Rattle.arrive_reliable.specs.Holding.{numberDistance, numberAt, holds, placeOf}
-use Rattle.promises.specs.Held.{Rising}
-use Rattle.promises.proofs.Reporting.{Plain, after-plain}
+use Rattle.arrive_reliable.specs.Holding.{numberDistance, numberAt, placeOf}
+use Rattle.promises.specs.Held.{spanAt, Rising, isApart}
+use Rattle.promises.proofs.Reporting.{follows-number}
+
+-- the first of two tests, of which none is so
+pub neither-first : (a b : Bool) → pick a true b ≡ false → a ≡ false
+neither-first true b e = e
+neither-first false b e = refl
 
 -- ---- numbers below 65,536
 pub next-near : (last : ℕ) → last < 65536 → numberDistance last (step last) ≡ 1
 next-near last h = omega (arith, h)
 
-near-next : (last n : ℕ) → last < 65536 → n < 65536 → numberDistance last n ≡ 1 → n ≡ step last
+pub near-next : (last n : ℕ) → last < 65536 → n < 65536 → numberDistance last n ≡ 1 → n ≡ step last
 near-next last n h k e = omega (arith, h, k, e)
 
-one-nearer : (last n : ℕ) → last < 65536 → n < 65536 → 0 < numberDistance last n → numberDistance (step last) n + 1 ≡ numberDistance last n
-one-nearer last n h k e = omega (arith, h, k, e)
+-- what is more than m away is m nearer once the last number moved by m
+nearer : (last n m : ℕ) → last < 65536 → n < 65536 → m < numberDistance last n → numberDistance ((last + m) % 65536) n + m ≡ numberDistance last n
+nearer last n m h k e = go (ltb (last + m) 65536) refl
+  where
+    below : (next : ℕ) → next < 65536 → next ≡ last + m → numberDistance next n + m ≡ numberDistance last n
+    below next l z = omega (arith, h, k, e, l, z)
 
-same-ahead : (last m n : ℕ) → last < 65536 → m < 65536 → n < 65536 → numberDistance last m ≡ numberDistance last n → m ≡ n
-same-ahead last m n h k l e = omega (arith, h, k, l, e)
+    above : (next : ℕ) → next + 65536 ≡ last + m → numberDistance next n + m ≡ numberDistance last n
+    above next z = omega (arith, h, k, e, z)
 
--- ---- what is held stands past k, each past the one before
--- a slot that is complete, with a number of 16 bits, past k
-pub record Past (last k : ℕ) (i : Incoming) : Type 0 where
-  pub low : i .number .0 < 65536
-  pub complete : i .remaining ≡ 0
-  pub past : k < numberDistance last (i .number .0)
+    go : (b : Bool) → ltb (last + m) 65536 ≡ b → numberDistance ((last + m) % 65536) n + m ≡ numberDistance last n
+    go true t = let l = ltb-true (last + m) 65536 t in below ((last + m) % 65536) (omega arith) (omega (arith, l))
+    go false t = let l = ltb-false (last + m) 65536 t in above ((last + m) % 65536) (omega (arith, l, h, e))
+
+-- ---- how many numbers a slot takes
+abbrev pub spanOf : Incoming → ℕ
+spanOf i = pick (eqb (i .fragments) 0) 1 (i .fragments)
+
+pub span-some : (i : Incoming) → 1 ≤ spanOf i
+span-some i = go (eqb (i .fragments) 0) refl
+  where
+    go : (b : Bool) → eqb (i .fragments) 0 ≡ b → 1 ≤ pick b 1 (i .fragments)
+    go true e = omega arith
+    go false e = omega (arith, eqb-false (i .fragments) 0 e)
+
+-- the number that it leaves as the last, if it is next
+after-next : (last : ℕ) (i : Incoming) → i .number .0 ≡ step last → numberAfter i ≡ (last + spanOf i) % 65536
+after-next last i e = go (eqb (i .fragments) 0) refl
+  where
+    go : (b : Bool) → eqb (i .fragments) 0 ≡ b
+        → pick b (i .number .0) ((i .number .0 + (i .fragments - 1)) % 65536) ≡ (last + pick b 1 (i .fragments)) % 65536
+    go true t = e
+    go false t = let some = eqb-false (i .fragments) 0 t in by (i .number .0) (i .fragments) e some
+      where
+        by : (n k : ℕ) → n ≡ step last → (k ≡ 0 → ⊥) → (n + (k - 1)) % 65536 ≡ (last + k) % 65536
+        by n k e some = omega (arith, e, some)
+
+-- ---- what is held stands past k, each past the last number of the one before
+-- a number of 16 bits, past k
+pub record Past (last k n : ℕ) : Type 0 where
+  pub low : n < 65536
+  pub past : k < numberDistance last n
 
 abbrev pub Climbs : List Incoming → ℕ → ℕ → List ℕ → Type 0
 Climbs slots last k [] = Unit {0}
-Climbs slots last k (s ∷ ss) = Past last k (getD slots s noIncoming) × Climbs slots last (numberDistance last (numberAt slots s)) ss
+Climbs slots last k (s ∷ ss) =
+    Past last k (numberAt slots s) × Climbs slots last (numberDistance last (numberAt slots s) + (spanAt slots s - 1)) ss
 
 -- of a channel with this last number
-pub record Stands (slots : List Incoming) (last k : ℕ) (ss : List ℕ) : Type 0 where
+pub record Stands (slots : List Incoming) (last : ℕ) (ss : List ℕ) : Type 0 where
   pub low : last < 65536
-  pub climbs : Climbs slots last k ss
+  pub climbs : Climbs slots last 0 ss
 
-pub climbs-rising : (slots : List Incoming) (last k : ℕ) (ss : List ℕ) → Climbs slots last k ss
-    → Rising k (map (λ (s : ℕ). numberDistance last (numberAt slots s)) ss)
+-- and nothing is complete and next
+pub record Rests (slots : List Incoming) (last : ℕ) (ss : List ℕ) : Type 0 where
+  pub stands : Stands slots last ss
+  pub waits : (s : ℕ) → 0 < times ss s → follows last (getD slots s noIncoming) ≡ false
+
+pub climbs-rising : (slots : List Incoming) (last k : ℕ) (ss : List ℕ) → Climbs slots last k ss → Rising slots last k ss
+unfolding Rising
 climbs-rising slots last k [] c = tt
-climbs-rising slots last k (s ∷ ss) c = (c .0 .past, climbs-rising slots last (numberDistance last (numberAt slots s)) ss (c .1))
+climbs-rising slots last k (s ∷ ss) c =
+    (c .0 .past, climbs-rising slots last (numberDistance last (numberAt slots s) + (spanAt slots s - 1)) ss (c .1))
 
--- what is past k is past less
-pub stands-from : (slots : List Incoming) (last j k : ℕ) (ss : List ℕ) → j ≤ k → Stands slots last k ss → Stands slots last j ss
-stands-from slots last j k ss h c = record { low = c .low; climbs = go ss (c .climbs) }
-  where
-    go : (ss : List ℕ) → Climbs slots last k ss → Climbs slots last j ss
-    go [] c = tt
-    go (s ∷ ss) c =
-        let far = c .0 .past in
-        (record { low = c .0 .low; complete = c .0 .complete; past = omega (arith, far, h) }, c .1)
+-- the first of a list is named, and so is what the rest names
+pub named-first : (s : ℕ) (ss : List ℕ) → 0 < times (s ∷ ss) s
+named-first s ss = let w : one s s ≡ 1 = rw (eq-eqb s s refl) in omega (arith, w)
 
+pub named-rest : (s n : ℕ) (ss : List ℕ) → 0 < times ss n → 0 < times (s ∷ ss) n
+named-rest s n ss h = omega (arith, h)
+
+-- ---- slots alike: the same number and as many pieces
+pub record Alike (i j : Incoming) : Type 0 where
+  pub number : i .number .0 ≡ j .number .0
+  pub fragments : i .fragments ≡ j .fragments
+
+pub same-alike : (i j : Incoming) → i ≡ j → Alike i j
+same-alike i j e = record { number = ap (λ (k : Incoming). k .number .0) e; fragments = ap (λ (k : Incoming). k .fragments) e }
+
+module _ (slots now : List Incoming) (last : ℕ) where
+  pub climbs-alike : (k : ℕ) (ss : List ℕ) → ((s : ℕ) → 0 < times ss s → Alike (getD now s noIncoming) (getD slots s noIncoming))
+      → Climbs slots last k ss → Climbs now last k ss
+  climbs-alike k [] e c = tt
+  climbs-alike k (s ∷ ss) e c =
+      let is = e s (named-first s ss) in
+      let same =
+      ap (λ (n : ℕ). numberDistance last n + (spanAt now s - 1)) (is .number)
+      ∙ ap (λ (f : ℕ). numberDistance last (numberAt slots s) + (pick (eqb f 0) 1 f - 1)) (is .fragments) in (
+        subst (Past last k) (sym (is .number)) (c .0),
+        subst (λ (m : ℕ). Climbs now last m ss) (sym same)
+            (climbs-alike (numberDistance last (numberAt slots s) + (spanAt slots s - 1)) ss (λ n h. e n (named-rest s n ss h)) (c .1)),
+      )
+
+  pub stands-alike : (ss : List ℕ) → ((s : ℕ) → 0 < times ss s → Alike (getD now s noIncoming) (getD slots s noIncoming))
+      → Stands slots last ss → Stands now last ss
+  stands-alike ss e c = record { low = c .low; climbs = climbs-alike 0 ss e (c .climbs) }
+
+-- the same slots, as far as the list names them
+pub rests-with : (slots now : List Incoming) (last : ℕ) (ss : List ℕ) → ((s : ℕ) → 0 < times ss s → getD now s noIncoming ≡ getD slots s noIncoming)
+    → Rests slots last ss → Rests now last ss
+rests-with slots now last ss e r =
+    record {
+      stands = stands-alike slots now last ss (λ s h. same-alike _ _ (e s h)) (r .stands);
+      waits = λ s h. ap (follows last) (e s h) ∙ r .waits s h;
+    }
+
+-- ---- a dispatch
 module _ (slots : List Incoming) where
   abbrev at : ℕ → Incoming
   at s = getD slots s noIncoming
 
-  -- the number after the last is not held
-  pub next-free : (last k : ℕ) (ss : List ℕ) → last < 65536 → 1 ≤ k → Climbs slots last k ss → holds slots ss (step last) ≡ false
-  unfolding holds
-  next-free last k [] h w c = refl
-  next-free last k (s ∷ ss) h w c =
-      let far = c .0 .past in
-      rw (
-        ne-eqb (numberAt slots s) (step last) (λ z. omega (arith, far, w, ap (numberDistance last) z, next-near last h)),
-        next-free last (numberDistance last (numberAt slots s)) ss h (omega (arith, far, w)) (c .1),
-      )
-
-  -- ---- a dispatch
-  -- a step of the last number
-  stepped : (last j k : ℕ) (ss : List ℕ) → last < 65536 → k + 1 ≡ j → Climbs slots last j ss → Climbs slots (step last) k ss
-  stepped last j k [] h e c = tt
-  stepped last j k (s ∷ ss) h e c =
+  -- the last number moves by m
+  moved : (last m j k : ℕ) (ss : List ℕ) → last < 65536 → k + m ≡ j → Climbs slots last j ss → Climbs slots ((last + m) % 65536) k ss
+  moved last m j k [] h e c = tt
+  moved last m j k (s ∷ ss) h e c =
       let n = numberAt slots s in
       let far = c .0 .past in
-      let less = one-nearer last n h (c .0 .low) (omega (arith, far, e)) in (
-        record { low = c .0 .low; complete = c .0 .complete; past = omega (arith, far, e, less) },
-        stepped last (numberDistance last n) (numberDistance (step last) n) ss h less (c .1),
+      let less = nearer last n m h (c .0 .low) (omega (arith, far, e)) in (
+        record { low = c .0 .low; past = omega (arith, far, e, less) },
+        moved last m (numberDistance last n + (spanAt slots s - 1)) (numberDistance ((last + m) % 65536) n + (spanAt slots s - 1)) ss h (omega (arith, less))
+            (c .1),
       )
 
-  -- what does not follow is farther than 1
-  not-next : (last : ℕ) (i : Incoming) → last < 65536 → Past last 0 i → follows last i ≡ false → 1 < numberDistance last (i .number .0)
-  not-next last i h c e =
-      let far = c .past in
-      let other : numberDistance last (i .number .0) ≡ 1 → ⊥ = λ z. is-next z in
-      omega (arith, far, other)
+  -- what is past distance 1 does not follow
+  far-waits : (last : ℕ) (i : Incoming) → last < 65536 → 1 < numberDistance last (i .number .0) → follows last i ≡ false
+  far-waits last i h far = go (follows last i) refl
     where
-      is-next : numberDistance last (i .number .0) ≡ 1 → ⊥
-      is-next z =
-          let n = i .number .0 in
-          let t : follows last i ≡ true =
-          both-true (eqb (i .remaining) 0) (eqb n (step last)) (eq-eqb (i .remaining) 0 (c .complete))
-          (eq-eqb n (step last) (near-next last n h (c .low) z)) in
-          let w : _≡_ {A = ℕ} 1 0 = ap (λ (b : Bool). pick b 1 0) (sym t ∙ e) in
-          omega (arith, w)
+      go : (b : Bool) → follows last i ≡ b → b ≡ false
+      go true e = absurd (omega (arith, far, ap (numberDistance last) (follows-number last i e), next-near last h))
+      go false e = refl
 
-  pub left-stands : Plain slots → (ss : List ℕ) (last : ℕ) → Stands slots last 0 ss
-      → Stands slots (readyLast slots ss last) 1 (drop (readyCount slots ss last) ss)
+  rest-waits : (last k : ℕ) (ss : List ℕ) → last < 65536 → 1 ≤ k → Climbs slots last k ss → (s : ℕ) → 0 < times ss s → follows last (at s) ≡ false
+  rest-waits last k [] h l c s z = absurd (omega (arith, z))
+  rest-waits last k (x ∷ xs) h l c s z =
+      let far = c .0 .past in
+      go (rest-waits last (numberDistance last (numberAt slots x) + (spanAt slots x - 1)) xs h (omega (arith, far, l)) (c .1) s) (eqb x s) refl z
+    where
+      go : (0 < times xs s → follows last (at s) ≡ false) → (b : Bool) → eqb x s ≡ b → 0 < pick b 1 0 + times xs s → follows last (at s) ≡ false
+      go rest true e z =
+          let far = c .0 .past in
+          subst (λ (n : ℕ). follows last (at n) ≡ false) (eqb-true x s e) (far-waits last (at x) h (omega (arith, far, l)))
+      go rest false e z = rest (omega (arith, z))
+
+  -- the first does not follow
+  first-waits : (last s : ℕ) (ss : List ℕ) → Stands slots last (s ∷ ss) → follows last (at s) ≡ false → Rests slots last (s ∷ ss)
+  first-waits last s ss c e = record { stands = c; waits = λ n z. go n (eqb s n) refl z }
+    where
+      go : (n : ℕ) (b : Bool) → eqb s n ≡ b → 0 < pick b 1 0 + times ss n → follows last (at n) ≡ false
+      go n true t z = subst (λ (m : ℕ). follows last (at m) ≡ false) (eqb-true s n t) e
+      go n false t z =
+          let far = c .climbs .0 .past in
+          rest-waits last (numberDistance last (numberAt slots s) + (spanAt slots s - 1)) ss (c .low) (omega (arith, far)) (c .climbs .1) n (omega (arith, z))
+
+  pub left-rests : (ss : List ℕ) (last : ℕ) → Stands slots last ss → Rests slots (readyLast slots ss last) (drop (readyCount slots ss last) ss)
   unfolding readyCount readyLast
-  left-stands p [] last c = record { low = c .low; climbs = tt }
-  left-stands p (s ∷ ss) last c = go (follows last (at s)) refl (left-stands p ss (numberAt slots s))
+  left-rests [] last c = record { stands = c; waits = λ s z. absurd (omega (arith, z)) }
+  left-rests (s ∷ ss) last c = go (follows last (at s)) refl (left-rests ss (numberAfter (at s)))
     where
-      n : ℕ
-      n = numberAt slots s
-
-      first : Past last 0 (at s)
-      first = c .climbs .0
+      m : ℕ
+      m = numberAfter (at s)
 
       go : (b : Bool) → follows last (at s) ≡ b
-          → (Stands slots n 0 ss → Stands slots (readyLast slots ss n) 1 (drop (readyCount slots ss n) ss))
-          → Stands slots (pick b (readyLast slots ss (numberAfter (at s))) last) 1
-          (drop (pick b (suc (readyCount slots ss (numberAfter (at s)))) 0) (s ∷ ss))
+          → (Stands slots m ss → Rests slots (readyLast slots ss m) (drop (readyCount slots ss m) ss))
+          → Rests slots (pick b (readyLast slots ss m) last) (drop (pick b (suc (readyCount slots ss m)) 0) (s ∷ ss))
       go true e rest =
-          let is : n ≡ step last = eqb-true n (step last) (both-right (eqb (at s .remaining) 0) (eqb n (step last)) e) in
+          let is = follows-number last (at s) e in
           let one-past = ap (numberDistance last) is ∙ next-near last (c .low) in
-          rw (after-plain (at s) (p s))
-          (rest
+          let some = span-some (at s) in
+          let k = spanOf (at s) in
+          rest
+          (subst (λ (n : ℕ). Stands slots n ss) (sym (after-next last (at s) is))
           (record {
-            low = first .low;
-            climbs = subst (λ (m : ℕ). Climbs slots m 0 ss) (sym is) (stepped last (numberDistance last n) 0 ss (c .low) (sym one-past) (c .climbs .1));
+            low = omega arith;
+            climbs = moved last k (numberDistance last (numberAt slots s) + (k - 1)) 0 ss (c .low) (omega (arith, one-past, some)) (c .climbs .1);
           }))
-      go false e rest =
-          record {
-            low = c .low;
-            climbs =
-                (record { low = first .low; complete = first .complete; past = not-next last (at s) (c .low) first e }, c .climbs .1);
-          }
+      go false e rest = first-waits last s ss c e
 
--- a list that does not hold a number: neither its first does, nor the rest
-first-not : (m n : ℕ) (rest : Bool) → pick (eqb m n) true rest ≡ false → m ≡ n → ⊥
-first-not m n rest e z =
-    let w : _≡_ {A = ℕ} 1 0 = ap (λ (b : Bool). pick b 1 0) (ap (λ (b : Bool). pick b true rest) (sym (eq-eqb m n z)) ∙ e) in omega (arith, w)
-
-rest-not : (m n : ℕ) (rest : Bool) → pick (eqb m n) true rest ≡ false → rest ≡ false
-rest-not m n rest e = rw (ne-eqb m n (first-not m n rest e)) at e
+-- ---- a slot written that the list does not name, and then named in its place
+pub apart-ways : (d k e j : ℕ) → isApart d k e j ≡ true → (d + k ≤ e) ⊎ (e + j ≤ d)
+apart-ways d k e j = go (leb (d + k) e) refl
+  where
+    go : (b : Bool) → leb (d + k) e ≡ b → pick b true (leb (e + j) d) ≡ true → (d + k ≤ e) ⊎ (e + j ≤ d)
+    go true t z = inl (leb-true (d + k) e t)
+    go false t z = inr (leb-true (e + j) d z)
 
 -- what is no farther than all that is held stands before it
 pub nearest : (slots : List Incoming) (last k : ℕ) (ss : List ℕ) → Climbs slots last k ss → placeOf slots ss last k ≡ 0
@@ -154,26 +226,19 @@ unfolding placeOf
 nearest slots last k [] c = refl
 nearest slots last k (s ∷ ss) c = rw (lt-ltb k (numberDistance last (numberAt slots s)) (c .0 .past))
 
--- ---- a slot written that the list does not name, and then named in its place
 module _ (slots : List Incoming) (n : ℕ) (i : Incoming) where
   abbrev with : List Incoming
   with = set slots n i
 
-  other : (s : ℕ) (ss : List ℕ) → times (s ∷ ss) n ≡ 0 → getD with s noIncoming ≡ getD slots s noIncoming
-  other s ss e = getD-set-other slots n s i noIncoming (λ z. let w : one s n ≡ 1 = rw (eq-eqb s n z) in omega (arith, e, w))
+  pub unnamed-same : (ss : List ℕ) → times ss n ≡ 0 → (s : ℕ) → 0 < times ss s → getD with s noIncoming ≡ getD slots s noIncoming
+  unnamed-same ss e s h = getD-set-other slots n s i noIncoming (λ z. let w = ap (times ss) z in omega (arith, e, h, w))
 
-  pub written-climbs : (last k : ℕ) (ss : List ℕ) → times ss n ≡ 0 → Climbs slots last k ss → Climbs with last k ss
-  written-climbs last k [] e c = tt
-  written-climbs last k (s ∷ ss) e c =
-      let is = other s ss e in (
-        subst (Past last k) (sym is) (c .0),
-        subst (λ (j : Incoming). Climbs with last (numberDistance last (j .number .0)) ss) (sym is)
-            (written-climbs last (numberDistance last (numberAt slots s)) ss (omega (arith, e)) (c .1)),
-      )
-
-  module _ (last : ℕ) (h : last < 65536) (here : n < length slots) (low : i .number .0 < 65536) (complete : i .remaining ≡ 0) where
+  module _ (last : ℕ) (here : n < length slots) (low : i .number .0 < 65536) where
     abbrev d : ℕ
     d = numberDistance last (i .number .0)
+
+    abbrev apart : ℕ → Bool
+    apart s = isApart d (spanOf i) (numberDistance last (numberAt slots s)) (spanAt slots s)
 
     own : getD with n noIncoming ≡ i
     own = getD-set-same slots n i noIncoming here
@@ -184,30 +249,44 @@ module _ (slots : List Incoming) (n : ℕ) (i : Incoming) where
     abbrev Placed : ℕ → List ℕ → Type 0
     Placed k ss = Climbs with last k (take (place ss) ss ++ (n ∷ drop (place ss) ss))
 
-    pub placed-climbs : (k : ℕ) (ss : List ℕ) → times ss n ≡ 0 → holds slots ss (i .number .0) ≡ false → k < d → Climbs slots last k ss → Placed k ss
-    unfolding placeOf holds
-    placed-climbs k [] e f z c = (subst (Past last k) (sym own) (record { low = low; complete = complete; past = z }), tt)
+    -- it stands first of what follows it
+    foremost : (k : ℕ) (ss : List ℕ) → k < d → Climbs with last (d + (spanOf i - 1)) ss → Climbs with last k (n ∷ ss)
+    foremost k ss z c =
+        subst (λ (j : Incoming). Past last k (j .number .0) × Climbs with last (numberDistance last (j .number .0) + (spanOf j - 1)) ss) (sym own)
+        (record { low = low; past = z }, c)
+
+    pub placed-climbs : (k : ℕ) (ss : List ℕ) → times ss n ≡ 0 → all apart ss ≡ true → k < d → Climbs slots last k ss → Placed k ss
+    unfolding placeOf all
+    placed-climbs k [] e f z c = foremost k [] z tt
     placed-climbs k (s ∷ ss) e f z c =
-        go (ltb d (numberDistance last (numberAt slots s))) refl
-        (λ free near. placed-climbs (numberDistance last (numberAt slots s)) ss (omega (arith, e)) free near (c .1))
+        go (ltb d (numberDistance last m)) refl
+        (λ near. placed-climbs (numberDistance last m + (j - 1)) ss (omega (arith, e)) (both-right (apart s) (all apart ss) f) near (c .1))
       where
         m : ℕ
         m = numberAt slots s
 
+        j : ℕ
+        j = spanAt slots s
+
+        ways : (d + spanOf i ≤ numberDistance last m) ⊎ (numberDistance last m + j ≤ d)
+        ways = apart-ways d (spanOf i) (numberDistance last m) j (both-left (apart s) (all apart ss) f)
+
         go : (b : Bool) → ltb d (numberDistance last m) ≡ b
-            → (holds slots ss (i .number .0) ≡ false → numberDistance last m < d → Placed (numberDistance last m) ss)
+            → (numberDistance last m + (j - 1) < d → Placed (numberDistance last m + (j - 1)) ss)
             → let at = pick b 0 (suc (place ss)) in Climbs with last k (take at (s ∷ ss) ++ (n ∷ drop at (s ∷ ss)))
-        go true t rest = (
-          subst (Past last k) (sym own) (record { low = low; complete = complete; past = z }),
-          subst (λ (j : Incoming). Climbs with last (numberDistance last (j .number .0)) (s ∷ ss)) (sym own)
-              (written-climbs last d (s ∷ ss) e
-              (record { low = c .0 .low; complete = c .0 .complete; past = ltb-true d (numberDistance last m) t }, c .1)),
-        )
+        go true t rest =
+            let near = ltb-true d (numberDistance last m) t in
+            let some = span-some i in
+            let past : d + (spanOf i - 1) < numberDistance last m =
+            ⊎-elim (λ w. omega (arith, some, w)) (λ w. absurd (omega (arith, near, w))) ways in
+            foremost k (s ∷ ss) z
+            (climbs-alike slots with last (d + (spanOf i - 1)) (s ∷ ss) (λ x h. same-alike _ _ (unnamed-same (s ∷ ss) e x h))
+            (record { low = c .0 .low; past = past }, c .1))
         go false t rest =
-            let is = other s ss e in
-            let differs : m ≡ i .number .0 → ⊥ = first-not m (i .number .0) (holds slots ss (i .number .0)) f in
-            let apart : numberDistance last m ≡ d → ⊥ = λ q. differs (same-ahead last m (i .number .0) h (c .0 .low) low q) in (
-              subst (Past last k) (sym is) (c .0),
-              subst (λ (j : Incoming). Placed (numberDistance last (j .number .0)) ss) (sym is)
-                  (rest (rest-not m (i .number .0) (holds slots ss (i .number .0)) f) (omega (arith, apart, ltb-false d (numberDistance last m) t))),
-            )
+            let far = ltb-false d (numberDistance last m) t in
+            let some = span-some i in
+            let own-some = span-some (getD slots s noIncoming) in
+            let before : numberDistance last m + (j - 1) < d =
+            ⊎-elim (λ w. absurd (omega (arith, far, some, w))) (λ w. omega (arith, own-some, w)) ways in
+            subst (λ (x : Incoming). Past last k (x .number .0) × Placed (numberDistance last (x .number .0) + (spanOf x - 1)) ss)
+            (sym (unnamed-same (s ∷ ss) e s (named-first s ss))) (c .0, rest before)

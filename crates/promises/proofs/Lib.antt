@@ -10,6 +10,7 @@ pub mod Stepping
 pub mod Traces
 pub mod Sounding
 pub mod Waiting
+pub mod Unreported
 pub mod Reporting
 pub mod Presence
 pub mod Quiet
@@ -24,6 +25,7 @@ pub mod ReportTraces
 pub mod Transits
 pub mod Shown
 pub mod HeldLaws
+pub mod HeldWays
 pub mod Held
 pub mod NextReliable
 pub mod Sorts

@@ -45,7 +45,7 @@ use Rattle.arrive_reliable.specs.Calls.{channelOf, reliableAfter, arrivesReliab
 use Rattle.laws.proofs.Unsequenced.{unsequenced-has}
 use Rattle.laws.proofs.Reliable.{reliable-has}
 use Rattle.promises.specs.Outbook.{itemOf, waiting}
-use Rattle.promises.proofs.Reporting.{part-set}
+use Rattle.promises.proofs.Unreported.{part-set}
 
 -- the last reliable number that a channel gave out
 abbrev pub givenOn : List Channel → ℕ → Reliable

@@ -40,7 +40,7 @@ use Rattle.laws.proofs.Acknowledged.{acknowledge-removes}
 use Rattle.laws.proofs.Checked.{check-moves, check-sounds}
 use Rattle.promises.specs.Counts.{count}
 use Rattle.promises.specs.Outbook.{Item, itemOf, itemsAt, waiting, missing, gone, heard, isNamed}
-use Rattle.promises.proofs.Reporting.{part-set}
+use Rattle.promises.proofs.Unreported.{part-set}
 use Rattle.promises.proofs.OutCounts.{count-map, count-all, map-same, count-same, once-times, missing-none, missing-count}
 
 abbrev gate : Settings → Peer → Gate
