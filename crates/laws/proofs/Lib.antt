@@ -8,8 +8,12 @@ pub mod Pools
 pub mod Unsequenced
 pub mod Holding
 pub mod Reliable
+pub mod Fates
+pub mod Pieced
+pub mod Fragments
 pub mod Landing
 pub mod Stores
+pub mod FragmentStores
 pub mod SameViews
 pub mod SameLaws
 pub mod SamePairs

@@ -4,6 +4,7 @@ pub mod Untouched
 pub mod Joining
 pub mod Landing
 pub mod Stores
+pub mod Pieces
 pub mod Same
 pub mod Done
 pub mod Steady
