@@ -13,6 +13,7 @@ pub mod Reporting
 pub mod Presence
 pub mod Quiet
 pub mod Passing
+pub mod Building
 pub mod Comings
 pub mod Examples
 pub mod Fitting
