@@ -74,7 +74,7 @@ pub data From (x y : State) (s : ℕ) : Type 0 where
   old : 0 < times (named (x .peer)) s → slotOf y s ≡ slotOf x s → (isBlock (slotOf x s) ≡ true → y .peer .marks ≡ x .peer .marks) → From x y s
   new : isBlock (slotOf y s) ≡ false → slotOf y s .remaining ≡ 0 → From x y s
 
-differ : {A : Type 0} {b : Bool} → b ≡ true → b ≡ false → A
+pub differ : {A : Type 0} {b : Bool} → b ≡ true → b ≡ false → A
 differ t f = let z : _≡_ {A = ℕ} 0 1 = cc in absurd (omega arith)
 
 pub stock-from : {B : OfBlock} (x y : State) → Stock B x → y .second ≡ x .second → ((s : ℕ) → 0 < times (named (y .peer)) s → From x y s)

@@ -14,6 +14,8 @@ pub mod Presence
 pub mod Quiet
 pub mod Passing
 pub mod Building
+pub mod Piecing
+pub mod Fragments
 pub mod Comings
 pub mod Examples
 pub mod Fitting

@@ -142,7 +142,7 @@ pub still : (p : Peer) → Still p p
 still p = record { slots = refl; items = refl; names = refl }
 
 -- the packet of a slot with these bytes
-abbrev ofSlot : Incoming → List ℕ → Packet
+abbrev pub ofSlot : Incoming → List ℕ → Packet
 ofSlot i bs = record { channel = i .channel; byte = i .byte; number = i .number .0; fragments = i .fragments; bytes = bs }
 
 -- the packet of what slot s holds, by both stores

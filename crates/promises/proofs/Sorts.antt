@@ -121,18 +121,18 @@ all-kinds out left put once known =
     )
 
 -- one packet, if it went in
-put-all : (f : Packet → Bool) (b : Bool) (k : Packet) → (b ≡ true → f k ≡ true) → let ks = pick b (k ∷ []) [] in count f ks ≡ length ks
+pub put-all : (f : Packet → Bool) (b : Bool) (k : Packet) → (b ≡ true → f k ≡ true) → let ks = pick b (k ∷ []) [] in count f ks ≡ length ks
 unfolding count
 put-all f true k h = rw (h refl)
 put-all f false k h = refl
 
-put-none : (f : Packet → Bool) (b : Bool) (k : Packet) → (b ≡ true → f k ≡ false) → count f (pick b (k ∷ []) []) ≡ 0
+pub put-none : (f : Packet → Bool) (b : Bool) (k : Packet) → (b ≡ true → f k ≡ false) → count f (pick b (k ∷ []) []) ≡ 0
 unfolding count
 put-none f true k h = rw (h refl)
 put-none f false k h = refl
 
 -- ---- a stored arrival's byte names its command
-gate-names : (command : ℕ) (a : Arrival) (s : Settings) (standing : Standing) (end : ℕ) → arrivalGate command a s standing end ≡ Open
+pub gate-names : (command : ℕ) (a : Arrival) (s : Settings) (standing : Standing) (end : ℕ) → arrivalGate command a s standing end ≡ Open
     → names (a .byte) command ≡ true
 gate-names command a s standing end e = go (names (a .byte) command) refl e
   where
@@ -145,7 +145,7 @@ gate-names command a s standing end e = go (names (a .byte) command) refl e
     go false t e = absurd (omega (arith, ap openness e))
 
 -- where the test fails, nothing needs be shown of it
-shut-one : {b c : Bool} → b ≡ false → b ≡ true → c ≡ true
+pub shut-one : {b c : Bool} → b ≡ false → b ≡ true → c ≡ true
 shut-one f t = cc
 
 module _ (s : Settings) (a : Arrival) (datagram : List ℕ) (x : State) where
@@ -298,7 +298,7 @@ numbers-newly x y =
     ∙ taken-slots y (drop (length (dispatchedIn x)) (dispatchedIn y))
 
 -- ---- a sound record's channel list holds slots of its channel
-own-at : (slots : List Incoming) (j : ℕ) (cs : List Channel) (i : ℕ) → own slots j cs ≡ true → i < length cs
+pub own-at : (slots : List Incoming) (j : ℕ) (cs : List Channel) (i : ℕ) → own slots j cs ≡ true → i < length cs
     → all (λ (s : ℕ). eqb (getD slots s noIncoming .channel) (j + i)) (inItems (getD cs i noChannel .held)) ≡ true
 unfolding own
 own-at slots j [] i e h = absurd (omega (arith, h))
@@ -327,7 +327,7 @@ count-all f g (x ∷ xs) e =
     omega (arith, is, count-all f g xs (both-right (f (g x)) (all (λ (s : ℕ). f (g s)) xs) e))
 
 module _ (channel : ℕ) (p : Peer) (whole : Whole p) (good : sound p ≡ true) (h : channel < p .standing .channels) where
-  moved-own : all (λ (s : ℕ). eqb (getD (p .incoming) s noIncoming .channel) channel) (take (readyIn channel p) (inItems (chosen channel p .held)))
+  pub moved-own : all (λ (s : ℕ). eqb (getD (p .incoming) s noIncoming .channel) channel) (take (readyIn channel p) (inItems (chosen channel p .held)))
       ≡ true
   moved-own =
       let f : ℕ → Bool = λ s. eqb (getD (p .incoming) s noIncoming .channel) channel in
@@ -354,12 +354,12 @@ pub record Joined (on : ℕ) (x y : State) : Type 0 where
   pub none : Unbegun (x .peer) → newly x y ≡ []
   pub same : Unbegun (y .peer) → Unbegun (x .peer)
 
-none-joined : (on : ℕ) (x : State) → Joined on x x
+pub none-joined : (on : ℕ) (x : State) → Joined on x x
 none-joined on x =
     let e = same-newly x in
     record { of = ap (count (isOf on)) e ∙ count-none (isOf on) ∙ sym (ap (λ (ks : List Packet). length ks) e); none = λ z. e; same = λ z. z }
 
-slots-joined : (on : ℕ) (x y : State) (js : List ℕ) → dispatchedIn y ≡ dispatchedIn x ++ js
+pub slots-joined : (on : ℕ) (x y : State) (js : List ℕ) → dispatchedIn y ≡ dispatchedIn x ++ js
     → all (λ (s : ℕ). eqb (getD (y .peer .incoming) s noIncoming .channel) on) js ≡ true
     → on < x .peer .standing .channels → (Unbegun (y .peer) → Unbegun (x .peer)) → Joined on x y
 slots-joined on x y js e theirs h same =
