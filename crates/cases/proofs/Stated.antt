@@ -7,9 +7,10 @@ use lib.ListN.{length}
 use Rattle.command.specs.Layout.{layout, total}
 use Rattle.cells.specs.Free.{firstFrom, countFrom, exist, once}
 use Rattle.record.specs.Fresh.{noLists, noChannel, noOutgoing, noIncoming}
+use Rattle.record.specs.Marks.{markedFrom, pieceMarked}
 use Rattle.record.specs.Sizes.{storeLength}
 use Rattle.peer.specs.Fresh.{freshPeer}
-use Rattle.record.specs.Damage.{all, held, heldFit, own, lengths}
+use Rattle.record.specs.Damage.{all, held, heldFit, own, lengths, blocks}
 use Rattle.peer.specs.Damage.{sound}
 use Rattle.peer.specs.Gate.{gated}
 use Rattle.peer.specs.Outcome.{State, Outcome}
@@ -40,5 +41,5 @@ module _ (words store : List ℕ) (long : length store ≡ storeLength) where
   lands base g = ap (λ (n : ℕ). landed (lent n (at base words store) g)) long
 
   pub stated : Hold (cases words store)
-  unfolding layout total firstFrom countFrom exist once noLists noChannel noOutgoing noIncoming freshPeer sound all held heldFit own lengths queuedAt queued queuedAll cutFrom readyCount readyLast withBit seek
+  unfolding layout total firstFrom countFrom exist once noLists noChannel noOutgoing noIncoming freshPeer sound all held heldFit own lengths blocks markedFrom pieceMarked queuedAt queued queuedAll cutFrom readyCount readyLast withBit seek
   stated = four _ _ _ _ _ _ _ _ _ (lands 0 32767) (lands 0 32768) (lands 33792 5) (lands 32768 5)

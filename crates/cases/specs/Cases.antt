@@ -13,13 +13,14 @@ use Rattle.throttle.specs.declared.Throttle.{Throttle}
 use Rattle.record.specs.Lists.{outItems, inItems}
 use Rattle.record.specs.declared.incoming.InList.{InList}
 use Rattle.record.specs.Fresh.{noOutgoing, noChannel}
-use Rattle.record.specs.Updates.{withWindow, withHeld, withLast, withValue}
+use Rattle.record.specs.Updates.{withWindow, withHeld, withLast, withValue, withTotal}
 use Rattle.record.specs.declared.groups.Trips.{Trips}
 use Rattle.record.specs.declared.groups.Incoming.{Incoming}
+use Rattle.record.specs.declared.groups.Marks.{Marks}
 use Rattle.peer.specs.Fresh.{freshPeer}
 use Rattle.peer.specs.States.{connected}
 use Rattle.peer.specs.Outcome.{State, Outcome}
-use Rattle.peer.specs.Updates.{withUnsequenced, withArrival, withHeard}
+use Rattle.peer.specs.Updates.{withUnsequenced, withArrival, withHeard, withMarks}
 use Rattle.lifecycle.specs.Calls.{begins, setsState}
 use Rattle.peer.specs.declared.settings.Settings.{Settings}
 use Rattle.peer.specs.declared.defaults.Kept.{Kept}
@@ -85,10 +86,10 @@ turned o = pos (o .answer .number) ∷ (o .answer .values ++ (pos (o .after .thr
 abbrev paces : ℕ → ℕ → ℕ → ℕ → List ℤ
 paces last variance value trip = turned (throttles (settings 576) trip (paced last variance value))
 
--- such a peer with a base and words; its store has any bytes, the datagram none
+-- such a peer with a base and words; its store has any bytes, the second store and the datagram none
 abbrev pub at : ℕ → List ℕ → List ℕ → State
 at base words store =
-    let p = opened 576 in record { peer = withUnsequenced p (withWindow (p .unsequenced) (record { 0 = base }) words); store = store }
+    let p = opened 576 in record { peer = withUnsequenced p (withWindow (p .unsequenced) (record { 0 = base }) words); store = store; second = [] }
 
 -- an unsequenced packet of channel 0, without a payload
 abbrev pub arrival : Arrival
@@ -113,16 +114,19 @@ waiting o =
 abbrev queues : ℕ → ℕ → List ℤ
 queues mtu length = waiting (sends (settings mtu) 0 length 1 (opened mtu))
 
--- a whole packet of channel 0, or the record of so many fragments, complete
-abbrev came : ℕ → ℕ → Incoming
-came number fragments = record { byte = 0; channel = 0; number = record { 0 = number }; fragments = fragments; remaining = 0; length = 0 }
+-- a whole packet of channel 0 without bytes; C-11: and a complete block of so many fragments, which has a byte at least
+abbrev came : ℕ → Incoming
+came number = record { byte = 0; channel = 0; number = record { 0 = number }; fragments = 0; remaining = 0; length = 0 }
 
--- a peer whose channel 0 had the number `last` as its last and holds three, in slots 0, 1 and 2
-abbrev holding : ℕ → Incoming → Incoming → Incoming → Peer
-holding last a b c =
-    let p = opened 576 in
+abbrev block : ℕ → ℕ → Incoming
+block number fragments = record { byte = 0; channel = 0; number = record { 0 = number }; fragments = fragments; remaining = 0; length = 1 }
+
+-- a peer whose channel 0 had the number `last` as its last and holds three, in slots 0, 1 and 2, of which one has a byte; C-11: with these marks
+abbrev holding : ℕ → Marks → Incoming → Incoming → Incoming → Peer
+holding last marks a b c =
+    let p = withMarks (opened 576) marks in
     let three : InList = record { len = 3; slots = 0 ∷ 1 ∷ 2 ∷ replicate 9 0 } in
-    withArrival p (p .lists) (p .unsequenced) (p .waiting)
+    withArrival p (p .lists) (p .unsequenced) (withTotal (p .waiting) 1)
     (set (p .channels) 0 (withHeld (withLast noChannel (record { 0 = last }) (record { 0 = 0 })) three))
     (set (set (set (p .incoming) 0 a) 1 b) 2 c)
 
@@ -149,7 +153,7 @@ cases words store =
     ∷ record { given = paces 100 10 32 120; stated = pos 0 ∷ pos 0 ∷ pos 32 ∷ [] }
     ∷ record { given = queues 576 548; stated = pos 0 ∷ pos 548 ∷ [] }  -- P8
     ∷ record { given = queues 576 549; stated = pos 0 ∷ pos 548 ∷ pos 1 ∷ [] }
-    ∷ record { given = moved (dispatches (settings 576) 0 (holding 65534 (came 65535 0) (came 0 3) (came 3 0))); stated = pos 0 ∷ pos 3 ∷ pos 0 ∷ pos 1 ∷ pos 2 ∷ [] }  -- P9
+    ∷ record { given = moved (dispatches (settings 576) 0 (holding 65534 (record { low = 7; high = 0 }) (came 65535) (block 0 3) (came 3))); stated = pos 0 ∷ pos 3 ∷ pos 0 ∷ pos 1 ∷ pos 2 ∷ [] }  -- P9
     ∷ []
 
 -- every case of a list gives what is stated

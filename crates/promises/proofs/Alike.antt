@@ -1,6 +1,6 @@
--- Of two records that are the same, every call gives the same answer and leaves the same store, and records that are the same again.
--- The argument: taken apart (laws SameLaws), two such records differ only in what no call reads; each call of AlikeOut, AlikeSent and AlikeIn leaves parts that
--- are alike, and put together they are the same. A call of the sending side leaves the incoming slots and what names them (Quiet).
+-- Of two records that are the same, every call gives the same answer and leaves the same stores, and records that are the same again.
+-- The argument: taken apart (laws SameLaws), two such records differ only in what no call reads; each call of AlikeOut, AlikeSent, AlikeIn and AlikePieces leaves
+-- parts that are alike, and put together they are the same. A call of the sending side leaves the incoming slots and what names them (Quiet).
 use Prim.Native.Nat.{ℕ, _<_}
 use mathlib.Core.Path.{_≡_, refl, ap, sym, subst, _∙_}
 use mathlib.Core.Bool.{Bool, true, false}
@@ -38,6 +38,7 @@ use Rattle.promises.proofs.Presence.{Still}
 use Rattle.promises.proofs.Quiet.{begin-still, state-still, outward-still}
 use Rattle.promises.proofs.AlikeOut.{Twin, ap₃, begin-twin, state-twin, throttle-twin, step-twin, setup-twin, ping-twin, send-twin}
 use Rattle.promises.proofs.AlikeSent.{acknowledge-twin, check-twin}
+use Rattle.promises.proofs.AlikePieces.{fragment-landed}
 use Rattle.promises.proofs.AlikeIn.{Twins, Landed, receive-twins, dispatch-twins, unsequenced-landed, reliable-landed}
 
 -- what both leave of the incoming pool, they leave alike
@@ -57,7 +58,7 @@ keptOf i g t =
       queued = t .queued;
     }
 
-module _ (s : Settings) (datagram store : List ℕ) (p q : Peer) (whole : Whole p) (whole′ : Whole q) (e : Same p q) where
+module _ (s : Settings) (datagram store second : List ℕ) (p q : Peer) (whole : Whole p) (whole′ : Whole q) (e : Same p q) where
   k : Like p q
   k = same-like p q e
 
@@ -70,7 +71,7 @@ module _ (s : Settings) (datagram store : List ℕ) (p q : Peer) (whole : Whole 
   -- a call on the record alone
   beside-alike : (o r : Outcome Peer) → o .answer ≡ r .answer → Same (o .after) (r .after)
       → Alike (beside (record { peer = p; store = store; second = second }) o) (beside (record { peer = q; store = store; second = second }) r)
-  beside-alike o r answer same = record { answer = answer; store = refl; same = same }
+  beside-alike o r answer same = record { answer = answer; store = refl; second = refl; same = same }
 
   twin-alike : (o r : Outcome Peer) → Twin o r → Still p (o .after) → Still q (r .after)
       → Alike (beside (record { peer = p; store = store; second = second }) o) (beside (record { peer = q; store = store; second = second }) r)
@@ -103,23 +104,24 @@ module _ (s : Settings) (datagram store : List ℕ) (p q : Peer) (whole : Whole 
   landed-alike : (c : Inward)
       → Landed (callsIn s c datagram (record { peer = p; store = store; second = second })) (callsIn s c datagram (record { peer = q; store = store; second = second }))
       → Alike (callsIn s c datagram (record { peer = p; store = store; second = second })) (callsIn s c datagram (record { peer = q; store = store; second = second }))
-  landed-alike c t = record { answer = t .answer; store = t .store; same = like-same _ _ (t .like) (t .within) }
+  landed-alike c t = record { answer = t .answer; store = t .store; second = t .second; same = like-same _ _ (t .like) (t .within) }
 
   inward-alike : (c : Inward) → Alike (callsIn s c datagram (record { peer = p; store = store; second = second })) (callsIn s c datagram (record { peer = q; store = store; second = second }))
   inward-alike (inw.UnsequencedArrival a group) =
-      landed-alike (inw.UnsequencedArrival a group) (unsequenced-landed p q k w alike whole whole′ store s a group datagram)
-  inward-alike (inw.ReliableArrival a) = landed-alike (inw.ReliableArrival a) (reliable-landed p q k w alike whole whole′ store s a datagram)
+      landed-alike (inw.UnsequencedArrival a group) (unsequenced-landed p q k w alike whole whole′ store second s a group datagram)
+  inward-alike (inw.ReliableArrival a) = landed-alike (inw.ReliableArrival a) (reliable-landed p q k w alike whole whole′ store second s a datagram)
+  inward-alike (inw.FragmentArrival a) = landed-alike (inw.FragmentArrival a) (fragment-landed p q k w alike whole whole′ store second s a datagram)
   inward-alike (inw.Dispatch channel) = twins-alike _ _ (dispatch-twins p q k w alike whole s channel)
   inward-alike inw.Receive = twins-alike _ _ (receive-twins p q k w alike s)
 
 pub respects-same : RespectsSame
-respects-same s call.Reset datagram store p q whole whole′ e = reset-alike s datagram store p q whole whole′ e
-respects-same s (call.Begin mtu channels) datagram store p q whole whole′ e =
-    twin-alike s datagram store p q whole whole′ e _ _ (begin-twin p q (same-like p q e) (same-sound p q e) s mtu channels) (begin-still s mtu channels p)
+respects-same s call.Reset datagram store second p q whole whole′ e = reset-alike s datagram store second p q whole whole′ e
+respects-same s (call.Begin mtu channels) datagram store second p q whole whole′ e =
+    twin-alike s datagram store second p q whole whole′ e _ _ (begin-twin p q (same-like p q e) (same-sound p q e) s mtu channels) (begin-still s mtu channels p)
     (begin-still s mtu channels q)
-respects-same s (call.SetState state) datagram store p q whole whole′ e =
-    twin-alike s datagram store p q whole whole′ e _ _ (state-twin p q (same-like p q e) (same-sound p q e) s state) (state-still s state p) (state-still s state q)
-respects-same s (call.Outward c) datagram store p q whole whole′ e =
-    twin-alike s datagram store p q whole whole′ e (callsOut s c p) (callsOut s c q) (outward-twin s datagram store p q whole whole′ e c) (outward-still s c p)
+respects-same s (call.SetState state) datagram store second p q whole whole′ e =
+    twin-alike s datagram store second p q whole whole′ e _ _ (state-twin p q (same-like p q e) (same-sound p q e) s state) (state-still s state p) (state-still s state q)
+respects-same s (call.Outward c) datagram store second p q whole whole′ e =
+    twin-alike s datagram store second p q whole whole′ e (callsOut s c p) (callsOut s c q) (outward-twin s datagram store second p q whole whole′ e c) (outward-still s c p)
     (outward-still s c q)
-respects-same s (call.Inward c) datagram store p q whole whole′ e = inward-alike s datagram store p q whole whole′ e c
+respects-same s (call.Inward c) datagram store second p q whole whole′ e = inward-alike s datagram store second p q whole whole′ e c

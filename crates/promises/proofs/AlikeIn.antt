@@ -1,6 +1,6 @@
--- The receiving side on two records that are the same: each call gives the same answer and leaves the same store, and what it leaves is alike, the
--- slots named included. The argument: what follows, what is held and which slot is free go by what the lists name and by what those slots hold, equal on
--- both sides; an arrival writes the same slot alike, and the lists then name nothing but that slot and what they named.
+-- The receiving side on two records that are the same, but for pieces (AlikePieces): each call gives the same answer and leaves the same stores, and what it
+-- leaves is alike, the slots named included. The argument: what follows, what is held and which slot is free go by what the lists name and by what those slots
+-- hold, equal on both sides; an arrival writes the same slot alike, and the lists then name nothing but that slot and what they named.
 use Prim.Native.Nat.{ℕ, suc, _+_, _≤_, _<_}
 use mathlib.Core.Path.{_≡_, refl, ap, ap₂, sym, subst, _∙_}
 use mathlib.Core.Bool.{Bool, true, false}
@@ -19,6 +19,7 @@ use Rattle.cells.specs.Runs.{first, pushed, inserted, without, movedFrom, moved
 use Rattle.cells.specs.Free.{lowest}
 use Rattle.cells.specs.declared.Free.the-variants.{Lowest}
 use Rattle.cells.proofs.Lowest.{lowest-exists}
+use Rattle.record.specs.Sizes as sizes
 use Rattle.record.specs.Flags.{flagged}
 use Rattle.record.specs.Fresh.{noOutgoing, noIncoming, noChannel}
 use Rattle.record.specs.Damage.{below, held, usedOut, usedIn}
@@ -71,10 +72,11 @@ pub record Twins (o r : Outcome Peer) : Type 0 where
   pub like : Like (o .after) (r .after)
   pub within : Within (o .after) (r .after)
 
--- and of one that is lent the store
+-- and of one that is lent the stores
 pub record Landed (o r : Outcome State) : Type 0 where
   pub answer : o .answer ≡ r .answer
   pub store : o .after .store ≡ r .after .store
+  pub second : o .after .second ≡ r .after .second
   pub like : Like (o .after .peer) (r .after .peer)
   pub within : Within (o .after .peer) (r .after .peer)
 
@@ -146,7 +148,7 @@ module _ (c d : Channel) (e : channelShape c ≡ channelShape d) where
   held-same : inShape (c .held) ≡ inShape (d .held)
   held-same = ap (λ (v : ChannelView). v .held) e
 
-  items-same : inItems (c .held) ≡ inItems (d .held)
+  pub items-same : inItems (c .held) ≡ inItems (d .held)
   items-same = in-items (c .held) (d .held) held-same
 
   last-same : c .«incoming_reliable» .0 ≡ d .«incoming_reliable» .0
@@ -214,7 +216,7 @@ module _ (a : List Incoming) (c : Channel) (l : Lists) (g : Unsequenced) where
       go false k n = refl
 
 -- a channel that counts, and what it holds, in place of the one that was there
-module _ (p : Peer) (whole : Whole p) (good : sound p ≡ true) (i : ℕ) (on : i < p .standing .channels) where
+module _ (p : Peer) (whole : Whole p) (few : p .standing .channels ≤ sizes.channels) (i : ℕ) (on : i < p .standing .channels) where
   abbrev cs : List Channel
   cs = below (p .channels) (p .standing .channels)
 
@@ -224,7 +226,7 @@ module _ (p : Peer) (whole : Whole p) (good : sound p ≡ true) (i : ℕ) (on : 
   here : i < length cs
   here =
       let n = whole .channels in
-      omega (arith, on, n, count-high p good, length-take (p .standing .channels) (p .channels))
+      omega (arith, on, n, few, length-take (p .standing .channels) (p .channels))
 
   old-is : getD cs i noChannel ≡ old
   old-is = getD-take (p .standing .channels) (p .channels) i noChannel on
@@ -234,7 +236,7 @@ module _ (p : Peer) (whole : Whole p) (good : sound p ≡ true) (i : ℕ) (on : 
       let within = rw old-is at (held-within (λ (xs : List ℕ). times xs s) (λ xs ys. times-append xs ys s) cs i noChannel here) in
       omega (arith, within, used-adds (p .lists) cs s)
 
-  landed-names : (l : Lists) (c : Channel) (s z : ℕ)
+  pub landed-names : (l : Lists) (c : Channel) (s z : ℕ)
       → times (inItems (c .held)) s + times (inItems (l .dispatched)) s ≤ z + (times (inItems (old .held)) s + times (inItems (p .lists .dispatched)) s)
       → times (usedIn l (below (set (p .channels) i c) (p .standing .channels))) s ≤ z + times (named p) s
   landed-names l c s z h =
@@ -245,6 +247,102 @@ module _ (p : Peer) (whole : Whole p) (good : sound p ≡ true) (i : ℕ) (on : 
 module _ (p q : Peer) (k : Like p q) (w : Within p q) where
   behind-twins : (g h : Gate) (o r : Outcome Peer) → g ≡ h → (g ≡ Open → Twins o r) → Twins (behind g p o) (behind h q r)
   behind-twins g h o r e rest = behind-pair Twins g h p q o r e (λ why. record { answer = refl; like = k; within = w }) rest
+
+  -- ---- what is ready of a channel
+  module _ (whole : Whole p) (few : p .standing .channels ≤ sizes.channels) (i : ℕ) (on : i < p .standing .channels) where
+    pub shape : channelShape (getD (p .channels) i noChannel) ≡ channelShape (getD (q .channels) i noChannel)
+    shape = ranked-at (p .channels) (q .channels) (p .standing .channels) i (ranked-by p q k) on
+
+    pub in-list : Agree noIncoming (inItems (getD (p .channels) i noChannel .held)) (p .incoming) (q .incoming)
+    in-list =
+        agree-less noIncoming (named p) (p .incoming) (q .incoming) w (inItems (getD (p .channels) i noChannel .held))
+        (λ s h. omega (arith, h, held-named p whole few i on s))
+
+    gone : Gone (dispatchedBy (p .incoming) (getD (p .channels) i noChannel) (p .lists) (p .unsequenced))
+        (dispatchedBy (q .incoming) (getD (q .channels) i noChannel) (q .lists) (q .unsequenced))
+    gone =
+        dispatched-gone (getD (p .channels) i noChannel) (getD (q .channels) i noChannel) shape (p .lists) (q .lists) (k .lists) (p .unsequenced) (q .unsequenced)
+        (k .unsequenced) (p .incoming) (q .incoming) in-list
+
+    pub dispatched-like : Like (dispatchedOn i p) (dispatchedOn i q)
+    dispatched-like =
+        rebuilt-like p q k (k .standing) (k .totals) (k .times) (k .loss) (k .throttling) (k .trips) (k .flow) (gone .lists) (gone .unsequenced) (k .waiting)
+        (ranked-set (p .channels) (q .channels) (p .standing .channels) i _ _ (ranked-by p q k) (gone .channel))
+        (subst (λ (xs : List ℕ). Agree noOutgoing xs (p .outgoing) (q .outgoing))
+        (sym (gone-used (p .incoming) (getD (p .channels) i noChannel) (p .lists) (p .unsequenced))) (k .outs))
+        (k .marks)
+
+    pub dispatched-within : Within (dispatchedOn i p) (dispatchedOn i q)
+    dispatched-within =
+        let d = dispatchedBy (p .incoming) (getD (p .channels) i noChannel) (p .lists) (p .unsequenced) in
+        agree-less noIncoming (named p) (p .incoming) (q .incoming) w (named (dispatchedOn i p))
+        (λ s h.
+        let less = landed-names p whole few i on (d .lists) (d .channel) s 0
+        (omega (arith, gone-names (p .incoming) (getD (p .channels) i noChannel) (p .lists) (p .unsequenced) s)) in
+        omega (arith, h, less))
+
+  -- ---- what an arrival finds, and a free slot written alike
+  module _ (whole : Whole p) (whole′ : Whole q) where
+    pub names-same : named p ≡ named q
+    names-same = lined-named (p .lists) (q .lists) _ _ (k .lists) (k .channels)
+
+    pub room-same : (s : Settings) → roomOf s p ≡ roomOf s q
+    room-same s =
+        ap₃ (λ (n : Standing) (t : Waiting) (xs : List ℕ). roomFor s (n .state) (t .total) (lowest incoming xs)) (k .standing) (k .waiting) names-same
+
+    module _ (v : Incoming) (n : ℕ) (free : freeSlot (p .lists) (p .channels) (p .standing .channels) ≡ Lowest n) where
+      pub pools : Agree noIncoming (n ∷ named p) (set (p .incoming) n v) (set (q .incoming) n v)
+      pools =
+          let low = lowest-exists incoming (named p) n free in
+          let long = whole .incoming in
+          let long′ = whole′ .incoming in
+          agree-new noIncoming (named p) (p .incoming) (q .incoming) w n v v (omega (arith, low, long)) (omega (arith, low, long′)) refl
+
+      pub pooled : (xs : List ℕ) → ((s : ℕ) → times xs s ≤ one n s + times (named p) s) → Agree noIncoming xs (set (p .incoming) n v) (set (q .incoming) n v)
+      pooled xs less =
+          agree-less noIncoming (n ∷ named p) (set (p .incoming) n v) (set (q .incoming) n v) pools xs (λ s h. omega (arith, h, less s))
+
+    -- by what its channel holds, under a number
+    module _ (few : p .standing .channels ≤ sizes.channels) (i number : ℕ) (on : i < p .standing .channels) where
+      abbrev c : Channel
+      c = getD (p .channels) i noChannel
+
+      abbrev d : Channel
+      d = getD (q .channels) i noChannel
+
+      alike-channels : channelShape c ≡ channelShape d
+      alike-channels = shape whole few i on
+
+      agree-held : Agree noIncoming (inItems (c .held)) (p .incoming) (q .incoming)
+      agree-held = in-list whole few i on
+
+      pub passed-same : isPassed (p .incoming) c number ≡ isPassed (q .incoming) d number
+      passed-same =
+          ap₂ (λ (n : ℕ) (b : Bool). pick (eqb (numberDistance n number) 0) true (pick (ltb farthest (numberDistance n number)) true b))
+          (last-same c d alike-channels)
+          (holds-agree (p .incoming) (q .incoming) (inItems (c .held)) number agree-held
+          ∙ ap (λ (xs : List ℕ). holds (q .incoming) xs number) (items-same c d alike-channels))
+
+      abbrev place : List Incoming → Channel → ℕ
+      place is e = placeOf is (inItems (e .held)) (e .«incoming_reliable» .0) (numberDistance (e .«incoming_reliable» .0) number)
+
+      place-same : place (p .incoming) c ≡ place (q .incoming) d
+      place-same =
+          nearer-agree (p .incoming) (q .incoming) (inItems (c .held)) (c .«incoming_reliable» .0) (numberDistance (c .«incoming_reliable» .0) number) agree-held
+          ∙ ap₂ (λ (xs : List ℕ) (n : ℕ). placeOf (q .incoming) xs n (numberDistance n number)) (items-same c d alike-channels) (last-same c d alike-channels)
+
+      -- and with a slot more
+      pub with-shape : (n : ℕ) → channelShape (heldWith (p .incoming) c number n) ≡ channelShape (heldWith (q .incoming) d number n)
+      with-shape n =
+          ap₂ withHeldShape alike-channels
+          (in-kept (c .held) (d .held) (inserted incoming (inItems (c .held)) (place (p .incoming) c) n)
+          (inserted incoming (inItems (d .held)) (place (q .incoming) d) n)
+          (ap₂ (λ (xs : List ℕ) (at : ℕ). inserted incoming xs at n) (items-same c d alike-channels) place-same))
+
+      pub with-names : (n t : ℕ) → times (inItems (heldWith (p .incoming) c number n .held)) t ≤ one n t + times (inItems (c .held)) t
+      with-names n t =
+          let is = ap (λ (xs : List ℕ). times xs t) (in-items-keep (c .held) (inserted incoming (inItems (c .held)) (place (p .incoming) c) n)) in
+          omega (arith, is, inserted-adds incoming (inItems (c .held)) (place (p .incoming) c) n t)
 
   module _ (alike : sound p ≡ sound q) where
     on-twins : (s : Settings) (o r : Outcome Peer) → (sound p ≡ true → Twins o r) → Twins (onRecord s p o) (onRecord s q r)
@@ -265,6 +363,7 @@ module _ (p q : Peer) (k : Like p q) (w : Within p q) where
               (ap (λ (xs : List ℕ). without xs 0) (in-items (p .lists .dispatched) (q .lists .dispatched) (k .lists .dispatched)));
         })
         (k .unsequenced) (ap₂ (λ (t : Waiting) (i : Incoming). receiving.lowered t (i .length)) (k .waiting) e) (ranked-by p q k) (k .outs)
+        (ap₂ receiving.clearedBy e (k .marks))
 
     taken-within : (n : ℕ) → Within (receiving.taken n p) (receiving.taken n q)
     taken-within n =
@@ -294,44 +393,13 @@ module _ (p q : Peer) (k : Like p q) (w : Within p q) where
             let at = ap (λ (xs : List ℕ). times xs n) e in
             let same = w n (omega (arith, at, named-first n rest, used-adds (p .lists) (below (p .channels) (p .standing .channels)) n)) in
             record {
-              answer = ap (λ (i : Incoming). receiving.packet (i .channel) n (i .length)) same;
+              answer = ap (λ (i : Incoming). receiving.answerOf (receiving.replyOf i n)) same;
               like = taken-like n same;
               within = taken-within n;
             }
 
     -- ---- dispatch
     module _ (whole : Whole p) where
-      module _ (good : sound p ≡ true) (i : ℕ) (on : i < p .standing .channels) where
-        shape : channelShape (getD (p .channels) i noChannel) ≡ channelShape (getD (q .channels) i noChannel)
-        shape = ranked-at (p .channels) (q .channels) (p .standing .channels) i (ranked-by p q k) on
-
-        in-list : Agree noIncoming (inItems (getD (p .channels) i noChannel .held)) (p .incoming) (q .incoming)
-        in-list =
-            agree-less noIncoming (named p) (p .incoming) (q .incoming) w (inItems (getD (p .channels) i noChannel .held))
-            (λ s h. omega (arith, h, held-named p whole good i on s))
-
-        gone : Gone (dispatchedBy (p .incoming) (getD (p .channels) i noChannel) (p .lists) (p .unsequenced))
-            (dispatchedBy (q .incoming) (getD (q .channels) i noChannel) (q .lists) (q .unsequenced))
-        gone =
-            dispatched-gone (getD (p .channels) i noChannel) (getD (q .channels) i noChannel) shape (p .lists) (q .lists) (k .lists) (p .unsequenced) (q .unsequenced)
-            (k .unsequenced) (p .incoming) (q .incoming) in-list
-
-        dispatched-like : Like (dispatchedOn i p) (dispatchedOn i q)
-        dispatched-like =
-            rebuilt-like p q k (k .standing) (k .totals) (k .times) (k .loss) (k .throttling) (k .trips) (k .flow) (gone .lists) (gone .unsequenced) (k .waiting)
-            (ranked-set (p .channels) (q .channels) (p .standing .channels) i _ _ (ranked-by p q k) (gone .channel))
-            (subst (λ (xs : List ℕ). Agree noOutgoing xs (p .outgoing) (q .outgoing))
-            (sym (gone-used (p .incoming) (getD (p .channels) i noChannel) (p .lists) (p .unsequenced))) (k .outs))
-
-        dispatched-within : Within (dispatchedOn i p) (dispatchedOn i q)
-        dispatched-within =
-            let d = dispatchedBy (p .incoming) (getD (p .channels) i noChannel) (p .lists) (p .unsequenced) in
-            agree-less noIncoming (named p) (p .incoming) (q .incoming) w (named (dispatchedOn i p))
-            (λ s h.
-            let less = landed-names p whole good i on (d .lists) (d .channel) s 0
-            (omega (arith, gone-names (p .incoming) (getD (p .channels) i noChannel) (p .lists) (p .unsequenced) s)) in
-            omega (arith, h, less))
-
       pub dispatch-twins : (s : Settings) (i : ℕ) → Twins (dispatches s i p) (dispatches s i q)
       dispatch-twins s i =
           on-twins s (dispatchesSound i p) (dispatchesSound i q)
@@ -340,43 +408,22 @@ module _ (p q : Peer) (k : Like p q) (w : Within p q) where
           (ap (dispatchGate i) (k .standing))
           (λ e.
           let on = below-count i (p .standing) e in
-          record { answer = refl; like = dispatched-like good i on; within = dispatched-within good i on }))
+          record { answer = refl; like = dispatched-like whole (count-high p good) i on; within = dispatched-within whole (count-high p good) i on }))
 
     -- ---- arrivals
-    module _ (whole : Whole p) (whole′ : Whole q) (store : List ℕ) where
+    module _ (whole : Whole p) (whole′ : Whole q) (store second : List ℕ) where
       abbrev x : State
       x = record { peer = p; store = store; second = second }
 
       abbrev y : State
       y = record { peer = q; store = store; second = second }
 
-      behind-landed : (g h : Gate) (o r : Outcome State) → g ≡ h → (g ≡ Open → Landed o r) → Landed (behind g x o) (behind h y r)
+      pub behind-landed : (g h : Gate) (o r : Outcome State) → g ≡ h → (g ≡ Open → Landed o r) → Landed (behind g x o) (behind h y r)
       behind-landed g h o r e rest =
-          behind-pair Landed g h x y o r e (λ why. record { answer = refl; store = refl; like = k; within = w }) rest
+          behind-pair Landed g h x y o r e (λ why. record { answer = refl; store = refl; second = refl; like = k; within = w }) rest
 
-      names-same : named p ≡ named q
-      names-same = lined-named (p .lists) (q .lists) _ _ (k .lists) (k .channels)
-
-      room-same : (s : Settings) → roomOf s p ≡ roomOf s q
-      room-same s =
-          ap₃ (λ (n : Standing) (t : Waiting) (xs : List ℕ). roomFor s (n .state) (t .total) (lowest incoming xs)) (k .standing) (k .waiting) names-same
-
-      -- a free slot, written alike
+      -- a free slot
       module _ (a : Arrival) (n : ℕ) (free : freeSlot (p .lists) (p .channels) (p .standing .channels) ≡ Lowest n) where
-        pools : Agree noIncoming (n ∷ named p) (set (p .incoming) n (arrivedSlot a)) (set (q .incoming) n (arrivedSlot a))
-        pools =
-            let low = lowest-exists incoming (named p) n free in
-            let long = whole .incoming in
-            let long′ = whole′ .incoming in
-            agree-new noIncoming (named p) (p .incoming) (q .incoming) w n (arrivedSlot a) (arrivedSlot a) (omega (arith, low, long))
-            (omega (arith, low, long′)) refl
-
-        pooled : (xs : List ℕ) → ((s : ℕ) → times xs s ≤ one n s + times (named p) s)
-            → Agree noIncoming xs (set (p .incoming) n (arrivedSlot a)) (set (q .incoming) n (arrivedSlot a))
-        pooled xs less =
-            agree-less noIncoming (n ∷ named p) (set (p .incoming) n (arrivedSlot a)) (set (q .incoming) n (arrivedSlot a)) pools xs
-            (λ s h. omega (arith, h, less s))
-
         -- at the end of dispatched
         delivered-lined : Lined (delivered (p .lists) n) (delivered (q .lists) n)
         delivered-lined =
@@ -397,11 +444,12 @@ module _ (p q : Peer) (k : Like p q) (w : Within p q) where
             record {
               answer = refl;
               store = refl;
+              second = refl;
               like =
                   rebuilt-like p q k (k .standing) (k .totals) (k .times) (k .loss) (k .throttling) (k .trips) (k .flow) delivered-lined e
-                  (ap (λ (t : Waiting). awaiting t (a .length)) (k .waiting)) (ranked-by p q k) (k .outs);
+                  (ap (λ (t : Waiting). awaiting t (a .length)) (k .waiting)) (ranked-by p q k) (k .outs) (k .marks);
               within =
-                  pooled (usedIn (delivered (p .lists) n) (below (p .channels) (p .standing .channels)))
+                  pooled whole whole′ (arrivedSlot a) n free (usedIn (delivered (p .lists) n) (below (p .channels) (p .standing .channels)))
                   (λ s.
                   let cs = below (p .channels) (p .standing .channels) in
                   let now = ap (λ (xs : List ℕ). times xs s) (in-items-keep (p .lists .dispatched) (pushed incoming (inItems (p .lists .dispatched)) n)) in
@@ -417,6 +465,7 @@ module _ (p q : Peer) (k : Like p q) (w : Within p q) where
       regrouped-like : (g h : Unsequenced) → g ≡ h → Like (withUnsequenced p g) (withUnsequenced q h)
       regrouped-like g h e =
           rebuilt-like p q k (k .standing) (k .totals) (k .times) (k .loss) (k .throttling) (k .trips) (k .flow) (k .lists) e (k .waiting) (ranked-by p q k) (k .outs)
+          (k .marks)
 
       module _ (s : Settings) (a : Arrival) (group : Group) (datagram : List ℕ) where
         -- what a fate comes to, by the window's groups
@@ -424,14 +473,14 @@ module _ (p q : Peer) (k : Like p q) (w : Within p q) where
         fated f g z = record { answer = answerOf (replyOf f); after = unsequencedAfter f g a datagram z }
 
         judged-same : judgedOn s group p ≡ judgedOn s group q
-        judged-same = ap₂ (λ (g : Unsequenced) (f : Fate). judgeWindow g group f) (k .unsequenced) (room-same s)
+        judged-same = ap₂ (λ (g : Unsequenced) (f : Fate). judgeWindow g group f) (k .unsequenced) (room-same whole whole′ s)
 
         fate-landed : (f : Fate) → judgedOn s group p .fate ≡ f
             → Landed (fated f (judgedOn s group p .unsequenced) x) (fated f (judgedOn s group q .unsequenced) y)
         fate-landed fate.Passed e =
-            record { answer = refl; store = refl; like = regrouped-like _ _ (ap (λ (j : Judged). j .unsequenced) judged-same); within = w }
+            record { answer = refl; store = refl; second = refl; like = regrouped-like _ _ (ap (λ (j : Judged). j .unsequenced) judged-same); within = w }
         fate-landed fate.NoRoom e =
-            record { answer = refl; store = refl; like = regrouped-like _ _ (ap (λ (j : Judged). j .unsequenced) judged-same); within = w }
+            record { answer = refl; store = refl; second = refl; like = regrouped-like _ _ (ap (λ (j : Judged). j .unsequenced) judged-same); within = w }
         fate-landed (fate.Stored n) e =
             delivered-landed a n (stored-free s a group datagram x n e) (answerOf (replyOf (fate.Stored n))) _ _ datagram
             (ap (λ (j : Judged). j .unsequenced) judged-same)
@@ -454,61 +503,27 @@ module _ (p q : Peer) (k : Like p q) (w : Within p q) where
       heldBy a datagram f z = record { answer = answerOf (replyOf f); after = reliableAfter f a datagram z }
 
       module _ (s : Settings) (a : Arrival) (datagram : List ℕ) (good : sound p ≡ true) (on : a .channel < p .standing .channels) where
-        abbrev c : Channel
-        c = channelOf a p
-
-        abbrev d : Channel
-        d = channelOf a q
-
-        alike-channels : channelShape c ≡ channelShape d
-        alike-channels = shape whole good (a .channel) on
-
-        agree-held : Agree noIncoming (inItems (c .held)) (p .incoming) (q .incoming)
-        agree-held = in-list whole good (a .channel) on
-
-        passed-same : isPassed (p .incoming) c (a .number .0) ≡ isPassed (q .incoming) d (a .number .0)
-        passed-same =
-            ap₂ (λ (n : ℕ) (b : Bool). pick (eqb (numberDistance n (a .number .0)) 0) true (pick (ltb farthest (numberDistance n (a .number .0))) true b))
-            (last-same c d alike-channels)
-            (holds-agree (p .incoming) (q .incoming) (inItems (c .held)) (a .number .0) agree-held
-            ∙ ap (λ (xs : List ℕ). holds (q .incoming) xs (a .number .0)) (items-same c d alike-channels))
+        abbrev few : p .standing .channels ≤ sizes.channels
+        few = count-high p good
 
         fate-same : fateOn s a p ≡ fateOn s a q
-        fate-same = ap₂ fateOf passed-same (room-same s)
-
-        abbrev place : List Incoming → Channel → ℕ
-        place i e =
-            placeOf i (inItems (e .held)) (e .«incoming_reliable» .0) (numberDistance (e .«incoming_reliable» .0) (a .number .0))
-
-        place-same : place (p .incoming) c ≡ place (q .incoming) d
-        place-same =
-            nearer-agree (p .incoming) (q .incoming) (inItems (c .held)) (c .«incoming_reliable» .0) (numberDistance (c .«incoming_reliable» .0) (a .number .0)) agree-held
-            ∙ ap₂ (λ (xs : List ℕ) (n : ℕ). placeOf (q .incoming) xs n (numberDistance n (a .number .0))) (items-same c d alike-channels) (last-same c d alike-channels)
+        fate-same = ap₂ fateOf (passed-same whole whole′ few (a .channel) (a .number .0) on) (room-same whole whole′ s)
 
         module _ (n : ℕ) (free : freeSlot (p .lists) (p .channels) (p .standing .channels) ≡ Lowest n) where
           abbrev now : Channel
-          now = heldWith (p .incoming) c (a .number .0) n
+          now = heldWith (p .incoming) (channelOf a p) (a .number .0) n
 
           abbrev now′ : Channel
-          now′ = heldWith (q .incoming) d (a .number .0) n
+          now′ = heldWith (q .incoming) (channelOf a q) (a .number .0) n
 
-          now-shape : channelShape now ≡ channelShape now′
-          now-shape =
-              ap₂ withHeldShape alike-channels
-              (in-kept (c .held) (d .held) (inserted incoming (inItems (c .held)) (place (p .incoming) c) n)
-              (inserted incoming (inItems (d .held)) (place (q .incoming) d) n)
-              (ap₂ (λ (xs : List ℕ) (i : ℕ). inserted incoming xs i n) (items-same c d alike-channels) place-same))
-
-          now-names : (t : ℕ) → times (inItems (now .held)) t ≤ one n t + times (inItems (c .held)) t
-          now-names t =
-              let is = ap (λ (xs : List ℕ). times xs t) (in-items-keep (c .held) (inserted incoming (inItems (c .held)) (place (p .incoming) c) n)) in
-              omega (arith, is, inserted-adds incoming (inItems (c .held)) (place (p .incoming) c) n t)
+          now-names : (t : ℕ) → times (inItems (now .held)) t ≤ one n t + times (inItems (channelOf a p .held)) t
+          now-names = with-names whole whole′ few (a .channel) (a .number .0) on n
 
           then-gone : Gone (dispatchedWith n a p) (dispatchedWith n a q)
           then-gone =
-              dispatched-gone now now′ now-shape (p .lists) (q .lists) (k .lists) (p .unsequenced) (q .unsequenced) (k .unsequenced) (set (p .incoming) n (arrivedSlot a))
-              (set (q .incoming) n (arrivedSlot a))
-              (pooled a n free (inItems (now .held)) (λ t. omega (arith, now-names t, held-named p whole good (a .channel) on t)))
+              dispatched-gone now now′ (with-shape whole whole′ few (a .channel) (a .number .0) on n) (p .lists) (q .lists) (k .lists) (p .unsequenced)
+              (q .unsequenced) (k .unsequenced) (set (p .incoming) n (arrivedSlot a)) (set (q .incoming) n (arrivedSlot a))
+              (pooled whole whole′ (arrivedSlot a) n free (inItems (now .held)) (λ t. omega (arith, now-names t, held-named p whole few (a .channel) on t)))
 
           stored-landed : (answer : Answer) → Landed (record { answer = answer; after = reliableAfter (fate.Stored n) a datagram x })
               (record { answer = answer; after = reliableAfter (fate.Stored n) a datagram y })
@@ -516,22 +531,24 @@ module _ (p q : Peer) (k : Like p q) (w : Within p q) where
               record {
                 answer = refl;
                 store = refl;
+                second = refl;
                 like =
                     rebuilt-like p q k (k .standing) (k .totals) (k .times) (k .loss) (k .throttling) (k .trips) (k .flow) (then-gone .lists) (then-gone .unsequenced)
                     (ap (λ (t : Waiting). awaiting t (a .length)) (k .waiting))
                     (ranked-set (p .channels) (q .channels) (p .standing .channels) (a .channel) _ _ (ranked-by p q k) (then-gone .channel))
                     (subst (λ (xs : List ℕ). Agree noOutgoing xs (p .outgoing) (q .outgoing))
-                    (sym (gone-used (set (p .incoming) n (arrivedSlot a)) now (p .lists) (p .unsequenced))) (k .outs));
+                    (sym (gone-used (set (p .incoming) n (arrivedSlot a)) now (p .lists) (p .unsequenced))) (k .outs))
+                    (k .marks);
                 within =
-                    pooled a n free (named (reliableAfter (fate.Stored n) a datagram x .peer))
+                    pooled whole whole′ (arrivedSlot a) n free (named (reliableAfter (fate.Stored n) a datagram x .peer))
                     (λ t.
-                    landed-names p whole good (a .channel) on (dispatchedWith n a p .lists) (dispatchedWith n a p .channel) t (one n t)
+                    landed-names p whole few (a .channel) on (dispatchedWith n a p .lists) (dispatchedWith n a p .channel) t (one n t)
                     (omega (arith, gone-names (set (p .incoming) n (arrivedSlot a)) now (p .lists) (p .unsequenced) t, now-names t)));
               }
 
         held-landed : (f : Fate) → fateOn s a p ≡ f → Landed (heldBy a datagram f x) (heldBy a datagram f y)
-        held-landed fate.Passed e = record { answer = refl; store = refl; like = k; within = w }
-        held-landed fate.NoRoom e = record { answer = refl; store = refl; like = k; within = w }
+        held-landed fate.Passed e = record { answer = refl; store = refl; second = refl; like = k; within = w }
+        held-landed fate.NoRoom e = record { answer = refl; store = refl; second = refl; like = k; within = w }
         held-landed (fate.Stored n) e = stored-landed n (held-free s a datagram x n e) (answerOf (replyOf (fate.Stored n)))
 
       pub reliable-landed : (s : Settings) (a : Arrival) (datagram : List ℕ) → Landed (arrivesReliable s a datagram x) (arrivesReliable s a datagram y)

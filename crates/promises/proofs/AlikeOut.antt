@@ -253,6 +253,7 @@ module _ (x : Piece) (p q : Peer) (k : Like p q) (wp : Whole p) (wq : Whole q) (
       (agree-new noOutgoing (usedOut (p .lists)) (p .outgoing) (q .outgoing) (k .outs) n (made x p) (made x q)
       (let e = wp .outgoing in omega (arith, e, low)) (let e = wq .outgoing in omega (arith, e, low)) made-same)
       (usedOut (listsWith (p .lists) x n)) (λ s h. omega (arith, h, with-names (p .lists) x n s)))
+      (k .marks)
 
   queued-like : Like (queued x p) (queued x q)
   unfolding queued
@@ -299,7 +300,7 @@ module _ (p q : Peer) (k : Like p q) where
         begun-like : Like (begun mtu count p) (begun mtu count q)
         begun-like =
             rebuilt-like p q k (ap (λ (n : Standing). withCount n count) (k .standing)) (k .totals) (k .times) (k .loss) (k .throttling) (k .trips)
-            (ap (λ (f : Flow). withMtu f mtu) (k .flow)) (k .lists) (k .unsequenced) (k .waiting) refl (k .outs)
+            (ap (λ (f : Flow). withMtu f mtu) (k .flow)) (k .lists) (k .unsequenced) (k .waiting) refl (k .outs) (k .marks)
 
         go : (b : Bool) → Twin (pick b (finished (begun mtu count p)) (unchanged OutOfRange p)) (pick b (finished (begun mtu count q)) (unchanged OutOfRange q))
         go true = record { answer = refl; like = begun-like }
@@ -314,7 +315,7 @@ module _ (p q : Peer) (k : Like p q) where
               answer = refl;
               like =
                   rebuilt-like p q k (ap (λ (n : Standing). withState n state) (k .standing)) (k .totals) (k .times) (k .loss) (k .throttling) (k .trips)
-                  (k .flow) (k .lists) (k .unsequenced) (k .waiting) (ranked-by p q k) (k .outs);
+                  (k .flow) (k .lists) (k .unsequenced) (k .waiting) (ranked-by p q k) (k .outs) (k .marks);
             }
         go false = record { answer = refl; like = k }
 
@@ -329,7 +330,7 @@ module _ (p q : Peer) (k : Like p q) where
           like =
               rebuilt-like p q k (k .standing) (k .totals) (k .times) (k .loss)
               (ap₂ (λ (t : Throttling) (u : Trips). throttled sample t u) (k .throttling) (k .trips)) (k .trips) (k .flow) (k .lists) (k .unsequenced)
-              (k .waiting) (ranked-by p q k) (k .outs);
+              (k .waiting) (ranked-by p q k) (k .outs) (k .marks);
         })
 
     -- ---- send step: the head of the list named
@@ -345,6 +346,7 @@ module _ (p q : Peer) (k : Like p q) where
           (agree-set noOutgoing (usedOut (p .lists)) (p .outgoing) (q .outgoing) (k .outs) n o o long refl)
           (usedOut (listsSent r (p .lists) n o))
           (λ s. named-with (usedOut (p .lists)) (usedOut (listsSent r (p .lists) n o)) n here s (sent-names r (p .lists) n o s)))
+          (k .marks)
 
       pub step-twin : (s : Settings) (r : Queue) (time : ℕ) → Twin (stepping.steps s r time p) (stepping.steps s r time q)
       step-twin s r time =

@@ -204,7 +204,8 @@ module _ (p q : Peer) (k : Like p q) where
               (k .loss) (ap (λ (m : Measured). m .throttling) now) (ap (λ (m : Measured). m .trips) now) (ap₂ (flowWithout w) removed (k .flow)) lined
               (k .unsequenced) (k .waiting) (ranked-by p q k)
               (agree-less noOutgoing (usedOut (p .lists)) (p .outgoing) (q .outgoing) (k .outs) (usedOut left)
-              (λ s n. omega (arith, n, without-names (p .lists) w s)));
+              (λ s n. omega (arith, n, without-names (p .lists) w s)))
+              (k .marks);
         }
 
   by-twin : (t : Trip) (channel number clock : ℕ) → Twin (acknowledging.acknowledgesBy t channel number clock p) (acknowledging.acknowledgesBy t channel number clock q)
@@ -295,6 +296,7 @@ module _ (p q : Peer) (k : Like p q) (long : length (p .outgoing) ≡ length (q 
       (k .unsequenced) (k .waiting) (ranked-by p q k)
       (agree-less noOutgoing (usedOut (p .lists)) (checking.walkOf clock p .slots) (checking.walkOf clock q .slots) (walks .slots)
       (usedOut (listsBy (checking.walkOf clock p .marks) (p .lists))) (by-names (checking.walkOf clock p .marks) (p .lists)))
+      (k .marks)
 
   pub check-twin : sound p ≡ sound q → (s : Settings) → Twin (checking.checks s clock p) (checking.checks s clock q)
   check-twin alike s =

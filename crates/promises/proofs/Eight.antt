@@ -1,4 +1,4 @@
--- What 8 and 10 leave (`eight-leaves`, `eight-moves`, `ten-keeps`), and that a reliable number which is passed over changes nothing.
+-- What 8 and 10 leave (`eight-leaves`, `eight-first`, `eight-moves`, `ten-keeps`), and that a reliable number which is passed over changes nothing.
 -- The argument: no gate answers 8 or 10; behind it 8 is an arrival without room, which leaves the window's move and nothing else, and 10 an
 -- acknowledgement whose round trip was taken.
 use Prim.Native.Nat.{ℕ}
@@ -18,13 +18,14 @@ use Rattle.numbers.specs.declared.counters.Group.{Group}
 use Rattle.numbers.specs.declared.refusals.Refusal.the-variants.{NotReceiving, LengthTooLarge, BadCommand}
 use Rattle.window.specs.Window.{first, cleared}
 use Rattle.record.specs.Updates.{withWindow}
+use Rattle.record.specs.declared.groups.Standing.{Standing}
 use Rattle.record.specs.declared.groups.Unsequenced.{Unsequenced}
 use Rattle.peer.specs.Damage.{sound}
 use Rattle.peer.specs.Outcome.{State, Outcome}
 use Rattle.peer.specs.Gate.{fits, gateOf, then, behind}
 use Rattle.peer.specs.States.{disconnected, zombie}
 use Rattle.peer.specs.declared.settings.Settings.{Settings}
-use Rattle.peer.specs.declared.gate.Lent.the-variants.{Nothing, Store}
+use Rattle.peer.specs.declared.gate.Lent.the-variants.{Nothing, Store, Both}
 use Rattle.peer.specs.declared.gate.Gate.{Gate}
 use Rattle.peer.specs.declared.gate.Gate.the-variants.{Open, Shut}
 use Rattle.acknowledge.specs.Calls.{acknowledgesBy, acknowledgesSound}
@@ -37,9 +38,17 @@ use Rattle.arrival.specs.declared.Judged.{Judged}
 use Rattle.arrive_reliable.specs.Holding.{isPassed}
 use Rattle.arrive_unsequenced.specs.Calls.{sendUnsequenced, regrouped, judgedOn, unsequencedAfter, unsequencedSound}
 use Rattle.arrive_reliable.specs.Calls.{channelOf, fateOf, arrivesReliable}
+use Rattle.cells.specs.declared.First.the-variants.{Empty}
+use Rattle.arrive_fragment.specs.Pieces as pieces
+use Rattle.arrive_fragment.specs.Pieces.{unfinishedOn}
+use Rattle.arrive_fragment.specs.Calls.{sendFragment, arrivalOf, fragmentSound}
+use Rattle.arrive_fragment.specs.declared.Fate.{Fate as Coming}
 use Rattle.laws.proofs.Reliable.{reliable-has}
 use Rattle.promises.specs.Refusals.{EightLeaves, movedFor, EightMoves, Heard, TenKeeps}
+use Rattle.promises.specs.Blocks.{EightFirst}
 use Rattle.promises.proofs.Picks.{tested}
+use Rattle.promises.proofs.Pieces.{outcomeBy}
+use Rattle.promises.proofs.BlockPromises.{Goes, passed, unfit, full, first-piece, later-piece, goes}
 
 -- ---- 8 of a reliable arrival, and one that is passed over
 pub eight-leaves : EightLeaves
@@ -74,20 +83,40 @@ gate-spares n a b true true = tt
 gate-spares n a b true false = b
 gate-spares n a b false good = a
 
+arrival-spares : (command : ℕ) (a : Arrival) (s : Settings) (standing : Standing) (end : ℕ) → Spares 8 (arrivalGate command a s standing end)
+arrival-spares command a s standing end = go (names (a .byte) command) (isReceiving (a .channel) standing) (isWhole a s end)
+  where
+    go : (b c d : Bool)
+        → Spares 8 (then (pick b Open (Shut BadCommand)) (then (pick c Open (Shut NotReceiving)) (pick d Open (Shut LengthTooLarge))))
+    go true true true = tt
+    go true true false = λ e. omega (arith, e)
+    go true false d = λ e. omega (arith, e)
+    go false c d = λ e. omega (arith, e)
+
+-- ---- 8 of a piece
+pub eight-first : EightFirst
+eight-first s a datagram x z =
+    let o =
+    behind-answers 8 x (λ (y : State). (unfinishedOn a (x .peer) ≡ Empty) × (y ≡ x)) (fragmentSound s a datagram x)
+    (gateOf (fits s (Both (length (x .store)) (length (x .second)))) (sound (x .peer)))
+    (gate-spares 8 (λ e. omega (arith, e)) (λ e. omega (arith, e)) (fits s (Both (length (x .store)) (length (x .second)))) (sound (x .peer)))
+    (behind-answers 8 x (λ (y : State). (unfinishedOn a (x .peer) ≡ Empty) × (y ≡ x)) (outcomeBy s a datagram x (pieces.fateOn s a (x .peer)))
+    (arrivalGate sendFragment (arrivalOf a) s (x .peer .standing) (length datagram)) (arrival-spares sendFragment (arrivalOf a) s (x .peer .standing) (length datagram))
+    (by (pieces.fateOn s a (x .peer)) (goes s a (x .peer)))) z in
+    record { first = o .0; after = o .1 }
+  where
+    by : (f : Coming) → Goes s a (x .peer) f → let o = outcomeBy s a datagram x f in
+        o .answer .number ≡ 8 → (unfinishedOn a (x .peer) ≡ Empty) × (o .after ≡ x)
+    by f passed z = absurd (omega (arith, z))
+    by f unfit z = absurd (omega (arith, z))
+    by f (full e) z = (e, refl)
+    by f (first-piece n e) z = absurd (omega (arith, z))
+    by f (later-piece n e) z = absurd (omega (arith, z))
+
 -- ---- 8 of an unsequenced arrival
 module _ (s : Settings) (a : Arrival) (g : Group) (datagram : List ℕ) (x : State) where
   abbrev gs : Unsequenced
   gs = x .peer .unsequenced
-
-  arrival-spares : Spares 8 (arrivalGate sendUnsequenced a s (x .peer .standing) (length datagram))
-  arrival-spares = go (names (a .byte) sendUnsequenced) (isReceiving (a .channel) (x .peer .standing)) (isWhole a s (length datagram))
-    where
-      go : (b c d : Bool)
-          → Spares 8 (then (pick b Open (Shut BadCommand)) (then (pick c Open (Shut NotReceiving)) (pick d Open (Shut LengthTooLarge))))
-      go true true true = tt
-      go true true false = λ e. omega (arith, e)
-      go true false d = λ e. omega (arith, e)
-      go false c d = λ e. omega (arith, e)
 
   -- what becomes of the group, where that answers 8
   abbrev Moves : Judged → Type 0
@@ -112,7 +141,7 @@ module _ (s : Settings) (a : Arrival) (g : Group) (datagram : List ℕ) (x : Sta
       let j = judgedOn s g (x .peer) in
       behind-answers 8 x (λ (y : State). y ≡ movedFor g x)
       (record { answer = answerOf (replyOf (j .fate)); after = unsequencedAfter (j .fate) (j .unsequenced) a datagram x })
-      (arrivalGate sendUnsequenced a s (x .peer .standing) (length datagram)) arrival-spares
+      (arrivalGate sendUnsequenced a s (x .peer .standing) (length datagram)) (arrival-spares sendUnsequenced a s (x .peer .standing) (length datagram))
       (tested (gs .incoming .0) (gs .words) (g .0) Moves (passedBy gs) (takenAt (roomOf s (x .peer)) gs g (record { 0 = first (g .0) }) cleared)
       (passedBy gs) (takenAt (roomOf s (x .peer)) gs g (gs .incoming) (gs .words))
       (λ e. absurd (omega (arith, e)))

@@ -10,8 +10,8 @@ use Rattle.numbers.specs.Bits.{withBit}
 use Rattle.window.specs.Window.{marked, marking}
 use Rattle.cells.specs.Free.{firstFrom, exist, once}
 use Rattle.record.specs.Fresh.{noLists, noChannel, noOutgoing, noIncoming}
-use Rattle.record.specs.Damage.{all, held, heldFit, own as ownSlots, lengths}
-use Rattle.record.specs.Sizes.{storeLength}
+use Rattle.record.specs.Damage.{all, held, heldFit, own as ownSlots, lengths, blocks}
+use Rattle.record.specs.Sizes.{secondLength, storeLength}
 use Rattle.peer.specs.Fresh.{freshPeer}
 use Rattle.peer.specs.Damage.{sound}
 use Rattle.peer.specs.Outcome.{State}
@@ -33,7 +33,7 @@ abbrev nobody : Kept
 nobody = record { «incoming_peer» = 0; «outgoing_session» = 0; «incoming_session» = 0; reserved = 0; queued = 0 }
 
 abbrev start : State
-start = resetState 1392 nobody (replicate storeLength 0)
+start = resetState 1392 nobody (replicate storeLength 0) (replicate secondLength 0)
 
 abbrev asks : Call → Asked
 asks c = record { settings = settings; call = c; datagram = [] }
@@ -60,7 +60,7 @@ told =
     delivered 5 ∷ moved 31 ∷ delivered 33792 ∷ moved 2 ∷ delivered 31744 ∷ moved 31 ∷ delivered 5 ∷ moved 0 ∷ moved 0 ∷ moved 0 ∷ []
 
 pub delivered-twice : history twice start [] ≡ told
-unfolding history withBit marked marking firstFrom exist once noLists noChannel noOutgoing noIncoming all held heldFit ownSlots lengths freshPeer sound
+unfolding history withBit marked marking firstFrom exist once noLists noChannel noOutgoing noIncoming all held heldFit ownSlots lengths blocks freshPeer sound
 delivered-twice = refl
 
 -- repeated at 0, 31 and 32 windows, twice in a row and after its packet came out
@@ -70,7 +70,7 @@ lines =
     ∷ again (packet 5) ∷ own (asks (call.Inward inw.Receive)) ∷ own (of 32768) ∷ again (packet 5) ∷ own (asks (call.Inward inw.Receive)) ∷ []
 
 pub inserted : Repeats lines start []
-unfolding since withBit marked marking firstFrom exist once noLists noChannel noOutgoing noIncoming all held heldFit ownSlots lengths freshPeer sound
+unfolding since withBit marked marking firstFrom exist once noLists noChannel noOutgoing noIncoming all held heldFit ownSlots lengths blocks freshPeer sound
 inserted = omega arith
 
 pub in-range : AllInRange (original lines)
@@ -78,8 +78,8 @@ unfolding original
 in-range = omega arith
 
 pub same : played arrives lines start ≡ run (original lines) start
-same = no-trace 1392 nobody (replicate storeLength 0) lines in-range inserted
+same = no-trace 1392 nobody (replicate storeLength 0) (replicate secondLength 0) lines in-range inserted
 
 pub came-out : map (λ (k : Packet). k .bytes) (played arrives lines start .packets) ≡ (7 ∷ 8 ∷ 9 ∷ []) ∷ (7 ∷ 8 ∷ 9 ∷ []) ∷ []
-unfolding played withBit marked marking firstFrom exist once noLists noChannel noOutgoing noIncoming all held heldFit ownSlots lengths freshPeer sound
+unfolding played withBit marked marking firstFrom exist once noLists noChannel noOutgoing noIncoming all held heldFit ownSlots lengths blocks freshPeer sound
 came-out = refl

@@ -1,3 +1,4 @@
+pub mod Pieces
 pub mod Answers
 pub mod Picks
 pub mod Refusals
@@ -20,6 +21,7 @@ pub mod Comings
 pub mod Examples
 pub mod Fitting
 pub mod Marking
+pub mod BlockPromises
 pub mod Eight
 pub mod ReportTraces
 pub mod Transits
@@ -32,11 +34,13 @@ pub mod OutCounts
 pub mod OutQueues
 pub mod OutLeaving
 pub mod OutAside
+pub mod PieceAside
 pub mod OutSetting
 pub mod OutNumbers
 pub mod OutbookLaws
 pub mod AlikeOut
 pub mod AlikeSent
 pub mod AlikeIn
+pub mod AlikePieces
 pub mod Alike
 pub mod Promised

@@ -48,6 +48,7 @@ use Rattle.arrive_unsequenced.specs.Calls.{sendUnsequenced, judgedOn, unsequenc
 use Rattle.laws.proofs.Landing.{judged-has}
 use Rattle.laws.specs.Steady.{SameWindow}
 use Rattle.laws.proofs.Steady.{begin-steady, state-steady, dispatch-steady, receive-window, reliable-window}
+use Rattle.laws.proofs.FragmentStores.{fragment-window}
 use Rattle.link_in.specs.Steps.{beside}
 use Rattle.link.specs.Steps.{calls}
 use Rattle.link.specs.Runs.{Asked, comesTo, run, resetState}
@@ -109,6 +110,7 @@ deals s (call.SetState state) datagram x = leaves refl (state-steady s state (x 
 deals s (call.Outward c) datagram x = leaves refl (outward-steady s c (x .peer) .window)
 deals s (call.Inward (inw.UnsequencedArrival a g)) datagram x = brings a g refl
 deals s (call.Inward (inw.ReliableArrival a)) datagram x = leaves refl (reliable-window s a datagram x)
+deals s (call.Inward (inw.FragmentArrival a)) datagram x = leaves refl (fragment-window s a datagram x)
 deals s (call.Inward (inw.Dispatch channel)) datagram x = leaves refl (dispatch-steady s channel (x .peer) .window)
 deals s (call.Inward inw.Receive) datagram x = leaves refl (receive-window s (x .peer))
 

@@ -112,11 +112,11 @@ pub set-given : (cs : List Channel) (i : ℕ) (d : Channel) → d .«outgoing_re
 set-given cs i d e c = part-set (λ (x : Channel). x .«outgoing_reliable») cs i d noChannel c e
 
 -- dispatch changes dispatched alone of the lists, and nothing outgoing of the channel
-record Inward (c : Channel) (l : Lists) (d : Dispatched) : Type 0 where
-  names : usedOut (d .lists) ≡ usedOut l
-  given : d .channel .«outgoing_reliable» ≡ c .«outgoing_reliable»
+pub record Inward (c : Channel) (l : Lists) (d : Dispatched) : Type 0 where
+  pub names : usedOut (d .lists) ≡ usedOut l
+  pub given : d .channel .«outgoing_reliable» ≡ c .«outgoing_reliable»
 
-by-dispatch : (slots : List Incoming) (c : Channel) (l : Lists) (g : Unsequenced) → Inward c l (dispatchedBy slots c l g)
+pub by-dispatch : (slots : List Incoming) (c : Channel) (l : Lists) (g : Unsequenced) → Inward c l (dispatchedBy slots c l g)
 by-dispatch slots c l g =
     let n = readyCount slots (inItems (c .held)) (c .«incoming_reliable» .0) in
     let d = movedOn n (readyLast slots (inItems (c .held)) (c .«incoming_reliable» .0)) c l g in

@@ -41,6 +41,7 @@ use Rattle.promises.proofs.OutCounts.{count-append, count-map}
 use Rattle.promises.proofs.OutQueues.{news, joined-news, queues-once}
 use Rattle.promises.proofs.OutSetting.{Queues, none, some, setup-queues, ping-queues, send-queues}
 use Rattle.promises.proofs.OutLeaving.{asks, Leaves, Hears, step-leaves, acknowledge-hears, check-keeps}
+use Rattle.promises.proofs.PieceAside.{fragment-aside}
 use Rattle.promises.proofs.OutAside.{begin-leaves, Uncounted, Aside, aside-waiting, state-aside, throttle-aside, receive-aside, dispatch-aside, unsequenced-aside, reliable-aside}
 use Rattle.promises.proofs.OutNumbers.{Counted, uncounted-counted, pieces-counted, fresh-counted, begin-counted, step-uncounted, acknowledge-uncounted, check-uncounted}
 
@@ -173,6 +174,8 @@ call-books (call.Inward (inw.UnsequencedArrival a group)) s datagram x b w k =
     aside-books b (x .peer) (calls s (call.Inward (inw.UnsequencedArrival a group)) datagram x .after .peer) (unsequenced-aside s a datagram x group) k
 call-books (call.Inward (inw.ReliableArrival a)) s datagram x b w k =
     aside-books b (x .peer) (calls s (call.Inward (inw.ReliableArrival a)) datagram x .after .peer) (reliable-aside s a datagram x) k
+call-books (call.Inward (inw.FragmentArrival a)) s datagram x b w k =
+    aside-books b (x .peer) (calls s (call.Inward (inw.FragmentArrival a)) datagram x .after .peer) (fragment-aside s a datagram x) k
 call-books (call.Inward (inw.Dispatch channel)) s datagram x b w k =
     aside-books b (x .peer) (calls s (call.Inward (inw.Dispatch channel)) datagram x .after .peer) (dispatch-aside s channel (x .peer)) k
 call-books (call.Inward inw.Receive) s datagram x b w k =
@@ -183,7 +186,7 @@ run-books : (calls : List Asked) (x : State) (b : Outbook) → Whole (x .peer) �
 unfolding run outbook
 run-books [] x b w k = k
 run-books (a ∷ rest) x b w k =
-    run-books rest (comesTo a x .after) (writesOut a x b) (call-sounds (a .settings) (a .call) (a .datagram) (x .store) .whole (x .peer) w)
+    run-books rest (comesTo a x .after) (writesOut a x b) (call-sounds (a .settings) (a .call) (a .datagram) (x .store) (x .second) .whole (x .peer) w)
     (call-books (a .call) (a .settings) (a .datagram) x b w k)
 
 pub none-lost : NoneLost

@@ -2,17 +2,19 @@
 use Rattle.promises.specs.Promised.{Promised}
 use Rattle.promises.proofs.Refusals.{answers-may, refused-unchanged, sound-undamaged}
 use Rattle.promises.proofs.Shown.{answers-each}
-use Rattle.promises.proofs.Eight.{eight-leaves, eight-moves, ten-keeps}
+use Rattle.promises.proofs.Eight.{eight-leaves, eight-moves, eight-first, ten-keeps}
 use Rattle.promises.proofs.Sounding.{stays-sound, never-damaged}
 use Rattle.promises.proofs.Alike.{respects-same}
 use Rattle.promises.proofs.Traces.{no-trace, no-trace-original, far-apart}
-use Rattle.promises.proofs.ReportTraces.{no-trace-reports}
+use Rattle.promises.proofs.ReportTraces.{no-trace-reports, no-trace-pieces}
 use Rattle.promises.proofs.Held.{nothing-stuck}
 use Rattle.promises.proofs.NextReliable.{next-delivered}
 use Rattle.promises.proofs.Marking.{near-stored, marked-exactly, stored-after-eight}
 use Rattle.promises.proofs.Waiting.{waits}
 use Rattle.promises.proofs.Comings.{comes-out}
 use Rattle.promises.proofs.Reporting.{counts-once}
+use Rattle.promises.proofs.BlockPromises.{block-whole, marked-changes-nothing, second-kept}
+use Rattle.promises.proofs.Together.{cut-together}
 use Rattle.promises.proofs.Transits.{in-transit}
 use Rattle.promises.proofs.OutbookLaws.{none-lost}
 
@@ -24,6 +26,7 @@ promised =
       refused-unchanged = refused-unchanged;
       eight-leaves = eight-leaves;
       eight-moves = eight-moves;
+      eight-first = eight-first;
       ten-keeps = ten-keeps;
       sound-undamaged = sound-undamaged;
       stays-sound = stays-sound;
@@ -33,6 +36,7 @@ promised =
       no-trace-original = no-trace-original;
       far-apart = far-apart;
       no-trace-reports = no-trace-reports;
+      no-trace-pieces = no-trace-pieces;
       nothing-stuck = nothing-stuck;
       next-delivered = next-delivered;
       near-stored = near-stored;
@@ -41,6 +45,10 @@ promised =
       waits = waits;
       comes-out = comes-out;
       counts-once = counts-once;
+      block-whole = block-whole;
+      marked-changes-nothing = marked-changes-nothing;
+      second-kept = second-kept;
+      cut-together = cut-together;
       in-transit = in-transit;
       none-lost = none-lost;
     }

@@ -8,7 +8,7 @@ use mathlib.Core.Bool.{Bool, true, false, not}
 use mathlib.Core.List.{List}
 use native.Mathlib.Omega.{arith}
 use lib.Dec.{eqb, leb, ltb}
-use lib.ListN.{length}
+use lib.ListN.{length, getD}
 use borrow.Author.Tests.{eqb-false, not-true}
 use Rattle.numbers.specs.Pick.{pick, both}
 use Rattle.numbers.proofs.BoolLaws.{both-left, both-right}
@@ -20,13 +20,16 @@ use Rattle.numbers.specs.declared.clock.Trip.the-variants.{PassedOver, Taken}
 use Rattle.numbers.specs.declared.counters.Group.{Group}
 use Rattle.numbers.specs.declared.counters.Reliable.{Reliable}
 use Rattle.numbers.specs.declared.refusals.Refusal.{Refusal}
-use Rattle.numbers.specs.declared.refusals.Refusal.the-variants.{NotReceiving, LengthTooLarge, NotStored, BadCommand, NotRemoved, OutOfRange}
+use Rattle.numbers.specs.declared.refusals.Refusal.the-variants.{NotReceiving, LengthTooLarge, NotStored, BadCommand, NotRemoved, OutOfRange, BadFragment}
 use Rattle.cells.specs.Runs.{first, isEmpty}
 use Rattle.cells.specs.declared.First.{First}
 use Rattle.cells.specs.declared.First.the-variants.{Slot, Empty}
 use Rattle.record.specs.Channels.{onChannel}
 use Rattle.record.specs.Lists.{outItems, inItems}
 use Rattle.record.specs.Damage.{usedOut}
+use Rattle.record.specs.Fresh.{noIncoming}
+use Rattle.record.specs.Blocks.{isBlock}
+use Rattle.record.specs.declared.groups.Incoming.{Incoming}
 use Rattle.record.specs.declared.groups.Lists.{Lists}
 use Rattle.command.specs.Rows.{namesFields}
 use Rattle.outbox.specs.declared.pieces.Piece.{Piece}
@@ -38,7 +41,7 @@ use Rattle.peer.specs.States.{isConnected, acknowledgingConnect, disconnecting,
 use Rattle.peer.specs.declared.settings.Settings.{Settings}
 use Rattle.peer.specs.declared.Peer.{Peer}
 use Rattle.peer.specs.declared.gate.Lent.{Lent}
-use Rattle.peer.specs.declared.gate.Lent.the-variants.{Nothing, Store}
+use Rattle.peer.specs.declared.gate.Lent.the-variants.{Nothing, Store, Both}
 use Rattle.peer.specs.declared.gate.Gate.{Gate}
 use Rattle.peer.specs.declared.gate.Gate.the-variants.{Open, Shut}
 use Rattle.lifecycle.specs.Calls.{resets, beginFits, begins, setsState}
@@ -63,6 +66,12 @@ use Rattle.arrive_unsequenced.specs.Calls.{sendUnsequenced, judgedOn, unsequenc
 use Rattle.arrive_reliable.specs.Calls.{sendReliable, fateOn, reliableAfter, arrivesReliable}
 use Rattle.dispatch.specs.Calls.{dispatchGate, dispatches}
 use Rattle.receive.specs.Calls as receiving
+use Rattle.receive.specs.declared.Reply.the-variants as got
+use Rattle.arrive_fragment.specs.Pieces as pieces
+use Rattle.arrive_fragment.specs.Calls.{sendFragment, arrivalOf, fragmentAfter, arrivesFragment}
+use Rattle.arrive_fragment.specs.declared.Piece.{Piece as Arriving}
+use Rattle.arrive_fragment.specs.declared.Fate.{Fate as Coming}
+use Rattle.arrive_fragment.specs.declared.Fate.the-variants as coming
 use Rattle.throttle.specs.declared.Throttle.{Throttle}
 use Rattle.round_trip.specs.Interval.{throttleOf}
 use Rattle.round_trip.specs.Calls as throttling
@@ -235,9 +244,14 @@ module _ (s : Settings) (p : Peer) where
   receive-fair : Fair (call.Inward inw.Receive) (sound p) p (receiving.receives s p)
   receive-fair = gated-fair (call.Inward inw.Receive) p s Nothing p _ refl refl (by-first (first (inItems (p .lists .dispatched))))
     where
+      by-kind : (i : Incoming) (n : ℕ) (y : Peer) (b : Bool)
+          → Fair (call.Inward inw.Receive) (sound p) p (record { answer = receiving.answerOf (pick b (got.Block (i .channel) n (i .length)) (got.Packet (i .channel) n (i .length))); after = y })
+      by-kind i n y true = done _ p _ refl
+      by-kind i n y false = done _ p _ refl
+
       by-first : (f : First) → Fair (call.Inward inw.Receive) (sound p) p (receiving.receivesFrom f p)
       by-first Empty = done _ p _ refl
-      by-first (Slot n) = done _ p _ refl
+      by-first (Slot n) = by-kind (getD (p .incoming) n noIncoming) n _ (isBlock (getD (p .incoming) n noIncoming))
 
   throttle-fair : (sample : ℕ) → Fair (call.Outward (out.Throttle sample)) (sound p) p (throttling.throttles s sample p)
   throttle-fair sample =
@@ -300,6 +314,22 @@ module _ (s : Settings) (a : Arrival) (datagram : List ℕ) (x : State) where
       by-fate fate.NoRoom = late k x NotStored _ refl (λ e t. e refl)
       by-fate (fate.Stored n) = done k x _ refl
 
+-- ---- the arrival of a piece
+fragment-fair : (s : Settings) (a : Arriving) (datagram : List ℕ) (x : State) → Fair (call.Inward (inw.FragmentArrival a)) (sound (x .peer)) x (arrivesFragment s a datagram x)
+fragment-fair s a datagram x =
+    gated-fair k x s (Both (length (x .store)) (length (x .second))) (x .peer) _ refl refl
+    (behind-fair k x _ (arrivalGate sendFragment (arrivalOf a) s (x .peer .standing) (length datagram)) (arrival-fits s (arrivalOf a) datagram x k sendFragment refl refl refl) (by-fate (pieces.fateOn s a (x .peer))))
+  where
+    k : Call
+    k = call.Inward (inw.FragmentArrival a)
+
+    by-fate : (f : Coming) → Fair k (sound (x .peer)) x (record { answer = answerOf (pieces.replyOf f); after = fragmentAfter f a datagram x })
+    by-fate coming.Passed = done k x _ refl
+    by-fate coming.Unfit = shut k x BadFragment refl
+    by-fate coming.NoRoom = shut k x NotStored refl
+    by-fate (coming.First n) = done k x _ refl
+    by-fate (coming.Later n) = done k x _ refl
+
 -- ---- every call
 step-is-fair : (s : Settings) (k : Call) (datagram : List ℕ) (x : State) → Fair k (sound (x .peer)) x (calls s k datagram x)
 step-is-fair s call.Reset datagram x = beside-fair _ x _ (reset-fair s (x .peer))
@@ -315,6 +345,7 @@ step-is-fair s (call.Outward (out.TimeoutCheck clock)) datagram x = beside-fair 
 step-is-fair s (call.Outward (out.Throttle sample)) datagram x = beside-fair _ x _ (throttle-fair s (x .peer) sample)
 step-is-fair s (call.Inward (inw.UnsequencedArrival a group)) datagram x = unsequenced-fair s a datagram x group
 step-is-fair s (call.Inward (inw.ReliableArrival a)) datagram x = reliable-fair s a datagram x
+step-is-fair s (call.Inward (inw.FragmentArrival a)) datagram x = fragment-fair s a datagram x
 step-is-fair s (call.Inward (inw.Dispatch channel)) datagram x = beside-fair _ x _ (dispatch-fair s (x .peer) channel)
 step-is-fair s (call.Inward inw.Receive) datagram x = beside-fair _ x _ (receive-fair s (x .peer))
 

@@ -14,8 +14,8 @@ use Rattle.cells.specs.Free.{firstFrom, countFrom, exist, once}
 use Rattle.command.specs.declared.fields.Fields.the-variants as fields
 use Rattle.window.specs.Window.{marked}
 use Rattle.record.specs.Fresh.{noLists, noChannel, noOutgoing, noIncoming}
-use Rattle.record.specs.Damage.{all, held, heldFit, own, lengths}
-use Rattle.record.specs.Sizes.{itself, storeLength}
+use Rattle.record.specs.Damage.{all, held, heldFit, own, lengths, blocks}
+use Rattle.record.specs.Sizes.{itself, storeLength, secondLength}
 use Rattle.peer.specs.Fresh.{freshPeer}
 use Rattle.peer.specs.Damage.{sound}
 use Rattle.peer.specs.Outcome.{State}
@@ -29,6 +29,7 @@ use Rattle.packets.proofs.Planning.{left-length}
 use Rattle.send.specs.Calls.{fragment, commands, queuesAll}
 use Rattle.acknowledge.specs.Removal.{seek}
 use Rattle.arrive_reliable.specs.Holding.{holds}
+use Rattle.arrive_fragment.specs.Pieces.{unfinished}
 use Rattle.arrival.specs.declared.Arrival.{Arrival}
 use Rattle.link.specs.Runs.{Asked, comesTo, run, resetState}
 use Rattle.link_out.specs.declared.calls.Call.{Call as Outward}
@@ -51,10 +52,10 @@ abbrev nobody : Kept
 nobody = record { «incoming_peer» = 0; «outgoing_session» = 0; «incoming_session» = 0; reserved = 0; queued = 0 }
 
 abbrev fresh : State
-fresh = resetState 576 nobody (replicate storeLength 0)
+fresh = resetState 576 nobody (replicate storeLength 0) (replicate secondLength 0)
 
 abbrev damaged : State
-damaged = resetState 0 nobody (replicate storeLength 0)
+damaged = resetState 0 nobody (replicate storeLength 0) (replicate secondLength 0)
 
 abbrev asks : Call → Asked
 asks k = record { settings = good; call = k; datagram = [] }
@@ -100,6 +101,18 @@ unsequenced byte length = asks (call.Inward (inw.UnsequencedArrival (arrival byt
 abbrev reliable : ℕ → ℕ → Asked
 reliable byte length = asks (call.Inward (inw.ReliableArrival (arrival byte length)))
 
+-- a piece of a block of one byte that starts at 1, by its byte, its length and how many there are; its datagram is empty
+abbrev piece : ℕ → ℕ → ℕ → Asked
+piece byte length count =
+    asks (call.Inward (inw.FragmentArrival (record {
+      byte = byte;
+      channel = 0;
+      number = record { 0 = 1 };
+      start = record { 0 = 1 };
+      fragment = record { length = length; count = count; number = 0; total = 1; offset = 0 };
+      place = 0;
+    })))
+
 abbrev number : Asked → State → ℕ
 number a x = comesTo a x .answer .number
 
@@ -117,6 +130,7 @@ eleven (call.Outward (out.TimeoutCheck clock)) = refl
 eleven (call.Outward (out.Throttle sample)) = refl
 eleven (call.Inward (inw.UnsequencedArrival arrival group)) = refl
 eleven (call.Inward (inw.ReliableArrival arrival)) = refl
+eleven (call.Inward (inw.FragmentArrival piece)) = refl
 eleven (call.Inward (inw.Dispatch channel)) = refl
 eleven (call.Inward inw.Receive) = refl
 
@@ -142,28 +156,29 @@ thirteen-in : (c : Inward) → number (asks (call.Inward c)) damaged ≡ 13
 unfolding freshPeer sound
 thirteen-in (inw.UnsequencedArrival arrival group) = refl
 thirteen-in (inw.ReliableArrival arrival) = refl
+thirteen-in (inw.FragmentArrival piece) = refl
 thirteen-in (inw.Dispatch channel) = refl
 thirteen-in inw.Receive = refl
 
 -- ---- ping, send, setup
 ping-one : number (asks (call.Outward out.Ping)) fresh ≡ 1
-unfolding freshPeer sound noLists held heldFit exist once all own lengths
+unfolding freshPeer sound noLists held heldFit exist once all own lengths blocks
 ping-one = refl
 
 ping-five : number (asks (call.Outward out.Ping)) pinged ≡ 5
-unfolding run freshPeer sound noLists noChannel noOutgoing noIncoming firstFrom countFrom exist once all held heldFit own lengths queued queuedAt
+unfolding run freshPeer sound noLists noChannel noOutgoing noIncoming firstFrom countFrom exist once all held heldFit own lengths blocks queued queuedAt
 ping-five = refl
 
 send-one : number (sends 0) fresh ≡ 1
-unfolding freshPeer sound noLists held heldFit exist once all own lengths
+unfolding freshPeer sound noLists held heldFit exist once all own lengths blocks
 send-one = refl
 
 send-two : number (sends 0) (run (asks (call.SetState 5) ∷ []) fresh .end) ≡ 2
-unfolding run freshPeer sound noLists held heldFit exist once all own lengths
+unfolding run freshPeer sound noLists held heldFit exist once all own lengths blocks
 send-two = refl
 
 send-three : number (sends 1073741825) ready ≡ 3
-unfolding run freshPeer sound noLists noChannel held heldFit exist once all own lengths
+unfolding run freshPeer sound noLists noChannel held heldFit exist once all own lengths blocks
 send-three = refl
 
 -- 1,048,577 pieces of 548 bytes, which are not counted one by one
@@ -171,68 +186,89 @@ too-many : (xs : List Piece) (p : Peer) → length xs ≡ 1048577 → queuesAll 
 too-many xs p e = rw e refl
 
 send-four : number (sends 574619649) ready ≡ 4
-unfolding run freshPeer sound noLists noChannel held heldFit exist once all own lengths
+unfolding run freshPeer sound noLists noChannel held heldFit exist once all own lengths blocks
 send-four =
     let p = ready .peer in
     too-many (commands (fragment good p) 0 574619649 1 p) p (left-length (packetOf 1 (record { 0 = 0 }) (record { 0 = 0 }) 0 574619649 548))
 
 send-five : number (sends 0) pinged ≡ 5
-unfolding run freshPeer sound noLists noChannel noOutgoing noIncoming firstFrom countFrom exist once all held heldFit own lengths queued queuedAt
+unfolding run freshPeer sound noLists noChannel noOutgoing noIncoming firstFrom countFrom exist once all held heldFit own lengths blocks queued queuedAt
 send-five = refl
 
 setup-two : number (sets (bare 133 0)) fresh ≡ 2
-unfolding freshPeer sound noLists held heldFit exist once all own lengths
+unfolding freshPeer sound noLists held heldFit exist once all own lengths blocks
 setup-two = refl
 
 setup-five : number (sets (bare 133 itself)) pinged ≡ 5
-unfolding run freshPeer sound noLists noChannel noOutgoing noIncoming firstFrom countFrom exist once all held heldFit own lengths queued queuedAt
+unfolding run freshPeer sound noLists noChannel noOutgoing noIncoming firstFrom countFrom exist once all held heldFit own lengths blocks queued queuedAt
 setup-five = refl
 
 -- byte 0 names no command
 setup-nine : number (sets (bare 0 itself)) fresh ≡ 9
-unfolding freshPeer sound noLists countFrom held heldFit exist once all own lengths
+unfolding freshPeer sound noLists countFrom held heldFit exist once all own lengths blocks
 setup-nine = refl
 
 -- ---- acknowledgement: nothing was sent
 acknowledgement-ten : number (asks (call.Outward (out.Acknowledgement 0 (record { 0 = 0 }) 0 0))) connecting ≡ 10
-unfolding run freshPeer sound noLists noOutgoing seek held heldFit exist once all own lengths
+unfolding run freshPeer sound noLists noOutgoing seek held heldFit exist once all own lengths blocks
 acknowledgement-ten = refl
 
 -- ---- the arrivals: no channel, a datagram without the byte, no waiting allowed, a byte that names no command
 unsequenced-six : number (unsequenced 9 0) fresh ≡ 6
-unfolding freshPeer sound noLists held heldFit exist once all own lengths
+unfolding freshPeer sound noLists held heldFit exist once all own lengths blocks
 unsequenced-six = refl
 
 unsequenced-seven : number (unsequenced 9 1) ready ≡ 7
-unfolding run freshPeer sound noLists noChannel held heldFit exist once all own lengths
+unfolding run freshPeer sound noLists noChannel held heldFit exist once all own lengths blocks
 unsequenced-seven = refl
 
 unsequenced-eight : number (unsequenced 9 0) ready ≡ 8
-unfolding run freshPeer sound noLists noChannel held heldFit exist once all own lengths marked
+unfolding run freshPeer sound noLists noChannel held heldFit exist once all own lengths blocks marked
 unsequenced-eight = refl
 
 unsequenced-nine : number (unsequenced 0 0) fresh ≡ 9
-unfolding freshPeer sound noLists held heldFit exist once all own lengths
+unfolding freshPeer sound noLists held heldFit exist once all own lengths blocks
 unsequenced-nine = refl
 
 reliable-six : number (reliable 6 0) fresh ≡ 6
-unfolding freshPeer sound noLists held heldFit exist once all own lengths
+unfolding freshPeer sound noLists held heldFit exist once all own lengths blocks
 reliable-six = refl
 
 reliable-seven : number (reliable 6 1) ready ≡ 7
-unfolding run freshPeer sound noLists noChannel held heldFit exist once all own lengths
+unfolding run freshPeer sound noLists noChannel held heldFit exist once all own lengths blocks
 reliable-seven = refl
 
 reliable-eight : number (reliable 6 0) ready ≡ 8
-unfolding run freshPeer sound noLists noChannel held heldFit exist once all own lengths holds
+unfolding run freshPeer sound noLists noChannel held heldFit exist once all own lengths blocks holds
 reliable-eight = refl
 
 reliable-nine : number (reliable 0 0) fresh ≡ 9
-unfolding freshPeer sound noLists held heldFit exist once all own lengths
+unfolding freshPeer sound noLists held heldFit exist once all own lengths blocks
 reliable-nine = refl
 
+fragment-six : number (piece 8 0 1) fresh ≡ 6
+unfolding freshPeer sound noLists held heldFit exist once all own lengths blocks
+fragment-six = refl
+
+fragment-seven : number (piece 8 1 1) ready ≡ 7
+unfolding run freshPeer sound noLists noChannel held heldFit exist once all own lengths blocks
+fragment-seven = refl
+
+fragment-eight : number (piece 8 0 1) ready ≡ 8
+unfolding run freshPeer sound noLists noChannel held heldFit exist once all own lengths blocks holds unfinished
+fragment-eight = refl
+
+fragment-nine : number (piece 0 0 1) fresh ≡ 9
+unfolding freshPeer sound noLists held heldFit exist once all own lengths blocks
+fragment-nine = refl
+
+-- no pieces at all
+fragment-fourteen : number (piece 8 0 0) ready ≡ 14
+unfolding run freshPeer sound noLists noChannel held heldFit exist once all own lengths blocks holds unfinished
+fragment-fourteen = refl
+
 dispatch-two : number (asks (call.Inward (inw.Dispatch 0))) fresh ≡ 2
-unfolding freshPeer sound noLists held heldFit exist once all own lengths
+unfolding freshPeer sound noLists held heldFit exist once all own lengths blocks
 dispatch-two = refl
 
 -- ---- the rows
@@ -297,6 +333,13 @@ row (call.Inward (inw.ReliableArrival a)) =
     (more (by (reliable 6 1) ready refl reliable-seven)
     (more (by (reliable 6 0) ready refl reliable-eight)
     (more (by (reliable 0 0) fresh refl reliable-nine) (in-row (inw.ReliableArrival a)))))
+row (call.Inward (inw.FragmentArrival a)) =
+    let k = call.Inward (inw.FragmentArrival a) in
+    more (by (piece 8 0 1) fresh refl fragment-six)
+    (more (by (piece 8 1 1) ready refl fragment-seven)
+    (more (by (piece 8 0 1) ready refl fragment-eight)
+    (more (by (piece 0 0 1) fresh refl fragment-nine)
+    (more (by-eleven k) (more (by (asks k) damaged refl (thirteen-in (inw.FragmentArrival a))) (more (by (piece 8 0 0) ready refl fragment-fourteen) none))))))
 row (call.Inward (inw.Dispatch channel)) =
     more (by (asks (call.Inward (inw.Dispatch 0))) fresh refl dispatch-two) (in-row (inw.Dispatch channel))
 row (call.Inward inw.Receive) = in-row inw.Receive

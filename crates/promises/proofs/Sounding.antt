@@ -22,6 +22,7 @@ use Rattle.lifecycle.specs.Calls.{kept}
 use Rattle.lifecycle.proofs.Sound.{reset-sounds, begin-sounds, state-sounds}
 use Rattle.laws.proofs.Unsequenced.{unsequenced-sounds}
 use Rattle.laws.proofs.Reliable.{reliable-sounds}
+use Rattle.laws.proofs.Fragments.{fragment-sounds}
 use Rattle.dispatch.proofs.Sound.{dispatch-sounds}
 use Rattle.receive.proofs.Sound.{receive-sounds}
 use Rattle.link.specs.Steps.{calls}
@@ -33,19 +34,20 @@ use Rattle.promises.proofs.Refusals.{sound-undamaged}
 use Rattle.promises.proofs.Sending.{outward-sounds}
 use Rattle.promises.specs.Standing.{StaysSound, Undamaged, NeverDamaged}
 
--- a call of the link on a record, beside a store
-abbrev on : Settings → Call → List ℕ → List ℕ → Peer → Outcome Peer
-on s c datagram store p = onPeer (calls s c datagram (record { peer = p; store = store; second = second }))
+-- a call of the link on a record, beside the stores
+abbrev on : Settings → Call → List ℕ → List ℕ → List ℕ → Peer → Outcome Peer
+on s c datagram store second p = onPeer (calls s c datagram (record { peer = p; store = store; second = second }))
 
-pub call-sounds : (s : Settings) (c : Call) (datagram store : List ℕ) → Sounds (on s c datagram store)
-call-sounds s call.Reset datagram store = reset-sounds s
-call-sounds s (call.Begin mtu channels) datagram store = begin-sounds s mtu channels
-call-sounds s (call.SetState state) datagram store = state-sounds s state
-call-sounds s (call.Outward c) datagram store = outward-sounds s c
-call-sounds s (call.Inward (inw.UnsequencedArrival a group)) datagram store = unsequenced-sounds s a group datagram store
-call-sounds s (call.Inward (inw.ReliableArrival a)) datagram store = reliable-sounds s a datagram store
-call-sounds s (call.Inward (inw.Dispatch channel)) datagram store = dispatch-sounds s channel
-call-sounds s (call.Inward inw.Receive) datagram store = receive-sounds s
+pub call-sounds : (s : Settings) (c : Call) (datagram store second : List ℕ) → Sounds (on s c datagram store second)
+call-sounds s call.Reset datagram store second = reset-sounds s
+call-sounds s (call.Begin mtu channels) datagram store second = begin-sounds s mtu channels
+call-sounds s (call.SetState state) datagram store second = state-sounds s state
+call-sounds s (call.Outward c) datagram store second = outward-sounds s c
+call-sounds s (call.Inward (inw.UnsequencedArrival a group)) datagram store second = unsequenced-sounds s a group datagram store second
+call-sounds s (call.Inward (inw.ReliableArrival a)) datagram store second = reliable-sounds s a datagram store second
+call-sounds s (call.Inward (inw.FragmentArrival a)) datagram store second = fragment-sounds s a datagram store second
+call-sounds s (call.Inward (inw.Dispatch channel)) datagram store second = dispatch-sounds s channel
+call-sounds s (call.Inward inw.Receive) datagram store second = receive-sounds s
 
 -- sound and whole, along a run
 pub record Standing (x : State) : Type 0 where
@@ -54,7 +56,7 @@ pub record Standing (x : State) : Type 0 where
 
 pub asked-stands : (a : Asked) (x : State) → Standing x → Standing (comesTo a x .after)
 asked-stands a x k =
-    let c = call-sounds (a .settings) (a .call) (a .datagram) (x .store) in
+    let c = call-sounds (a .settings) (a .call) (a .datagram) (x .store) (x .second) in
     record { whole = c .whole (x .peer) (k .whole); good = c .keeps (x .peer) (k .whole) (k .good) }
 
 pub run-stands : (calls : List Asked) (x : State) → Standing x → Standing (run calls x .end)
@@ -88,7 +90,7 @@ pub reset-stands : (s : Settings) (k : Kept) (store second : List ℕ) → fitSe
 reset-stands s k store second e = record { whole = fresh-whole (s .mtu) k; good = fresh-good s k e }
 
 pub stays-sound : StaysSound
-stays-sound s k store calls e = run-stands calls (resetState (s .mtu) k store second) (reset-stands s k store second e) .good
+stays-sound s k store second calls e = run-stands calls (resetState (s .mtu) k store second) (reset-stands s k store second e) .good
 
 run-undamaged : (calls : List Asked) (x : State) → Standing x → Undamaged (run calls x .answers)
 unfolding run
@@ -97,4 +99,4 @@ run-undamaged (a ∷ rest) x k =
     (sound-undamaged (a .settings) (a .call) (a .datagram) x (k .good), run-undamaged rest (comesTo a x .after) (asked-stands a x k))
 
 pub never-damaged : NeverDamaged
-never-damaged s k store calls e = run-undamaged calls (resetState (s .mtu) k store second) (reset-stands s k store second e)
+never-damaged s k store second calls e = run-undamaged calls (resetState (s .mtu) k store second) (reset-stands s k store second e)

@@ -18,6 +18,7 @@ use Rattle.arrival.specs.declared.Arrival.{Arrival}
 use Rattle.arrive_unsequenced.specs.Calls.{arrivesUnsequenced}
 use Rattle.laws.specs.Steady.{SameWindow}
 use Rattle.laws.proofs.Steady.{begin-steady, state-steady, dispatch-steady, receive-window, reliable-window}
+use Rattle.laws.proofs.FragmentStores.{fragment-window}
 use Rattle.link_in.specs.Steps.{beside}
 use Rattle.link.specs.Steps.{calls}
 use Rattle.link.specs.Runs.{Asked, comesTo, run, resetState}
@@ -67,6 +68,8 @@ call-does (call.Outward c) s datagram x log i = same-does x (calls s (call.Outwa
 call-does (call.Inward (inw.UnsequencedArrival a group)) s datagram x log i = arrival-does s a group datagram x log i
 call-does (call.Inward (inw.ReliableArrival a)) s datagram x log i =
     same-does x (calls s (call.Inward (inw.ReliableArrival a)) datagram x) log (reliable-window s a datagram x)
+call-does (call.Inward (inw.FragmentArrival a)) s datagram x log i =
+    same-does x (calls s (call.Inward (inw.FragmentArrival a)) datagram x) log (fragment-window s a datagram x)
 call-does (call.Inward (inw.Dispatch channel)) s datagram x log i =
     same-does x (calls s (call.Inward (inw.Dispatch channel)) datagram x) log (dispatch-steady s channel (x .peer) .window)
 call-does (call.Inward inw.Receive) s datagram x log i = same-does x (calls s (call.Inward inw.Receive) datagram x) log (receive-window s (x .peer))

@@ -50,6 +50,7 @@ use Rattle.link.specs.Steps.{calls}
 use Rattle.link.specs.Runs.{Asked, comesTo, run, resetState}
 use Rattle.link.specs.declared.calls.Call.{Call}
 use Rattle.link.specs.declared.calls.Call.the-variants as call
+use Rattle.promises.proofs.Pieces.{fragment-keeps}
 use Rattle.promises.specs.Standing.{ShortPiece, Short, AllShort, InTransit}
 
 -- a property of the record that refusals leave
@@ -130,6 +131,13 @@ call-carries (call.SetState state) s datagram x h c = state-carries s state (x .
 call-carries (call.Outward a) s datagram x h c = outward-carries s a (x .peer) h c
 call-carries (call.Inward (inw.UnsequencedArrival a group)) s datagram x h c = unsequenced-carries s a datagram x c group
 call-carries (call.Inward (inw.ReliableArrival a)) s datagram x h c = reliable-carries s a datagram x c
+call-carries (call.Inward (inw.FragmentArrival a)) s datagram x h c =
+    fragment-keeps s a datagram x Carries (λ n q k. record { low = k .low; is = k .is }) (λ n q k. record { low = k .low; is = k .is })
+    (λ q k.
+    record {
+      low = k .low;
+      is = same-carries q _ (dispatched-sent (q .incoming) (getD (q .channels) (a .channel) noChannel) (q .lists) (q .unsequenced)) k;
+    }) c
 call-carries (call.Inward (inw.Dispatch channel)) s datagram x h c = dispatch-carries s channel (x .peer) c
 call-carries (call.Inward inw.Receive) s datagram x h c = receive-carries s (x .peer) c
 
@@ -139,4 +147,4 @@ run-carries [] x h c = c
 run-carries (a ∷ rest) x h c = run-carries rest (comesTo a x .after) (h .1) (call-carries (a .call) (a .settings) (a .datagram) x (h .0) c)
 
 pub in-transit : InTransit
-in-transit mtu kept store calls h = run-carries calls (resetState mtu kept store second) h (fresh-carries mtu kept) .is
+in-transit mtu kept store second calls h = run-carries calls (resetState mtu kept store second) h (fresh-carries mtu kept) .is

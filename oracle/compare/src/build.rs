@@ -1,11 +1,13 @@
 //! The frames of ops 20 to 24 that make a record.
 
-use enet::record::{List, Outgoing, Record, INCOMING};
+use enet::record::{List, Outgoing, Record, INCOMING, WORDS};
 
 use crate::frame::Frame;
 
-/// The place of the first word in op 20, and the number of the first channel's list in op 21.
+/// The places of the first word and of the first word of marks in op 20, and the number of the first channel's list in
+/// op 21.
 pub const WORDS_FROM: usize = 64;
+pub const MARKS_FROM: usize = WORDS_FROM + WORDS;
 pub const CHANNELS_FROM: usize = 8;
 
 /// The frames that make the one record out of the other. In slots, lists and channels all that counts is
@@ -56,10 +58,10 @@ fn frame<const N: usize>(op: u8, numbers: [u32; N]) -> Frame {
     Frame { op, numbers: numbers.to_vec(), ..Frame::default() }
 }
 
-/// The frames that make the single numbers and the words of the one record those of the other.
+/// The frames that make the single numbers, the words and the marks of the one record those of the other.
 pub fn numbers(from: &Record, to: &Record) -> Vec<Frame> {
-    let old = from.numbers.iter().chain(&from.words);
-    let new = to.numbers.iter().chain(&to.words);
+    let old = from.numbers.iter().chain(&from.words).chain(&from.marks);
+    let new = to.numbers.iter().chain(&to.words).chain(&to.marks);
     let places = (0..from.numbers.len()).chain(WORDS_FROM..);
     places
         .zip(old.zip(new))

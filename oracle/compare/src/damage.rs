@@ -1,10 +1,10 @@
-//! Whether a record is damaged: document 01's list, in its order.
+//! Whether a record is damaged: document 01's list, in its order, and C-11's.
 
 use std::collections::BTreeSet;
 
-use enet::record::{place, List, Record, CHANNELS};
+use enet::record::{place, Incoming, List, Record, CHANNELS};
 
-use crate::model::{mtu_fits, CELL};
+use crate::model::{mtu_fits, CELL, PIECES, SECOND};
 
 /// The channel that is the peer itself.
 pub const PEER: u8 = 255;
@@ -17,6 +17,7 @@ pub fn damaged(record: &Record) -> bool {
         && lists_sound(&record.incoming_lists())
         && outgoing_sound(record)
         && incoming_sound(record)
+        && blocks_sound(record)
         && record.numbers[place::WAITING] == held(record))
 }
 
@@ -51,11 +52,34 @@ fn incoming_sound(record: &Record) -> bool {
     let count = record.numbers[place::CHANNEL_COUNT];
     let packets_fit = record.used_incoming().iter().all(|&slot| {
         let packet = &record.incoming_slots[slot];
-        packet.length as usize <= CELL && u32::from(packet.channel) < count
+        length_fits(packet) && u32::from(packet.channel) < count
     });
     packets_fit
         && record.open_channels().iter().enumerate().all(|(number, channel)| {
             let own = |slot: usize| usize::from(record.incoming_slots[slot].channel) == number;
             channel.list.slots().all(own)
         })
+}
+
+/// A packet fits a cell; a block has at least a byte and fits the second store.
+fn length_fits(packet: &Incoming) -> bool {
+    let length = packet.length as usize;
+    if packet.is_block() {
+        (1..=SECOND).contains(&length)
+    } else {
+        length <= CELL
+    }
+}
+
+/// At most one block, of at most 64 pieces, whose marks are those of the pieces that do not remain; without one no mark.
+fn blocks_sound(record: &Record) -> bool {
+    let [slot] = record.blocks()[..] else {
+        return record.blocks().is_empty() && record.marks == [0, 0];
+    };
+    let block = &record.incoming_slots[slot];
+    let marks = u64::from(record.marks[1]) << 32 | u64::from(record.marks[0]);
+    let past = |piece: u32| piece < PIECES && marks >> piece != 0;
+    block.fragments <= PIECES
+        && !past(block.fragments)
+        && u64::from(block.remaining) + u64::from(marks.count_ones()) == block.fragments.into()
 }

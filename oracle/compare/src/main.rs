@@ -5,6 +5,7 @@ mod arriving;
 mod build;
 mod damage;
 mod events;
+mod fragments;
 mod frame;
 mod lines;
 mod living;
@@ -15,6 +16,7 @@ mod model;
 mod ops;
 mod output;
 mod packing;
+mod piecing;
 mod queueing;
 mod random;
 mod records;
@@ -47,6 +49,7 @@ fn main() -> ExitCode {
         ["every", set, script, lines] => write_every(set, script, lines),
         ["packing", seed, count] => beside(packing::compare, seed, count),
         ["reliable", seed, count] => beside(queueing::compare, seed, count),
+        ["pieces", seed, count] => beside(piecing::compare, seed, count),
         ["events", seed, count] => beside(events::compare, seed, count),
         ["vectors", script, lines] => write_vectors(script, lines),
         ["lines", expected, got] => compare(expected, got),
@@ -71,15 +74,17 @@ fn usage() -> String {
   compare sending SEED COUNT SCRIPT_FILE LINES_FILE
   compare arriving SEED COUNT SCRIPT_FILE LINES_FILE
   compare acknowledging SEED COUNT SCRIPT_FILE LINES_FILE
+  compare fragments SEED COUNT SCRIPT_FILE LINES_FILE
   compare talking SEED COUNT SCRIPT_FILE LINES_FILE
   compare living SEED COUNT SCRIPT_FILE LINES_FILE
   compare repeats SEED COUNT SCRIPT_FILE PLAIN_FILE INSERTED_FILE LINES_FILE
       PLAIN: the script without the inserted frames; INSERTED: the numbers of their lines
   compare without INSERTED GOT
   compare every SET SCRIPT_FILE LINES_FILE
-      SET: {}, {}, {}
+      SET: {}, {}, {}, {}
   compare packing SEED COUNT
   compare reliable SEED COUNT
+  compare pieces SEED COUNT
   compare events SEED COUNT
   compare vectors SCRIPT_FILE LINES_FILE
   compare lines EXPECTED GOT",
@@ -87,7 +92,8 @@ fn usage() -> String {
         more.join(","),
         sets::NAMES.join(", "),
         arriving::NAMES.join(", "),
-        acknowledging::NAMES.join(", ")
+        acknowledging::NAMES.join(", "),
+        fragments::NAMES.join(", ")
     )
 }
 
@@ -119,6 +125,7 @@ fn write_drawn(
         "sending" => |output, seed, count| sending::write(output, seed, count, Mix::All),
         "arriving" => |output, seed, count| arriving::write(output, seed, count, Mix::All),
         "acknowledging" => acknowledging::write,
+        "fragments" => fragments::write,
         "talking" => talking::write,
         "living" => living::write,
         _ => return Err(usage()),
@@ -143,7 +150,7 @@ fn leave_out(inserted: &str, got: &str) -> Result<ExitCode, String> {
 
 fn write_every(set: &str, script: &str, lines: &str) -> Result<ExitCode, String> {
     let write = sets::named(set).or_else(|| arriving::named(set));
-    let write = write.or_else(|| acknowledging::named(set));
+    let write = write.or_else(|| acknowledging::named(set)).or_else(|| fragments::named(set));
     let write = write.ok_or_else(|| format!("there is no set {set}\n{}", usage()))?;
     written(script, lines, write)
 }
@@ -159,7 +166,7 @@ fn beside(
 
 /// What the repository stores for replay: each kind of damage, random records, the rules of sending, some
 /// sequences of sending and of dispatch and receive, then every other op, then arrivals, then acknowledgement, timeouts
-/// and throttle, then two peers that talk, then repeats, and last a cut frame.
+/// and throttle, then two peers that talk, then repeats, then blocks in pieces, and last a cut frame.
 fn write_vectors(script: &str, lines: &str) -> Result<ExitCode, String> {
     let plan = script::Plan { seed: 1, count: 3_000, choice: script::Choice::named(None)? };
     written(script, lines, |output| {
@@ -174,7 +181,8 @@ fn write_vectors(script: &str, lines: &str) -> Result<ExitCode, String> {
             // Both moods, from a reset.
             talking::write(output, 5, 700)?;
             talking::write(output, 32, 700)?;
-            repeats::write_stored(output, 15, 220)
+            repeats::write_stored(output, 15, 220)?;
+            fragments::write_stored(output, 17, 300)
         })
     })
 }

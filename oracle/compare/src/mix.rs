@@ -4,7 +4,7 @@ use crate::{acknowledging, frame::Frame, model::Model, random::Random};
 
 #[derive(Clone, Copy, PartialEq, Eq)]
 pub enum Mix {
-    /// Without ops 8, 9 and 14: the stored scripts were drawn before these were built, and stay as they are.
+    /// Without ops 8, 9, 14 and 18: the stored scripts were drawn before these were built, and stay as they are.
     Stored,
     All,
 }

@@ -13,6 +13,10 @@ pub const STORE: usize = 49_152;
 /// How many bytes a cell of it has, one for each incoming slot.
 pub const CELL: usize = STORE / INCOMING;
 
+/// C-11: how many bytes the second store has, in which a block is put together, and the most pieces of one.
+pub const SECOND: usize = 32_768;
+pub const PIECES: u32 = 64;
+
 /// The state in which a peer is connected.
 pub const CONNECTED: u32 = 5;
 
@@ -23,7 +27,7 @@ pub const DISCONNECT_LATER: u32 = 6;
 pub const ACKNOWLEDGING_CONNECT: u32 = 2;
 pub const DISCONNECTING: u32 = 7;
 
-/// The settings, and how much of the store an arrival is lent.
+/// The settings, and how much of both stores an arrival is lent.
 #[derive(Clone, Copy)]
 pub struct Settings {
     pub mtu: u32,
@@ -31,6 +35,7 @@ pub struct Settings {
     pub waiting: u32,
     pub checksum: bool,
     pub store: u32,
+    pub second: u32,
 }
 
 impl Settings {
@@ -41,6 +46,7 @@ impl Settings {
         waiting: 33_554_432,
         checksum: false,
         store: STORE as u32,
+        second: SECOND as u32,
     };
 
     /// Whether each lies in document 01's range.
@@ -59,6 +65,7 @@ pub struct Model {
     pub settings: Settings,
     pub record: Record,
     pub store: Vec<u8>,
+    pub second: Vec<u8>,
 }
 
 impl Model {
@@ -74,7 +81,8 @@ impl Model {
 
     fn on(bench: Bench) -> Self {
         let settings = Settings::START;
-        Model { bench, settings, record: Record::fresh(settings.mtu), store: vec![0; STORE] }
+        let (store, second) = (vec![0; STORE], vec![0; SECOND]);
+        Model { bench, settings, record: Record::fresh(settings.mtu), store, second }
     }
 
     /// A call that the port adds: by hand on a living peer, else by document 01's rule on the record.
@@ -102,6 +110,14 @@ impl Model {
             return Some(11);
         }
         self.refusal()
+    }
+
+    /// The same of a call that is lent both stores.
+    pub fn both_refusal(&self) -> Option<u32> {
+        if self.settings.second as usize != SECOND {
+            return Some(11);
+        }
+        self.lent_refusal()
     }
 
     /// Lays a packet's bytes into the slot's cell; the cell's bytes past them stay.

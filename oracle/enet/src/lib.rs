@@ -18,6 +18,7 @@ pub use door::{
     command::{limits, size, write, Read},
     overdue::{Carried, Case, Left, Overdue, Sent},
     pack::Packed,
+    piece::{Piece, Pieced},
     receive::Received,
     receiver::{Datagram, Receiver, Taken},
     send::{Limits, Packet},

@@ -6,7 +6,7 @@ use enet::{
 };
 
 /// The row of the record at the start, written out from document 01.
-const FRESH: [u32; 86] = [
+const FRESH: [u32; 88] = [
     4_095, 0, 0, 0, 0, // outgoing and incoming id, connect id, session ids
     0, 0, // state, channel count
     0, 0, 0, 0, // bandwidths and their epochs
@@ -22,13 +22,14 @@ const FRESH: [u32; 86] = [
     0, 0, 0, 0, 0, 0, 0, 0, 0, 0, 0, 0, 0, 0, 0, 0, // words 0 to 15
     0, 0, 0, 0, 0, 0, 0, 0, 0, 0, 0, 0, 0, 0, 0, 0, // words 16 to 31
     0, 0, 0, // event data, waiting total, host count
+    0, 0, // C-11: the marks
 ];
 
 #[test]
 fn the_fresh_record_is_document_01s() {
     let row = Record::fresh(1_392).row();
     assert_eq!(row, FRESH);
-    assert_eq!(hash(&row), 4_209_923_351);
+    assert_eq!(hash(&row), 863_548_835);
 }
 
 #[test]
@@ -70,15 +71,17 @@ fn the_row_shows_what_counts() {
     record.dispatched.cells[0] = 9;
     record.channels[1].list.push(5);
     record.incoming_slots[5].length = 1;
+    record.marks = [40, 41];
 
     let mut expected = FRESH[..43].to_vec();
     expected[place::CHANNEL_COUNT] = 1;
     expected.extend([1, 4, 0, 1, 3, 0]);
-    expected.extend(&FRESH[47..]);
+    expected.extend(&FRESH[47..86]);
     expected.extend([30, 31, 32, 33, 1, 2]);
     expected.extend([1, 2, 3, 4, 5, 6, 7, 8, 1, 135, 0, 9, 10, 11]);
     expected.extend([0, 0, 0, 0, 0, 0, 0, 0, 0, 5, 255, 0]);
     expected.extend([134, 0, 20, 21, 22, 23]);
+    expected.extend([40, 41]);
     assert_eq!(record.row(), expected);
 }
 
@@ -98,9 +101,10 @@ fn the_row_of_a_damaged_record_stays_within_its_pools() {
     expected.extend([32; 32]);
     expected.extend([0, 0, 65_535]);
     expected.extend([11; 12]);
-    expected.extend(&FRESH[47..]);
+    expected.extend(&FRESH[47..86]);
     expected.extend([0; 8 * 5]);
     expected.extend([0, 0, 0, 0, 0, 5_000]);
+    expected.extend([0, 0]);
     assert_eq!(record.row(), expected);
 }
 

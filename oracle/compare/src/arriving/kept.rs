@@ -11,7 +11,7 @@ pub struct Kept(Vec<Frame>);
 impl Kept {
     /// Keeps an arrival, in the place of some other once there are enough.
     pub fn remember(&mut self, asked: &Frame, random: &mut Random) {
-        if ![10, 11].contains(&asked.op) {
+        if ![10, 11, 18].contains(&asked.op) {
             return;
         }
         if self.0.len() == REMEMBERED {

@@ -1,8 +1,8 @@
 //! Scripts about what comes in: random sequences, and every input of a set.
 
 pub mod kept;
-mod order;
-mod payload;
+pub mod order;
+pub mod payload;
 mod reliable;
 mod sequences;
 mod sets;
@@ -17,6 +17,7 @@ use crate::{
     frame::Frame,
     mix::Mix,
     model::{Settings, CELL, CONNECTED, STORE},
+    ops::store::whole_second,
     output::Output,
     records::{frame, set},
     sending::sets::Set,
@@ -50,19 +51,29 @@ pub fn whole_store() -> Frame {
     frame(16, vec![0, STORE as u32])
 }
 
-/// What is looked at after this line: the whole store's hash after a stored arrival and a receive, and the bytes that a
-/// receive names.
+/// What is looked at after this line: the whole store's hash after a stored arrival and a receive, the second store's after
+/// a stored piece and a receive of a block, and the bytes that a receive names.
 pub fn looks(line: &str) -> Vec<Frame> {
     let mut looks = Vec::new();
     if ["10 0 1 ", "11 0 1 ", "13 0 "].iter().any(|start| line.starts_with(start)) {
         looks.push(whole_store());
     }
-    if let Some(taken) = line.strip_prefix("13 0 1 ") {
+    if ["18 0 1 ", "13 0 2 "].iter().any(|start| line.starts_with(start)) {
+        looks.push(whole_second());
+    }
+    let taken = |kind: &str| {
+        let taken = line.strip_prefix(kind)?;
         let mut words = taken.split(' ').map(|word| word.parse::<u32>());
         let (Some(Ok(cell)), Some(Ok(length))) = (words.nth(1), words.next()) else {
             unreachable!("a receive names channel, cell and length: {line}");
         };
-        looks.push(frame(17, vec![cell * CELL as u32, length.min(48)]));
+        Some((cell, length.min(48)))
+    };
+    if let Some((cell, length)) = taken("13 0 1 ") {
+        looks.push(frame(17, vec![cell * CELL as u32, length]));
+    }
+    if let Some((_, length)) = taken("13 0 2 ") {
+        looks.push(frame(17, vec![0, length, 1]));
     }
     looks
 }
@@ -74,7 +85,7 @@ fn stores(output: &mut Output, asked: &Frame) -> io::Result<bool> {
 }
 
 /// A connected record of so many channels, as made new.
-fn connected(channels: u32) -> Record {
+pub fn connected(channels: u32) -> Record {
     let mut record = Record::fresh(1_392);
     record.numbers[place::STATE] = CONNECTED;
     record.numbers[place::CHANNEL_COUNT] = channels;
@@ -82,6 +93,6 @@ fn connected(channels: u32) -> Record {
 }
 
 /// The settings of the start.
-fn start(output: &mut Output) -> io::Result<()> {
+pub fn start(output: &mut Output) -> io::Result<()> {
     output.put(&set(&Settings::START))
 }

@@ -13,10 +13,10 @@ use crate::{
 };
 
 /// What gives a case one cause to be refused or passed over.
-type Cause = fn(&mut Case);
+pub type Cause = fn(&mut Case);
 
 /// In the order in which they are asked.
-const CAUSES: [Cause; 8] = [
+pub const CAUSES: &[Cause] = &[
     |case| case.settings.store -= 1,
     |case| case.settings.mtu = 575,
     |case| case.record.numbers[place::WAITING] += 1,
@@ -29,20 +29,30 @@ const CAUSES: [Cause; 8] = [
 
 /// A call, the record that it is made on, and its settings.
 #[derive(Clone)]
-struct Case {
-    settings: Settings,
-    record: Record,
-    asked: Frame,
+pub struct Case {
+    pub settings: Settings,
+    pub record: Record,
+    pub asked: Frame,
 }
 
-/// Every set of causes, for an arrival of three bytes that this record stores.
-pub fn write(output: &mut Output, record: &Record, asked: &Frame) -> io::Result<()> {
-    write_causes(output, record, asked, 0..1 << CAUSES.len())
+/// Every set of these causes, for an arrival of three bytes that this record stores.
+pub fn write(
+    output: &mut Output,
+    record: &Record,
+    asked: &Frame,
+    causes: &[Cause],
+) -> io::Result<()> {
+    write_causes(output, record, asked, causes, 0..1 << causes.len())
 }
 
 /// Every cause alone.
-pub fn write_alone(output: &mut Output, record: &Record, asked: &Frame) -> io::Result<()> {
-    write_causes(output, record, asked, (0..CAUSES.len()).map(|at| 1 << at))
+pub fn write_alone(
+    output: &mut Output,
+    record: &Record,
+    asked: &Frame,
+    causes: &[Cause],
+) -> io::Result<()> {
+    write_causes(output, record, asked, causes, (0..causes.len()).map(|at| 1 << at))
 }
 
 /// The causes of each of these sets, in which a bit stands for one, and last none.
@@ -50,13 +60,14 @@ fn write_causes(
     output: &mut Output,
     record: &Record,
     asked: &Frame,
+    causes: &[Cause],
     sets: impl Iterator<Item = u32>,
 ) -> io::Result<()> {
     let sound = Case { settings: Settings::START, record: record.clone(), asked: asked.clone() };
-    for causes in sets {
+    for set in sets {
         let mut case = sound.clone();
         // The later ones first, since two of them set the state.
-        for (_, cause) in CAUSES.iter().enumerate().rev().filter(|(at, _)| causes >> at & 1 == 1) {
+        for (_, cause) in causes.iter().enumerate().rev().filter(|(at, _)| set >> at & 1 == 1) {
             cause(&mut case);
         }
         put(output, &case)?;

@@ -8,6 +8,7 @@ use super::whole_store;
 use crate::{
     frame::Frame,
     model::Settings,
+    ops::store::whole_second,
     output::Output,
     random::Random,
     records::{self, frame, set},
@@ -16,12 +17,18 @@ use crate::{
 /// The lengths: none, one byte, and around the end of a cell.
 const LENGTHS: [u32; 5] = [0, 1, 4_095, 4_096, 4_097];
 
-/// Makes each of these arrivals on the record: `asked` is the frame before its length and its place.
-pub fn write(
+/// The frame of a length and a place, without its bytes, and the store that it is kept in, 0 or 1.
+pub struct Asked<F> {
+    pub frame: F,
+    pub store: u32,
+}
+
+/// Makes each of these arrivals on the record.
+pub fn write<F: Fn(u32, u32) -> Frame>(
     output: &mut Output,
     random: &mut Random,
     record: &Record,
-    asked: &Frame,
+    asked: &Asked<F>,
 ) -> io::Result<()> {
     for length in LENGTHS {
         for packet in limits(length) {
@@ -30,12 +37,10 @@ pub fn write(
             for size in [length, length.saturating_sub(1), length + 9, 0] {
                 for place in places(length, size) {
                     records::make(output, record)?;
-                    let mut asked = asked.clone();
-                    asked.numbers.extend([length, place]);
-                    asked.bytes = random.bytes(size as usize);
-                    output.put(&asked)?;
+                    let frame = (asked.frame)(length, place);
+                    output.put(&Frame { bytes: random.bytes(size as usize), ..frame })?;
                 }
-                look(output, length)?;
+                look(output, length, asked.store)?;
             }
         }
     }
@@ -56,9 +61,9 @@ fn places(length: u32, size: u32) -> Vec<u32> {
     places
 }
 
-/// The first cell where the payload starts and ends, and the whole store.
-fn look(output: &mut Output, length: u32) -> io::Result<()> {
-    output.put(&frame(17, vec![0, 3]))?;
-    output.put(&frame(17, vec![length.saturating_sub(2), 4]))?;
-    output.put(&whole_store())
+/// The first cell or block where the payload starts and ends, and the whole store.
+fn look(output: &mut Output, length: u32, store: u32) -> io::Result<()> {
+    output.put(&frame(17, vec![0, 3, store]))?;
+    output.put(&frame(17, vec![length.saturating_sub(2), 4, store]))?;
+    output.put(&if store == 0 { whole_store() } else { whole_second() })
 }

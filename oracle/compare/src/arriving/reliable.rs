@@ -4,13 +4,18 @@ use std::io;
 
 use enet::record::{place, Incoming, Record, INCOMING};
 
-use super::{connected, order, payload, start, stores, whole_store};
+use super::{
+    connected,
+    order::{self, CAUSES},
+    payload::{self, Asked},
+    start, stores, whole_store,
+};
 use crate::{
     frame::Frame,
     model::{Settings, CONNECTED, DISCONNECT_LATER},
     output::Output,
     random::Random,
-    records::{self, frame, set, sound},
+    records::{self, block, frame, set, sound},
 };
 
 /// The seed of the numbers that a set leaves open.
@@ -68,8 +73,9 @@ pub fn write(output: &mut Output) -> io::Result<()> {
     }
     start(output)?;
     let record = connected(2);
-    payload::write(output, &mut random, &record, &frame(11, vec![134, 1, 1]))?;
-    order::write(output, &record, &three())?;
+    let asked = |length, place| frame(11, vec![134, 1, 1, length, place]);
+    payload::write(output, &mut random, &record, &Asked { frame: asked, store: 0 })?;
+    order::write(output, &record, &three(), CAUSES)?;
     order::write_each(output, &mut random, &record, &three())
 }
 
@@ -84,7 +90,7 @@ pub fn write_slice(output: &mut Output) -> io::Result<()> {
     for (last, distance) in [(65_535, 1), (65_535, 2), (0, 32_767), (0, 32_768)] {
         write_held(output, &mut random, (last, distance), &FEW)?;
     }
-    order::write_alone(output, &connected(2), &three())
+    order::write_alone(output, &connected(2), &three(), CAUSES)
 }
 
 /// Every list with all that is tried, and the same arrival once more.
@@ -125,8 +131,8 @@ fn open(output: &mut Output, record: &mut Record, room: Room) -> io::Result<()> 
     records::make(output, record)
 }
 
-/// A connected record whose channel 1 has this last number and holds these; those of 3 fragments make the
-/// numbers that follow stale.
+/// A connected record whose channel 1 has this last number and holds these, the middle one in so many fragments; 3 make
+/// the numbers that follow stale.
 fn holding(random: &mut Random, last: u16, number: u16, held: &[i16], fragments: u32) -> Record {
     let mut record = connected(2);
     record.channels[1].numbers = [7, 8, last, 9];
@@ -134,8 +140,13 @@ fn holding(random: &mut Random, last: u16, number: u16, held: &[i16], fragments:
         let number = number.wrapping_add_signed(*more);
         let length = random.below(9) as u32;
         record.incoming_slots[slot] =
-            Incoming { byte: 134, channel: 1, number, fragments, remaining: 0, length };
+            Incoming { byte: 134, channel: 1, number, length, ..Incoming::default() };
         record.channels[1].list.push(slot);
+    }
+    let middle = record.channels[1].list.slots().nth(held.len() / 2);
+    if let Some(slot) = middle.filter(|_| fragments > 0) {
+        let length = record.incoming_slots[slot].length.max(1);
+        block::put_whole(&mut record, slot, length, fragments);
     }
     sound::settle(&mut record);
     record
@@ -220,11 +231,14 @@ mod tests {
     #[test]
     fn case_p9_by_arrival() {
         let mut model = waiting(65_534);
-        for (slot, (number, fragments)) in [(0, 3), (3, 0)].into_iter().enumerate() {
+        for (slot, number) in [0, 3].into_iter().enumerate() {
             model.record.incoming_slots[slot] =
-                Incoming { byte: 136, channel: 1, number, fragments, ..Incoming::default() };
+                Incoming { byte: 136, channel: 1, number, ..Incoming::default() };
             model.record.channels[1].list.push(slot);
         }
+        block::put_whole(&mut model.record, 0, 3, 3);
+        sound::settle(&mut model.record);
+        assert_eq!(model.record.marks, [7, 0]);
         assert_eq!(answered(&mut model, 65_535), "11 0 1");
         assert_eq!(model.record.dispatched.items(), [2, 0, 1]);
         assert_eq!(model.record.channels[1].numbers[LAST], 3);

@@ -9,7 +9,7 @@ use crate::{
     frame::Frame,
     mix::Mix,
     model::{Model, Settings, CELL, CONNECTED, DISCONNECT_LATER, STORE},
-    ops::{self, reliable, unsequenced},
+    ops::{self, fragment, reliable, unsequenced},
     output::Output,
     random::Random,
     records::{self, frame, harm, sound},
@@ -17,7 +17,7 @@ use crate::{
     sending, sequence,
 };
 
-/// A script of so many calls of ops 1 to 7 and 10 to 13, and of 8, 9 and 14 where the mix has them, in sequences
+/// A script of so many calls of ops 1 to 7 and 10 to 13, and of 8, 9, 14 and 18 where the mix has them, in sequences
 /// that start from new or random records.
 pub fn write(output: &mut Output, seed: u64, count: u64, mix: Mix) -> io::Result<()> {
     let open = |output: &mut Output, random: &mut Random| {
@@ -119,6 +119,9 @@ impl Sequence {
         if let Some(frame) = self.mix.more(model, random, 5) {
             return frame;
         }
+        if self.mix == Mix::All && random.once_in(12) {
+            return fragment::drawn(random, &model.record);
+        }
         match random.below(64) {
             0 if random.once_in(3) => frame(1, vec![]),
             0 => (ops::named("2").expect("the group is known").frame)(random, 0),
@@ -179,13 +182,15 @@ mod tests {
             "12 2", "12 11", "12 13", "12 bad", "13 0 0", "13 0 1", "13 11", "13 13", "10 0 0",
             "10 0 1", "10 6", "10 7", "10 8", "10 9", "10 11", "10 13", "10 bad", "11 0 0",
             "11 0 1", "11 6", "11 7", "11 8", "11 9", "11 11", "11 13", "11 bad", "8 0 0", "8 0 1",
-            "8 0 4", "9 0 1", "9 0 3", "14 0 0", "14 0 1", "14 0 2",
+            "8 0 4", "9 0 1", "9 0 3", "14 0 0", "14 0 1", "14 0 2", "18 0 0", "18 0 1", "18 6",
+            "18 8", "18 14", "13 0 2",
         ];
         assert_met(&met, 10, &replies);
         let arrivals = |op: &str| -> usize {
             met.iter().filter(|(reply, _)| reply.starts_with(op)).map(|(_, count)| count).sum()
         };
-        assert!(arrivals("10 ") + arrivals("11 ") > 10_000, "most are arrivals: {met:?}");
+        let all = arrivals("10 ") + arrivals("11 ") + arrivals("18 ");
+        assert!(all > 10_000, "most are arrivals: {all}");
     }
 
     /// What one call did, by the records before and after it.
@@ -232,7 +237,7 @@ mod tests {
         let open = |output: &mut Output, random: &mut Random| {
             open(output, random).map(|()| Sequence::new(Mix::All))
         };
-        let done = done((400, 40), open, ask, seen);
+        let done = done((600, 40), open, ask, seen);
         assert!(done.values().all(|count| *count >= 20), "{done:?}");
     }
 }

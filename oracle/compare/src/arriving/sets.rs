@@ -7,14 +7,14 @@ use enet::record::{place, Incoming, Record, INCOMING};
 use crate::{
     output::Output,
     random::Random,
-    records::{self, frame, settings, sound, PACKET},
+    records::{self, block, frame, settings, sound, PACKET},
 };
 
 /// The seed of the numbers that a set leaves open.
 const SEED: u64 = 1;
 
-/// Fragment counts: none, one, some, and those that a 16-bit number does not see.
-pub const FRAGMENTS: [u32; 5] = [0, 1, 3, 65_536, u32::MAX];
+/// Fragment counts: none, one, some, those that need both words of marks.
+pub const FRAGMENTS: [u32; 5] = [0, 1, 3, 33, 64];
 
 /// Last numbers, so that a list counts past 65,535.
 const LASTS: [u16; 3] = [0, 65_530, 65_535];
@@ -30,8 +30,8 @@ pub fn after(held: &Incoming) -> u16 {
     }
 }
 
-/// Lists of 0 to 12 from every last number, with every fragment count, whole, with a gap or an incomplete
-/// record at the start, in the middle or at the end.
+/// Lists of 0 to 12 from every last number, one of them a block of every fragment count, whole, with a gap or an
+/// incomplete record at the start, in the middle or at the end.
 pub fn write_dispatch(output: &mut Output) -> io::Result<()> {
     let mut random = Random::new(SEED);
     output.put(&settings(1_392, PACKET))?;
@@ -54,7 +54,8 @@ pub fn write_dispatch(output: &mut Output) -> io::Result<()> {
     output.put(&frame(15, vec![]))
 }
 
-/// A record of one channel, that holds so many, with a gap (true) or an incomplete record at a place.
+/// A record of one channel, that holds so many, with a gap (true) or an incomplete record at a place, where the block is
+/// too; else it is in the middle.
 fn list(
     random: &mut Random,
     length: usize,
@@ -66,15 +67,20 @@ fn list(
     record.numbers[place::CHANNEL_COUNT] = 1;
     record.channels[0].numbers = [7, 8, last, 9];
     let mut next = last.wrapping_add(1);
+    let block = stop.map_or(length / 2, |(place, _)| place);
     for (place, slot) in random.shuffled(INCOMING).into_iter().take(length).enumerate() {
         if stop == Some((place, true)) {
             next = next.wrapping_add(1);
         }
         let remaining = u32::from(stop == Some((place, false)));
-        let held =
-            Incoming { byte: 134, channel: 0, number: next, fragments, remaining, length: 3 };
-        next = after(&held).wrapping_add(1);
-        record.incoming_slots[slot] = held;
+        record.incoming_slots[slot] =
+            Incoming { byte: 134, number: next, remaining, length: 3, ..Incoming::default() };
+        if place == block && fragments > 0 {
+            // Without its last piece, where it is incomplete.
+            let missing = u64::from(remaining) << (fragments - 1);
+            block::put(&mut record, slot, 3, fragments, !missing);
+        }
+        next = after(&record.incoming_slots[slot]).wrapping_add(1);
         record.channels[0].list.push(slot);
     }
     sound::settle(&mut record);
@@ -116,6 +122,6 @@ mod tests {
         model.record = list(&mut Random::new(1), 5, 65_534, 3, Some((2, true)));
         model.record = model.bench.dispatch(&model.record, 0);
         assert_eq!(model.record.dispatched.items().len(), 2);
-        assert_eq!(model.record.channels[0].numbers, [7, 8, 4, 0]);
+        assert_eq!(model.record.channels[0].numbers, [7, 8, 0, 0]);
     }
 }

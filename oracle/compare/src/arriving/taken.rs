@@ -10,7 +10,7 @@ use crate::{
     output::Output,
     random::Random,
     records::{
-        self, frame, harm, settings,
+        self, block, frame, harm, settings,
         sound::{self, Shape},
         PACKET,
     },
@@ -66,6 +66,7 @@ pub fn waiting(random: &mut Random) -> Record {
         channels.push(length);
     }
     let mut record = sound::shaped(random, &Shape { dispatched, channels, ..Shape::default() });
+    block::strip(&mut record);
     for channel in 0..count {
         let any = random.up_to(65_535) as u16;
         let last = random.pick(&[0, 65_530, 65_535, any]);
@@ -78,10 +79,16 @@ pub fn waiting(random: &mut Random) -> Record {
             }
             held.number = next;
             held.remaining = if random.once_in(10) { 1 + random.up_to(5) } else { 0 };
-            held.fragments = random.pick(&FRAGMENTS);
-            next = after(held).wrapping_add(1);
+            let (left, length) = (held.remaining, 8 * held.length.max(1));
+            let pieces = random.pick(&FRAGMENTS);
+            // The first that comes to it; with any pieces missing.
+            if pieces > 0 && record.blocks().is_empty() {
+                block::put(&mut record, slot, length, pieces, !u64::from(left));
+            }
+            next = after(&record.incoming_slots[slot]).wrapping_add(1);
         }
     }
+    sound::settle(&mut record);
     record
 }
 

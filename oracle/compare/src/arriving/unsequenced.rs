@@ -4,7 +4,12 @@ use std::io;
 
 use enet::record::{place, Incoming, Record, INCOMING, WORDS};
 
-use super::{connected, order, payload, start, whole_store};
+use super::{
+    connected,
+    order::{self, CAUSES},
+    payload::{self, Asked},
+    start, whole_store,
+};
 use crate::{
     build,
     frame::Frame,
@@ -62,15 +67,16 @@ pub fn write(output: &mut Output) -> io::Result<()> {
     let mut random = Random::new(SEED);
     write_grid(output, &mut random, &Grid::full())?;
     let record = connected(2);
-    payload::write(output, &mut random, &record, &frame(10, vec![73, 1, 7, 1_025]))?;
-    order::write(output, &record, &three())?;
+    let asked = |length, place| frame(10, vec![73, 1, 7, 1_025, length, place]);
+    payload::write(output, &mut random, &record, &Asked { frame: asked, store: 0 })?;
+    order::write(output, &record, &three(), CAUSES)?;
     order::write_each(output, &mut random, &record, &three())
 }
 
 /// A thin slice of it.
 pub fn write_slice(output: &mut Output) -> io::Result<()> {
     write_grid(output, &mut Random::new(SEED), &Grid::slice())?;
-    order::write_alone(output, &connected(2), &three())
+    order::write_alone(output, &connected(2), &three(), CAUSES)
 }
 
 /// Three bytes in the window after the first.

@@ -9,7 +9,7 @@ use crate::{
     frame::Frame,
     model::{Model, ACKNOWLEDGING_CONNECT, CONNECTED, DISCONNECTING, DISCONNECT_LATER},
     ops::{
-        acknowledgement,
+        acknowledgement, fragment,
         reliable::{self, LAST},
         throttle, timeouts,
         unsequenced::{self, WINDOW},
@@ -71,6 +71,10 @@ impl Life {
         if record.numbers[place::STATE] != CONNECTED && random.once_in(3) {
             return frame(3, vec![CONNECTED]);
         }
+        // Nothing else may bring its pieces, and no other block begins before.
+        if unfinished(record) && random.once_in(3) {
+            return fragment::drawn(random, record);
+        }
         match random.below(64) {
             0 => records::drawn("2", random),
             1 => records::drawn("3", random),
@@ -83,7 +87,8 @@ impl Life {
             39..=48 if !self.kept.is_empty() => self.kept.any(random),
             39..=50 => unsequenced::drawn(random, record),
             51..=52 => reliable::drawn(random, record),
-            53..=57 => near_group(random, record),
+            53..=54 => near_group(random, record),
+            55..=57 => fragment::drawn(random, record),
             _ => near_number(random, record),
         }
     }
@@ -92,6 +97,11 @@ impl Life {
 /// Whether nothing more can come in, however much is received.
 fn stuck(record: &Record) -> bool {
     record.free_incoming().is_none() && record.dispatched.length == 0
+}
+
+/// Whether a block waits for pieces.
+fn unfinished(record: &Record) -> bool {
+    record.blocks().iter().any(|slot| record.incoming_slots[*slot].remaining > 0)
 }
 
 /// Mostly 5 or 6, or one in which an acknowledgement is answered otherwise.

@@ -12,7 +12,7 @@ use life::Life;
 const SHORTEST: u64 = 1_000;
 const LONGEST: u64 = 12_000;
 
-/// A script of so many calls of ops 1 to 14 and its lines by a living peer, of the mood that the seed says.
+/// A script of so many calls of ops 1 to 14 and 18 and its lines by a living peer, of the mood that the seed says.
 pub fn write(output: &mut Output, seed: u64, count: u64) -> io::Result<()> {
     output.model = Model::living();
     draw(output, seed, count)
@@ -63,13 +63,14 @@ mod tests {
 
     #[test]
     fn every_reply_is_met() {
-        let met = replies(|output| write(output, 1, 60_000));
+        let met = replies(|output| write(output, 5, 60_000));
         let replies = [
             "1 0", "2 0", "2 11", "3 0", "3 11", "4 0", "4 1", "5 0", "5 1", "5 2", "5 3", "5 5",
             "6 0", "6 2", "6 9", "7 0 0", "7 0 1", "8 0 0", "8 0 1", "8 0 2", "8 0 3", "8 0 4",
             "8 10", "9 0 1", "9 0 3", "10 0 0", "10 0 1", "10 6", "10 7", "10 8", "10 9", "11 0 0",
             "11 0 1", "11 6", "11 7", "11 8", "11 9", "12 0", "12 2", "13 0 0", "13 0 1", "14 0 0",
-            "14 0 1", "14 0 2",
+            "14 0 1", "14 0 2", "18 0 0", "18 0 1", "18 6", "18 7", "18 8", "18 9", "18 14",
+            "13 0 2",
         ];
         assert_met(&met, 5, &replies);
     }

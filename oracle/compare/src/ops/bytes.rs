@@ -1,4 +1,4 @@
-//! Op 17: the bytes of a part of the store.
+//! Op 17: the bytes of a part of a store.
 
 use super::{store, Group};
 use crate::{frame::Frame, model::Model, random::Random};
@@ -10,5 +10,8 @@ fn frame(random: &mut Random, turn: u64) -> Frame {
 }
 
 fn line(model: &mut Model, frame: &Frame) -> String {
-    frame.line(&store::part(model, frame))
+    match store::part(model, frame) {
+        Some(part) => frame.line(&part),
+        None => frame.bad(),
+    }
 }

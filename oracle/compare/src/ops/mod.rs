@@ -8,6 +8,7 @@ pub mod cell;
 mod channel;
 mod dispatch;
 mod distance;
+pub mod fragment;
 mod incoming;
 mod number;
 pub mod outgoing;
@@ -22,7 +23,7 @@ mod settings;
 pub mod setup;
 mod state;
 pub mod step;
-mod store;
+pub mod store;
 pub mod throttle;
 pub mod timeouts;
 mod unknown;
@@ -62,6 +63,7 @@ pub const MORE: &[Group] = &[
     dispatch::GROUP,
     receive::GROUP,
     throttle::GROUP,
+    fragment::GROUP,
     row::GROUP,
     store::GROUP,
     bytes::GROUP,

@@ -1,4 +1,5 @@
-//! Op 13: receive. A living peer has the packets' bytes too, and they must be those of the cell.
+//! Op 13: receive. A living peer has the packets' bytes too, and they must be those of the cell, or a block's of the
+//! second store.
 
 use super::Group;
 use crate::{
@@ -18,14 +19,17 @@ fn line(model: &mut Model, frame: &Frame) -> String {
         return model.reply(frame, number);
     }
     let bytes = model.bench.next_bytes();
+    let blocks = model.record.blocks();
     let (received, after) = model.bench.received(&model.record);
     model.record = after;
-    if let (Some(bytes), Some(out)) = (bytes, received) {
-        let cell = &model.store[out.slot * CELL..][..out.length as usize];
-        assert!(bytes == cell, "the cell has what the source hands out");
+    let Some(out) = received else {
+        return model.replies(frame, &[0, 0]);
+    };
+    let is_block = blocks.contains(&out.slot);
+    if let Some(bytes) = bytes {
+        let cell = if is_block { &model.second[..] } else { &model.store[out.slot * CELL..] };
+        assert!(bytes == cell[..out.length as usize], "the store has what the source hands out");
     }
-    match received {
-        None => model.replies(frame, &[0, 0]),
-        Some(out) => model.replies(frame, &[0, 1, out.channel.into(), out.slot as u32, out.length]),
-    }
+    let kind = if is_block { 2 } else { 1 };
+    model.replies(frame, &[0, kind, out.channel.into(), out.slot as u32, out.length])
 }

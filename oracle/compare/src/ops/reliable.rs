@@ -157,7 +157,7 @@ impl Distances {
     }
 
     /// Document 01's place.
-    fn before_the_first_farther(&self) -> usize {
+    pub fn before_the_first_farther(&self) -> usize {
         self.held.iter().position(|held| *held > self.own).unwrap_or(self.held.len())
     }
 }

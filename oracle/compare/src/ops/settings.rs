@@ -1,4 +1,4 @@
-//! Op 0: the settings. Only the checksum and the store's length have numbers that do not fit.
+//! Op 0: the settings. Only the checksum and the lengths of the stores have numbers that do not fit.
 
 use super::Group;
 use crate::{
@@ -8,6 +8,7 @@ use crate::{
 };
 
 const STORE: u32 = model::STORE as u32;
+const SECOND: u32 = model::SECOND as u32;
 
 pub const GROUP: Group = Group { name: "0", weight: 1, frame, line };
 
@@ -26,11 +27,22 @@ fn frame(random: &mut Random, _: u64) -> Frame {
         0 => random.pick(&[STORE + 1, 65_536, u32::MAX]),
         _ => random.up_to(STORE),
     };
-    Frame { op: 0, numbers: vec![mtu, packet, waiting, checksum, store], ..Frame::default() }
+    let numbers = vec![mtu, packet, waiting, checksum, store, second(waiting)];
+    Frame { op: 0, numbers, ..Frame::default() }
+}
+
+/// The second store's length, drawn from another number: stored scripts rely on the draws as they were before C-11.
+fn second(drawn: u32) -> u32 {
+    match drawn % 8 {
+        0 => [SECOND + 1, 65_536, u32::MAX][drawn as usize / 8 % 3],
+        1 => SECOND - 1,
+        2..=4 => drawn / 8 % SECOND,
+        _ => SECOND,
+    }
 }
 
 fn line(model: &mut Model, frame: &Frame) -> String {
-    if frame.number(3) > 1 || frame.number(4) > STORE {
+    if frame.number(3) > 1 || frame.number(4) > STORE || frame.number(5) > SECOND {
         return frame.bad();
     }
     model.settings = Settings {
@@ -39,6 +51,7 @@ fn line(model: &mut Model, frame: &Frame) -> String {
         waiting: frame.number(2),
         checksum: frame.number(3) == 1,
         store: frame.number(4),
+        second: frame.number(5),
     };
     frame.line(&[])
 }

@@ -7,7 +7,7 @@ use crate::{
     model::{Settings, CONNECTED, DISCONNECT_LATER},
     ops::{arrival::Came, reliable::LAST},
     random::Random,
-    records::sound,
+    records::{block, sound},
 };
 
 /// A sound record whose channels hold packets: mostly in order, now and then not, or the same number twice.
@@ -41,11 +41,12 @@ pub fn holding(random: &mut Random) -> Record {
             record.channels[channel].list.push(slot);
         }
     }
+    block::choose(&mut record);
     sound::settle(&mut record);
     record
 }
 
-/// A packet, mostly whole.
+/// A packet, mostly whole; at most one that has fragments stays a block.
 fn held(random: &mut Random, channel: usize, number: u16) -> Incoming {
     let fragments = if random.once_in(6) { random.pick(&[1, 2, 3, 65_536]) } else { 0 };
     let remaining = u32::from(random.once_in(12));

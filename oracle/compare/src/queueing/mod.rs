@@ -1,6 +1,6 @@
 //! The reliable arrival beside the source's own, `enet_protocol_handle_send_reliable`, on random records.
 
-mod draw;
+pub mod draw;
 
 use std::fmt;
 
@@ -20,8 +20,8 @@ use crate::{
 };
 
 /// The source's windows of reliable numbers: the numbers of one, and how many it takes, its own included.
-const WINDOW: u16 = 4_096;
-const TAKEN: u16 = 7;
+pub const WINDOW: u16 = 4_096;
+pub const TAKEN: u16 = 7;
 
 /// What the source does otherwise, by its cause.
 #[derive(Clone, Copy, Debug, PartialEq, Eq, PartialOrd, Ord)]
@@ -224,7 +224,7 @@ impl Case<'_> {
 }
 
 /// Whether one that is farther stands before one that is nearer.
-fn crossed(distances: &Distances) -> bool {
+pub fn crossed(distances: &Distances) -> bool {
     let farther = |held: &u16| *held > distances.own;
     distances.held.iter().skip_while(|held| !farther(held)).any(|held| !farther(held))
 }

@@ -1,8 +1,11 @@
-//! Records with one thing wrong: each kind of damage of document 01, in each list where it can be.
+//! Records with one thing wrong: each kind of damage of document 01 and of C-11, in each list where it can be.
 
 use enet::record::{place, List, Record};
 
-use super::sound::{rich, settle, shaped, Shape};
+use super::{
+    block,
+    sound::{packets, rich, settle, shaped, Shape},
+};
 use crate::random::Random;
 
 /// A kind of damage by its name, and how such a record is made.
@@ -123,6 +126,65 @@ pub const HARMS: &[Harm] = &[
             dispatched.map(|slot| record.incoming_slots[slot].length).sum();
         record
     }),
+    ("a second block in dispatched", |random| {
+        blocked(random, FIRST, |record, _| another(record, DISPATCHED))
+    }),
+    ("a second block in another channel", |random| {
+        blocked(random, FIRST, |record, _| another(record, LAST))
+    }),
+    ("a second block in the same channel", |random| {
+        blocked(random, LAST, |record, _| another(record, LAST))
+    }),
+    ("a block of 65 pieces", |random| {
+        blocked(random, FIRST, |record, slot| {
+            block::put_whole(record, slot, 900, 64);
+            let held = &mut record.incoming_slots[slot];
+            (held.fragments, held.remaining) = (65, 1);
+        })
+    }),
+    ("a block of 2^32 - 1 pieces in dispatched", |random| {
+        blocked(random, DISPATCHED, |record, slot| {
+            record.marks = [0, 0];
+            let held = &mut record.incoming_slots[slot];
+            (held.fragments, held.remaining) = (u32::MAX, u32::MAX);
+        })
+    }),
+    ("a block of no bytes", |random| block_bytes(random, FIRST, 0)),
+    ("a block of no bytes in dispatched", |random| block_bytes(random, DISPATCHED, 0)),
+    ("a block of 32769 bytes", |random| block_bytes(random, LAST, 32_769)),
+    ("a block of 65535 bytes in dispatched", |random| block_bytes(random, DISPATCHED, 65_535)),
+    ("4097 bytes in a packet beside a block", |random| {
+        blocked(random, FIRST, |record, _| {
+            let slot = usize::from(record.dispatched.cells[0]);
+            record.incoming_slots[slot].length = 4_097;
+            settle(record);
+        })
+    }),
+    ("a piece more remaining", |random| {
+        blocked(random, FIRST, |record, slot| record.incoming_slots[slot].remaining += 1)
+    }),
+    ("a piece fewer remaining", |random| {
+        blocked(random, LAST, |record, slot| record.incoming_slots[slot].remaining -= 1)
+    }),
+    ("nothing remaining of a block without marks", |random| {
+        blocked(random, DISPATCHED, |record, slot| {
+            record.marks = [0, 0];
+            record.incoming_slots[slot].remaining = 0;
+        })
+    }),
+    ("2^32 - 1 pieces remaining of a whole block and one", |random| {
+        blocked(random, FIRST, |record, slot| {
+            block::put_whole(record, slot, 900, 40);
+            record.incoming_slots[slot].remaining = u32::MAX;
+        })
+    }),
+    ("a mark at the count", |random| past(random, 5, 1 << 5)),
+    ("a mark in the second word at the count", |random| past(random, 32, 1 << 32)),
+    ("a mark past the count", |random| past(random, 34, 1 << 63)),
+    ("the last mark of all past the count", |random| past(random, 63, 1 << 63)),
+    ("a mark without a block", |random| stray(random, [1, 0])),
+    ("a mark in the second word without a block", |random| stray(random, [0, 1 << 31])),
+    ("all marks without a block", |random| stray(random, [u32::MAX; 2])),
 ];
 
 /// A record of some kind of damage.
@@ -163,6 +225,7 @@ fn absent(random: &mut Random, which: Which, slot: usize) -> Record {
 /// The first slot of a list once more, at the end of the same or of another.
 fn twice(random: &mut Random, from: Which, to: Which) -> Record {
     let mut record = rich(random);
+    block::strip(&mut record);
     let slot = usize::from(from(&mut record).cells[0]);
     to(&mut record).push(slot);
     // Without bytes the sum of the lengths is the same, be the slot counted once or twice.
@@ -175,6 +238,7 @@ fn twice(random: &mut Random, from: Which, to: Which) -> Record {
 
 fn bytes(random: &mut Random, which: Which, length: u32) -> Record {
     let mut record = rich(random);
+    block::strip(&mut record);
     let slot = last(&mut record, which);
     record.incoming_slots[slot].length = length;
     settle(&mut record);
@@ -214,6 +278,46 @@ fn waiting(random: &mut Random, change: fn(u32) -> u32) -> Record {
     let mut record = rich(random);
     let waiting = &mut record.numbers[place::WAITING];
     *waiting = change(*waiting);
+    record
+}
+
+/// An unfinished block of 40 pieces at the end of the list, after this edit.
+fn blocked(random: &mut Random, which: Which, edit: impl Fn(&mut Record, usize)) -> Record {
+    let mut record = packets(random);
+    let slot = last(&mut record, which);
+    block::put(&mut record, slot, 900, 40, random.next() & 0x7F_FFFF_FFFE);
+    settle(&mut record);
+    edit(&mut record, slot);
+    record
+}
+
+/// Makes the first of the list a block too, of one piece and as many bytes as it had, or one.
+fn another(record: &mut Record, which: Which) {
+    let slot = usize::from(which(record).cells[0]);
+    let packet = &mut record.incoming_slots[slot];
+    (packet.fragments, packet.remaining, packet.length) = (1, 1, packet.length.max(1));
+    settle(record);
+}
+
+fn block_bytes(random: &mut Random, which: Which, length: u32) -> Record {
+    blocked(random, which, |record, slot| {
+        record.incoming_slots[slot].length = length;
+        settle(record);
+    })
+}
+
+/// A block of so many pieces with this mark and no other, which counts as one that does not remain.
+fn past(random: &mut Random, pieces: u32, mark: u64) -> Record {
+    blocked(random, LAST, |record, slot| {
+        record.marks = [mark as u32, (mark >> 32) as u32];
+        let held = &mut record.incoming_slots[slot];
+        (held.fragments, held.remaining) = (pieces, pieces - 1);
+    })
+}
+
+fn stray(random: &mut Random, marks: [u32; 2]) -> Record {
+    let mut record = packets(random);
+    record.marks = marks;
     record
 }
 

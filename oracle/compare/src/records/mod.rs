@@ -1,5 +1,6 @@
 //! Scripts about whole records: random ones to reset, and each kind of damage.
 
+pub mod block;
 pub mod harm;
 pub mod odd;
 pub mod sound;
@@ -80,8 +81,8 @@ pub fn settings(mtu: u32, packet: u32) -> Frame {
 
 /// The frame that makes these the settings.
 pub fn set(settings: &Settings) -> Frame {
-    let Settings { mtu, packet, waiting, checksum, store } = *settings;
-    frame(0, vec![mtu, packet, waiting, checksum.into(), store])
+    let Settings { mtu, packet, waiting, checksum, store, second } = *settings;
+    frame(0, vec![mtu, packet, waiting, checksum.into(), store, second])
 }
 
 /// Turns the model's record into this one.

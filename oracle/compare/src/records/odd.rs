@@ -2,7 +2,10 @@
 
 use enet::record::{place, Record};
 
-use super::sound::{rich, settle, shaped, Shape};
+use super::{
+    block,
+    sound::{packets, rich, settle, shaped, Shape},
+};
 use crate::random::Random;
 
 /// A kind by its name, and how such a record is made.
@@ -61,11 +64,12 @@ pub const ODDS: &[Odd] = &[
             }
         })
     }),
-    ("the same number on every packet, byte 0, all fragments", |random| {
+    ("the same number on every packet, byte 0, fragments remaining of none", |random| {
         edited(random, |record| {
+            block::strip(record);
             for packet in &mut record.incoming_slots {
                 (packet.byte, packet.number) = (0, 7);
-                (packet.fragments, packet.remaining) = (u32::MAX, u32::MAX);
+                packet.remaining = u32::MAX;
             }
         })
     }),
@@ -98,6 +102,36 @@ pub const ODDS: &[Odd] = &[
             record.incoming_slots[free].channel = 255;
         })
     }),
+    ("a free incoming slot of fragments", |random| {
+        edited(random, |record| {
+            let free = record.free_incoming().expect("a rich record leaves slots free");
+            record.incoming_slots[free].fragments = 65;
+        })
+    }),
+    ("a whole block of 64 pieces and 32768 bytes", |random| {
+        blocked(random, |record, slot| block::put_whole(record, slot, 32_768, 64))
+    }),
+    ("a block of 64 pieces that has the first and the last", |random| {
+        blocked(random, |record, slot| block::put(record, slot, 64, 64, 1 << 63 | 1))
+    }),
+    ("a block of one piece that has none, of one byte", |random| {
+        blocked(random, |record, slot| block::put(record, slot, 1, 1, 0))
+    }),
+    ("a block of 33 pieces and 4097 bytes, byte 0", |random| {
+        blocked(random, |record, slot| {
+            record.incoming_slots[slot].byte = 0;
+            block::put(record, slot, 4_097, 33, 1 << 32);
+        })
+    }),
+    ("a block of 64 pieces and 3 bytes", |random| {
+        blocked(random, |record, slot| block::put(record, slot, 3, 64, u64::MAX >> 1))
+    }),
+    ("an unfinished block in dispatched", |random| {
+        blocked(random, |record, _| {
+            let slot = usize::from(record.dispatched.cells[0]);
+            block::put(record, slot, 700, 5, 0b10);
+        })
+    }),
     ("a free outgoing slot whose byte names another command", |random| {
         edited(random, |record| {
             let used = record.used_outgoing();
@@ -108,6 +142,16 @@ pub const ODDS: &[Odd] = &[
         })
     }),
 ];
+
+/// A rich record whose last channel's last packet this makes a block.
+fn blocked(random: &mut Random, make: fn(&mut Record, usize)) -> Record {
+    let mut record = packets(random);
+    let channel = record.open_channels().last().expect("a rich record has channels");
+    let slot = channel.list.slots().last().expect("and two in each list");
+    make(&mut record, slot);
+    settle(&mut record);
+    record
+}
 
 /// A rich record after this edit, with the waiting total that it then has.
 fn edited(random: &mut Random, edit: fn(&mut Record)) -> Record {

@@ -7,6 +7,7 @@ use enet::{
     record::{place, Incoming, List, Outgoing, Record, CHANNELS, INCOMING, OUTGOING},
 };
 
+use super::block;
 use crate::{damage::held, random::Random};
 
 /// How long the lists are; as many channels as lengths are given are open.
@@ -60,6 +61,19 @@ pub fn rich(random: &mut Random) -> Record {
     shaped(random, &Shape { sent, send_reliable, outgoing, dispatched: 2, channels })
 }
 
+/// A record as made new but for packets, two in each list and in each of two channels or more, none of them a block.
+pub fn packets(random: &mut Random) -> Record {
+    let channels = vec![2; 2 + random.below(2) as usize];
+    let drawn = shaped(random, &Shape { dispatched: 2, channels, ..Shape::default() });
+    let mut record = Record::fresh(1_392);
+    record.numbers[place::STATE] = 5;
+    record.numbers[place::CHANNEL_COUNT] = drawn.numbers[place::CHANNEL_COUNT];
+    (record.dispatched, record.channels) = (drawn.dispatched, drawn.channels);
+    record.incoming_slots = drawn.incoming_slots;
+    block::strip(&mut record);
+    record
+}
+
 /// A record whose lists have these lengths, over slots in any order, and 0 where it does not count.
 pub fn shaped(random: &mut Random, shape: &Shape) -> Record {
     let mut record = Record::zero();
@@ -98,6 +112,7 @@ pub fn shaped(random: &mut Random, shape: &Shape) -> Record {
             record.incoming_slots[slot] = incoming(random, number);
         }
     }
+    block::choose(&mut record);
     settle(&mut record);
     record
 }

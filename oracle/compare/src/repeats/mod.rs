@@ -46,7 +46,7 @@ pub fn write_stored(output: &mut Output, seed: u64, calls: u64) -> io::Result<()
     rules::write_text(output, RULES)?;
     let mut lines = drawn(&mut Random::new(seed), calls).lines;
     // The bytes that no arrival has written yet are not the same both times, those at the end are.
-    let end = lines.pop();
+    let end = lines.split_off(lines.len() - 2);
     lines.retain(|line| line.frame.op != 16);
     lines.extend(end);
     for with in [true, false] {

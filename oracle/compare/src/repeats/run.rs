@@ -9,7 +9,8 @@ use crate::{
     frame::Frame,
     model::{Model, Settings, CONNECTED, DISCONNECT_LATER, STORE},
     ops::{
-        self, reliable,
+        self, fragment, reliable,
+        store::whole_second,
         unsequenced::{self, WINDOW},
     },
     random::Random,
@@ -60,6 +61,7 @@ impl Run {
         }
         run.put(frame(15, vec![]), None);
         run.put(whole_store(), None);
+        run.put(whole_second(), None);
         run
     }
 
@@ -100,11 +102,11 @@ impl Run {
         if let Some(others) = &others {
             self.put(set(others), Some(windows));
         }
-        let (record, store) = (self.model.record.row(), self.model.store.clone());
+        let state = |model: &Model| (model.record.row(), model.store.clone(), model.second.clone());
+        let before = state(&self.model);
         let asked = arrival(random, &self.model, group);
         let line = self.put(asked, Some(windows));
-        let same = (record, store) == (self.model.record.row(), self.model.store.clone());
-        assert!(same, "a repeat at {windows} windows left a trace: {line}");
+        assert!(before == state(&self.model), "a repeat at {windows} windows left a trace: {line}");
         if others.is_some() {
             self.put(set(&Settings::START), Some(windows));
         }
@@ -137,7 +139,8 @@ impl Run {
             5..=10 => sending::drawn(&self.model, random),
             11..=16 => acknowledging::drawn(&self.model, random),
             17..=21 => taken::drawn(random, record.numbers[place::CHANNEL_COUNT]),
-            22..=31 => reliable::drawn(random, record),
+            22..=27 => reliable::drawn(random, record),
+            28..=31 => fragment::drawn(random, record),
             32..=35 => unsequenced::drawn(random, record),
             _ => {
                 let group = self.group(random);

@@ -9,8 +9,8 @@ use crate::{
     records::{settings, PACKET},
 };
 
-/// A line `# NAME` begins a rule. A frame is its op and its numbers; after `=` stands what the reply begins with,
-/// and before `x` how often the frame comes. `new MTU CHANNELS` is a connected record under the first settings.
+/// A line `# NAME` begins a rule. A frame is its op and its numbers, after `:` its bytes; after `=` stands what the reply
+/// begins with, and before `x` how often the frame comes. `new MTU CHANNELS` is a connected record under the first settings.
 const TEXT: &str = include_str!("rules.txt");
 
 struct Rule {
@@ -93,28 +93,30 @@ fn begun(numbers: &str) -> Vec<Step> {
     ]
 }
 
-/// The op and the numbers after it.
+/// The op and the numbers after it, and the bytes.
 fn frame(words: &str) -> Frame {
+    let (words, bytes) = words.split_once(" : ").unwrap_or((words, ""));
     let mut numbers = words.split(' ').map(|word| word.parse::<u32>().expect("a number"));
     let op = numbers.next().and_then(|op| u8::try_from(op).ok()).expect("an op");
-    Frame { op, numbers: numbers.collect(), ..Frame::default() }
+    let bytes = bytes.split_terminator(' ').map(|word| word.parse::<u8>().expect("a byte"));
+    Frame { op, numbers: numbers.collect(), bytes: bytes.collect() }
 }
 
 #[cfg(test)]
 mod tests {
     use super::*;
-    use crate::{acknowledging, repeats};
+    use crate::{acknowledging, fragments, repeats};
 
     #[test]
     fn every_rule_replies_as_it_says() {
-        for text in [TEXT, acknowledging::RULES, repeats::RULES] {
+        for text in [TEXT, acknowledging::RULES, fragments::RULES, repeats::RULES] {
             write_text(&mut Output::new(io::sink(), io::sink()), text).unwrap();
         }
     }
 
     #[test]
     fn every_rule_has_a_name_of_its_own() {
-        let texts = [TEXT, acknowledging::RULES, repeats::RULES];
+        let texts = [TEXT, acknowledging::RULES, fragments::RULES, repeats::RULES];
         let rules = texts.into_iter().flat_map(rules);
         let mut names: Vec<&str> = rules.map(|rule| rule.name).collect();
         let all = names.len();

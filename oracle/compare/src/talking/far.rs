@@ -1,9 +1,9 @@
-//! The far side as a plain model: it sends packets with running numbers, the reliable ones again until they are
-//! answered, and acknowledges what asks for it.
+//! The far side as a plain model: it sends packets with running numbers, now and then a block in pieces, the reliable ones
+//! again until they are answered, and acknowledges what asks for it.
 
 use enet::record::{place, Record, CHANNELS};
 
-use crate::{frame::Frame, ops::reliable::LAST, random::Random};
+use crate::{fragments::cut::Block, frame::Frame, ops::reliable::LAST, random::Random};
 
 /// How many of its reliable packets may wait for an answer, and when one is sent again.
 const WINDOW: usize = 10;
@@ -52,15 +52,24 @@ impl Far {
         }
     }
 
-    /// A packet to one of so many channels, mostly no longer than what the other side takes.
-    pub fn sends(&mut self, random: &mut Random, channels: u32, longest: u32, now: u64) -> Frame {
+    /// A packet to one of so many channels, mostly no longer than what the other side takes, or the pieces of a block.
+    pub fn sends(
+        &mut self,
+        random: &mut Random,
+        channels: u32,
+        longest: u32,
+        now: u64,
+    ) -> Vec<Frame> {
         let channel = random.below(channels.clamp(1, CHANNELS as u32).into()) as u32;
-        if self.waiting.len() < WINDOW && !random.once_in(3) {
-            let frame = self.reliable(random, channel, longest);
-            self.waiting.push((now, frame.clone()));
-            return frame;
+        if self.waiting.len() >= WINDOW || random.once_in(3) {
+            return vec![self.unsequenced(random, channel, longest)];
         }
-        self.unsequenced(random, channel, longest)
+        let frames = match random.once_in(8) {
+            true => self.block(random, channel, longest),
+            false => vec![self.reliable(random, channel, longest)],
+        };
+        self.waiting.extend(frames.iter().map(|frame| (now, frame.clone())));
+        frames
     }
 
     /// The reliable packets whose answer is overdue.
@@ -80,6 +89,16 @@ impl Far {
         let numbers = vec![128 | 6, channel, (*last).into()];
         let length = length(random, longest);
         with_payload(random, length, Frame { op: 11, numbers, ..Frame::default() })
+    }
+
+    /// A block of a few pieces, each of which takes a number, mostly far shorter than its own MTU would allow.
+    fn block(&mut self, random: &mut Random, channel: u32, longest: u32) -> Vec<Frame> {
+        let cut = random.pick(&[548, 20, 60, 60]).min(longest / 4);
+        let total = cut * (1 + random.below(3) as u32) + random.below(cut.into()) as u32;
+        let last = &mut self.lasts[channel as usize];
+        let block = Block { channel, start: last.wrapping_add(1), total, cut };
+        *last = last.wrapping_add(block.count() as u16);
+        block.pieces(random)
     }
 
     /// Its group is the next one; now and then all of some windows before it went to others or were lost.
@@ -122,8 +141,8 @@ mod tests {
     fn a_reliable_packet_is_sent_again_until_it_is_answered() {
         let (mut random, mut far) = (Random::new(1), Far::facing(&Record::fresh(1_392)));
         let mut sent = std::iter::repeat_with(|| far.sends(&mut random, 1, 100, 0));
-        let sent = sent.find(|frame| frame.op == 11).unwrap();
-        assert_eq!((sent.number(1), sent.number(2)), (0, 1));
+        let sent = sent.find(|frames| frames[0].op != 10).unwrap().remove(0);
+        assert_eq!((sent.op, sent.number(1), sent.number(2)), (11, 0, 1));
         assert!(far.again(AGAIN - 1).is_empty());
         assert_eq!(far.again(AGAIN)[0].numbers, sent.numbers);
         assert!(far.again(AGAIN).is_empty());

@@ -17,7 +17,7 @@ pub use start::Start;
 const SHORTEST: u64 = 200;
 const LONGEST: u64 = 2_400;
 
-/// A script of so many calls of ops 1 to 14, in sequences of the mood and the start that the seed says.
+/// A script of so many calls of ops 1 to 14 and 18, in sequences of the mood and the start that the seed says.
 pub fn write(output: &mut Output, seed: u64, count: u64) -> io::Result<()> {
     let open = |output: &mut Output, random: &mut Random| {
         let calls = SHORTEST + random.below(LONGEST - SHORTEST);

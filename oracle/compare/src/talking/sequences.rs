@@ -152,8 +152,9 @@ impl Talk {
         if random.once_in(4) {
             let channels = model.record.numbers[place::CHANNEL_COUNT];
             let longest = model.settings.packet.min(CELL as u32);
-            let packet = self.far.sends(random, channels, longest, self.now);
-            self.send_back(random, packet);
+            for packet in self.far.sends(random, channels, longest, self.now) {
+                self.send_back(random, packet);
+            }
         }
     }
 
@@ -195,7 +196,7 @@ impl Talk {
                     self.send(random, command);
                 }
             }
-            11 if line.starts_with("11 0 ") => {
+            11 | 18 if line.starts_with(&format!("{} 0 ", asked.op)) => {
                 let (channel, number) = (asked.number(1), asked.number(2));
                 self.send(random, Came::Answer { channel, number });
             }
@@ -249,6 +250,11 @@ mod tests {
             ("reliable, no room", is("11 8 ")),
             ("too early or too late", is("10 6 ") || is("11 6 ")),
             ("too long", is("10 7 ") || is("11 7 ")),
+            ("a piece, stored", is("18 0 1 ") && joined == 0),
+            ("a piece, completes a block", is("18 0 1 ") && joined > 0),
+            ("a piece, passed over", is("18 0 0 ")),
+            ("a piece, no room", is("18 8 ")),
+            ("a block received", is("13 0 2 ")),
             ("received", is("13 0 1 ")),
             ("nothing there", is("13 0 0 ")),
             ("reset", is("1 0 ")),
@@ -262,7 +268,7 @@ mod tests {
                 let open = |output: &mut Output, random: &mut Random| {
                     Talk::open(output, random, mood, from)
                 };
-                let done = done((40, 1_000), open, Talk::ask, seen);
+                let done = done((60, 1_000), open, Talk::ask, seen);
                 assert!(done.values().all(|count| *count >= 5), "{done:?}");
             }
         }

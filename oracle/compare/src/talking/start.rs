@@ -6,7 +6,10 @@ use crate::{
     model::{Settings, CONNECTED},
     ops::reliable::LAST,
     random::Random,
-    records::sound::{self, Shape},
+    records::{
+        block,
+        sound::{self, Shape},
+    },
 };
 
 #[derive(Clone, Copy, Debug, PartialEq, Eq)]
@@ -80,7 +83,7 @@ fn out_lately(random: &mut Random, record: &mut Record, clock: u32) {
     }
 }
 
-/// Every held packet after a gap, each once and in order, the last numbers often close to where they turn.
+/// Every held packet after a gap, each once and in order, the last numbers often close to where they turn; a block whole.
 fn in_order(random: &mut Random, record: &mut Record) {
     for channel in 0..record.open_channels().len() {
         let any = random.up_to(65_535) as u16;
@@ -90,7 +93,12 @@ fn in_order(random: &mut Random, record: &mut Record) {
         for slot in record.channels[channel].list.slots().collect::<Vec<_>>() {
             next = next.wrapping_add(1 + random.below(2) as u16);
             let held = &mut record.incoming_slots[slot];
-            (held.number, held.fragments, held.remaining) = (next, 0, 0);
+            (held.number, held.remaining) = (next, 0);
+            let (length, pieces) = (held.length, held.fragments);
+            if pieces > 0 {
+                next = next.wrapping_add(pieces as u16 - 1);
+                block::put_whole(record, slot, length, pieces);
+            }
         }
     }
 }

@@ -72,26 +72,38 @@ impl Bench {
 
     /// The loaded peer's arrival.
     unsafe fn hand_over(&mut self, nodes: &Nodes, room: Room, arrival: &Arrival) -> Arrived {
-        let (host, peer) = (self.host, self.peer);
         let command = command(arrival);
-        let mut received = [&command, arrival.rest].concat();
+        let returned = self.handled(handler(arrival), &command, arrival.rest, arrival.length, room);
+        let new = self.new_node(nodes);
+        let bytes = new.map_or_else(Vec::new, |node| bytes(node.cast()));
+        Arrived { verdict: verdict(returned, new.is_some()), bytes }
+    }
+
+    /// What the handler returns for a command with a payload of this length in the rest of its datagram.
+    pub(crate) unsafe fn handled(
+        &mut self,
+        handler: Handler,
+        command: &[u8],
+        rest: &[u8],
+        payload: u16,
+        room: Room,
+    ) -> i32 {
+        let (host, peer) = (self.host, self.peer);
+        let mut received = [command, rest].concat();
         let length = received.len();
         // The source copies a whole union from the command's place, and counts on to the payload's end.
-        received.resize(size_of::<ENetProtocol>().max(length + usize::from(arrival.length)), 0);
+        received.resize(size_of::<ENetProtocol>().max(length + usize::from(payload)), 0);
         (*host).received_data = received.as_mut_ptr();
         (*host).received_data_length = length;
         (*host).maximum_packet_size = room.packet as usize;
         (*host).maximum_waiting_data = room.waiting as usize;
 
         let mut payload = (*host).received_data.add(command.len());
-        let returned = handler(arrival)(host, peer, received.as_ptr().cast(), &mut payload);
-        let new = self.new_node(nodes);
-        let bytes = new.map_or_else(Vec::new, |node| bytes(node.cast()));
-        Arrived { verdict: verdict(returned, new.is_some()), bytes }
+        handler(host, peer, received.as_ptr().cast(), &mut payload)
     }
 
     /// The node that was not loaded, if there is one.
-    unsafe fn new_node(&self, nodes: &Nodes) -> Option<ENetListIterator> {
+    pub(crate) unsafe fn new_node(&self, nodes: &Nodes) -> Option<ENetListIterator> {
         let peer = self.peer;
         let mut all = walk(addr_of_mut!((*peer).dispatched_commands));
         for place in 0..(*peer).channel_count {

@@ -8,7 +8,7 @@ use super::{
     numbers::numbers,
 };
 use crate::{
-    record::{Incoming, List, Outgoing, Record},
+    record::{Incoming, List, Outgoing, Record, BITS, MARKS},
     Bench, ENetIncomingCommand, ENetList, ENetListIterator, ENetOutgoingCommand,
     ENET_PROTOCOL_COMMAND_MASK,
 };
@@ -50,8 +50,12 @@ impl Bench {
         for (list, into) in incoming_lists(peer).into_iter().zip(into) {
             name(list, into, &nodes.incoming);
         }
+        record.marks = [0; MARKS];
         for (slot, node) in used(&nodes.incoming) {
             record.incoming_slots[slot] = incoming(node.cast());
+            if record.incoming_slots[slot].is_block() {
+                record.marks = marks(node.cast());
+            }
         }
         record
     }
@@ -102,4 +106,11 @@ unsafe fn incoming(node: *mut ENetIncomingCommand) -> Incoming {
         remaining: (*node).fragments_remaining,
         length: (*(*node).packet).data_length as u32,
     }
+}
+
+/// The bits of a block's fragments that came; those past the record's words do not show.
+unsafe fn marks(node: *mut ENetIncomingCommand) -> [u32; MARKS] {
+    let count = (*node).fragment_count.div_ceil(BITS) as usize;
+    let word = |place: usize| unsafe { (*node).fragments.add(place).read() };
+    std::array::from_fn(|place| if place < count { word(place) } else { 0 })
 }

@@ -13,7 +13,7 @@ use super::{
 };
 use crate::{
     enet_list_clear, enet_list_insert, enet_malloc, enet_packet_create, enet_peer_reset, opened,
-    record::{place, Channel, Incoming, List, Outgoing, Record},
+    record::{place, Channel, Incoming, List, Outgoing, Record, BITS},
     Bench, ENetChannel, ENetIncomingCommand, ENetList, ENetListIterator, ENetOutgoingCommand,
     ENetPacket, ENetProtocol, ENetProtocolCommandHeader, ENET_PEER_FLAG_NEEDS_DISPATCH,
     ENET_PEER_STATE_DISCONNECTED,
@@ -49,6 +49,9 @@ impl Bench {
         for (place, channel) in record.open_channels().iter().enumerate() {
             let list = addr_of_mut!((*(*peer).channels.add(place)).incoming_reliable_commands);
             fill(list, &channel.list, &record.incoming_slots, incoming, &mut nodes.incoming);
+        }
+        for slot in record.blocks() {
+            set_marks(nodes.incoming[slot].cast(), &record.marks);
         }
         nodes
     }
@@ -103,11 +106,29 @@ pub(crate) unsafe fn incoming(slot: &Incoming) -> *mut u8 {
         command: header(slot.byte, slot.channel, slot.number),
         fragment_count: slot.fragments,
         fragments_remaining: slot.remaining,
-        // The record has no bits of the fragments that came.
-        fragments: null_mut(),
+        fragments: bitmap(slot.fragments),
         packet: packet(slot.length as usize),
     });
     node
+}
+
+/// The bits of the fragments that came, none of them set, as the source allocates them; a packet has none.
+unsafe fn bitmap(fragments: u32) -> *mut u32 {
+    if fragments == 0 {
+        return null_mut();
+    }
+    let count = fragments.div_ceil(BITS) as usize;
+    let bits: *mut u32 = enet_malloc(Layout::array::<u32>(count).expect("at most 2^27")).cast();
+    bits.write_bytes(0, count);
+    bits
+}
+
+/// Makes these the bits of a block's node, as many words as it has.
+unsafe fn set_marks(node: *mut ENetIncomingCommand, marks: &[u32]) {
+    let count = (*node).fragment_count.div_ceil(BITS) as usize;
+    for (place, word) in marks.iter().enumerate().take(count) {
+        (*node).fragments.add(place).write(*word);
+    }
 }
 
 unsafe fn header(byte: u8, channel: u8, number: u16) -> ENetProtocol {
@@ -120,7 +141,7 @@ unsafe fn header(byte: u8, channel: u8, number: u16) -> ENetProtocol {
     command
 }
 
-/// A packet that one command holds; its bytes are never read.
+/// A packet that one command holds; its bytes are read only where a door lays them in.
 unsafe fn packet(length: usize) -> *mut ENetPacket {
     let packet = enet_packet_create(null(), length, 0);
     (*packet).reference_count = 1;

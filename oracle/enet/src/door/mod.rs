@@ -19,6 +19,7 @@ mod notice;
 mod numbers;
 pub(crate) mod overdue;
 pub(crate) mod pack;
+pub(crate) mod piece;
 mod ping;
 pub(crate) mod receive;
 pub(crate) mod receiver;

@@ -49,6 +49,7 @@ mod tests {
                 fields: limits(kind).iter().map(|limit| limit & (0x8123_4567 + base)).collect(),
             };
         }
+        record.marks = [0x8123_4567, 0x7FFF_FFFF];
         // Not in the order of the slots, so that a dump by the order of the lists would differ.
         for slot in (0..OUTGOING).rev() {
             match slot % 3 {
@@ -64,7 +65,8 @@ mod tests {
                 byte,
                 channel,
                 number: number as u16 + 300,
-                fragments: number + 400,
+                // One block.
+                fragments: if slot == 5 { 64 } else { 0 },
                 remaining: number + 500,
                 length: 4_096 - 300 * number,
             };

@@ -19,6 +19,10 @@ pub const CHANNELS: usize = 8;
 /// The words of the unsequenced window.
 pub const WORDS: usize = 32;
 
+/// C-11: the words of marks, a bit for each piece of the block, and the bits of one.
+pub const MARKS: usize = 2;
+pub const BITS: u32 = u32::BITS;
+
 #[derive(Clone, Debug, PartialEq, Eq)]
 pub struct Channel {
     /// Outgoing reliable, outgoing unreliable, incoming reliable, incoming unreliable.
@@ -45,6 +49,8 @@ pub struct Record {
     pub channels: [Channel; CHANNELS],
     pub outgoing_slots: [Outgoing; OUTGOING],
     pub incoming_slots: [Incoming; INCOMING],
+    /// Which pieces of the block are stored.
+    pub marks: [u32; MARKS],
 }
 
 impl Record {
@@ -60,6 +66,7 @@ impl Record {
             channels: std::array::from_fn(|_| Channel::default()),
             outgoing_slots: std::array::from_fn(|_| Outgoing::default()),
             incoming_slots: std::array::from_fn(|_| Incoming::default()),
+            marks: [0; MARKS],
         }
     }
 
@@ -98,5 +105,21 @@ impl Record {
     pub fn incoming_lists(&self) -> Vec<&List> {
         let channels = self.open_channels().iter().map(|channel| &channel.list);
         [&self.dispatched].into_iter().chain(channels).collect()
+    }
+
+    /// The slots of blocks; a sound record has at most one.
+    pub fn blocks(&self) -> Vec<usize> {
+        let used = self.used_incoming().into_iter();
+        used.filter(|slot| self.incoming_slots[*slot].is_block()).collect()
+    }
+
+    /// Whether this piece is marked; there must be such a bit.
+    pub fn marked(&self, piece: u32) -> bool {
+        self.marks[(piece / BITS) as usize] >> (piece % BITS) & 1 == 1
+    }
+
+    /// Marks a piece.
+    pub fn mark(&mut self, piece: u32) {
+        self.marks[(piece / BITS) as usize] |= 1 << (piece % BITS);
     }
 }

@@ -28,6 +28,7 @@ impl Record {
         for slot in self.used_incoming() {
             row.extend(self.incoming_slots[slot].numbers());
         }
+        row.extend(self.marks);
         row
     }
 

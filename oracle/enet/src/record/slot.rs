@@ -39,7 +39,7 @@ impl Outgoing {
     }
 }
 
-/// A packet that came in, without its bytes.
+/// A packet that came in, or a block, without its bytes.
 #[derive(Clone, Debug, Default, PartialEq, Eq)]
 pub struct Incoming {
     pub byte: u8,
@@ -51,6 +51,11 @@ pub struct Incoming {
 }
 
 impl Incoming {
+    /// Whether it came in pieces, or is to.
+    pub fn is_block(&self) -> bool {
+        self.fragments != 0
+    }
+
     pub fn numbers(&self) -> [u32; 6] {
         [
             self.byte.into(),

@@ -28,6 +28,15 @@ pub(crate) unsafe fn handle_send_reliable<S: Socket>(
     enet_protocol_handle_send_reliable(host, peer, command, current_data)
 }
 
+pub(crate) unsafe fn handle_send_fragment<S: Socket>(
+    host: *mut ENetHost<S>,
+    peer: *mut ENetPeer<S>,
+    command: *const ENetProtocol,
+    current_data: *mut *mut u8,
+) -> i32 {
+    enet_protocol_handle_send_fragment(host, peer, command, current_data)
+}
+
 pub(crate) unsafe fn handle_acknowledge<S: Socket>(
     host: *mut ENetHost<S>,
     event: *mut ENetEvent<S>,
