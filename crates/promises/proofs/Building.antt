@@ -4,7 +4,7 @@
 use Prim.Native.Nat.{ℕ, zero, suc, _+_, _≤_, _<_}
 use mathlib.Core.Path.{_≡_, refl, ap, sym, subst, _∙_}
 use mathlib.Core.Bool.{Bool, true, false, not}
-use mathlib.Core.List.{List, [], _∷_, _++_}
+use mathlib.Core.List.{List, [], _∷_, _++_, map}
 use native.Mathlib.Omega.{arith}
 use lib.Dec.{eqb}
 use lib.ListN.{length, take, getD, set}
@@ -53,8 +53,11 @@ use Rattle.laws.proofs.Pieced.{the-block, other-packet}
 use Rattle.laws.proofs.Unsequenced.{unsequenced-has, stored-free, joins, more-by as delivered-by}
 use Rattle.laws.proofs.Reliable.{reliable-has, held-free, between, between-whole, between-sound, left-dispatched}
 use Rattle.link_in.specs.Steps.{beside}
+use Rattle.link.specs.Runs.{Packet}
+use Rattle.promises.specs.Counts.{count, those}
 use Rattle.promises.specs.Reports.{dispatchedIn}
-use Rattle.promises.proofs.Presence.{named, Still}
+use Rattle.promises.specs.Packets.{packetAt, ready, isComplete, present}
+use Rattle.promises.proofs.Presence.{named, passing-adds, Still}
 use Rattle.promises.proofs.Passing.{dispatched-same}
 
 abbrev pub slotOf : State → ℕ → Incoming
@@ -68,6 +71,25 @@ pub record Stock (B : OfBlock) (x : State) : Type 0 where
   pub packet : (s : ℕ) → 0 < times (named (x .peer)) s → isBlock (slotOf x s) ≡ false → slotOf x s .remaining ≡ 0
   pub block : (s : ℕ) → 0 < times (named (x .peer)) s → isBlock (slotOf x s) ≡ true → B (x .peer .marks) (x .second) (slotOf x s)
   pub out : (s : ℕ) → 0 < times (dispatchedIn x) s → slotOf x s .remaining ≡ 0
+
+-- all that is in dispatched is there
+those-all : (f : ℕ → Bool) (xs : List ℕ) → ((s : ℕ) → 0 < times xs s → f s ≡ true) → those f xs ≡ xs
+unfolding those
+those-all f [] h = refl
+those-all f (x ∷ xs) h =
+    ap (λ (b : Bool). pick b (x ∷ those f xs) (those f xs)) (h x first) ∙ ap (λ (ys : List ℕ). x ∷ ys) (those-all f xs (λ s p. h s (omega (arith, p))))
+  where
+    first : 0 < one x x + times xs x
+    first = rw (eq-eqb x x refl) (omega arith)
+
+pub ready-there : {B : OfBlock} (x : State) → Stock B x → (f : Packet → Bool) → count f (ready x) ≤ count f (present x)
+ready-there x k f =
+    omega (
+      arith,
+      passing-adds f x (dispatchedIn x) (held (below (x .peer .channels) (x .peer .standing .channels))),
+      ap (λ (ss : List ℕ). count f (map (packetAt x) ss))
+      (those-all (isComplete x) (dispatchedIn x) (λ s h. eq-eqb (slotOf x s .remaining) 0 (k .out s h))),
+    )
 
 -- ---- slot s after a call: as it was, a block with its marks; or a packet that came whole
 pub data From (x y : State) (s : ℕ) : Type 0 where

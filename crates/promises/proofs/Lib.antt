@@ -17,6 +17,7 @@ pub mod Passing
 pub mod Building
 pub mod Piecing
 pub mod Fragments
+pub mod Stocks
 pub mod Comings
 pub mod Examples
 pub mod Fitting

@@ -5,16 +5,14 @@ use Prim.Native.Nat.{ℕ, _+_, _*_, _<_}
 use mathlib.Core.Path.{_≡_, refl, ap, _∙_}
 use mathlib.Core.Bool.{Bool, true, false}
 use mathlib.Core.List.{List, [], _∷_, _++_}
-use lib.Dec.{eqb}
 use lib.ListN.{length, take, drop, getD}
 use lib.Seq.{take-set-lt}
 use native.Mathlib.Omega.{arith}
-use borrow.Author.Tests.{eq-eqb, ne-eqb}
-use Rattle.numbers.specs.Pick.{pick, both}
-use Rattle.numbers.specs.Answers.{numberOf, refused, numbersOf}
+use borrow.Author.Tests.{eq-eqb}
+use Rattle.numbers.specs.Pick.{pick}
+use Rattle.numbers.specs.Answers.{refused}
 use Rattle.numbers.specs.declared.counters.Group.{Group}
 use Rattle.numbers.specs.declared.refusals.Refusal.{Refusal}
-use Rattle.numbers.proofs.Settled.{refused-not-done}
 use Rattle.record.specs.Lists.{inItems}
 use Rattle.cells.specs.Runs.{first}
 use Rattle.cells.specs.declared.Free.{Free}
@@ -57,7 +55,7 @@ use Rattle.receive.specs.declared.Reply.the-variants as vr
 use Rattle.link_in.specs.Steps.{beside}
 use Rattle.link.specs.Runs.{saysOne, saysTwo, Packet, handed}
 use Rattle.promises.specs.Packets.{packetAt, isComplete, payload}
-use Rattle.promises.proofs.Answers.{refused-one}
+use Rattle.promises.proofs.Answers.{refused-one, refused-two}
 use Rattle.promises.proofs.Presence.{named, Sums, Passes, still, still-passes, joins-passes, takes-passes, stored-passes}
 
 -- ---- dispatch: any sum over what is named is as it was
@@ -86,9 +84,6 @@ dispatch-passes s channel x whole =
     joins-passes x (dispatchedOn channel p) _ refl (dispatch-order channel p whole good h .joined) (dispatched-same channel p whole good h)))
 
 -- ---- receive: the head comes out, a packet or a block, or nothing
-pub refused-two : (why : Refusal) → saysTwo (refused why) ≡ false
-refused-two why = ap (λ (b : Bool). both b (eqb (getD (numbersOf (refused why)) 0 0) 2)) (ne-eqb (numberOf why) 0 (refused-not-done why))
-
 refused-none : (why : Refusal) (x : State) → handed (refused why) x ≡ []
 refused-none why x = neither (saysOne (refused why)) (saysTwo (refused why)) _ _ (refused-one why) (refused-two why)
   where
