@@ -61,7 +61,7 @@ use Rattle.promises.proofs.Piecing.{Lays, none-changed, one-changed, la
 use Rattle.promises.proofs.Sorts.{put-all, put-none, other, gate-names, shut-one, own-at, Joined, none-joined}
 
 -- ---- what is known of the block that is being put together
-abbrev zeros : List ℕ
+abbrev pub zeros : List ℕ
 zeros = replicate secondLength 0
 
 pub record Blocked (b : Building) (m : Marks) (second : List ℕ) (i : Incoming) : Type 0 where

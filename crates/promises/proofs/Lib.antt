@@ -19,6 +19,7 @@ pub mod Piecing
 pub mod Fragments
 pub mod Stocks
 pub mod Comings
+pub mod Together
 pub mod Examples
 pub mod Fitting
 pub mod Marking
