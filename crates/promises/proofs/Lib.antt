@@ -15,7 +15,12 @@ pub mod Reporting
 pub mod Presence
 pub mod Quiet
 pub mod Passing
+pub mod Building
+pub mod Piecing
+pub mod Fragments
+pub mod Stocks
 pub mod Comings
+pub mod Together
 pub mod Examples
 pub mod Fitting
 pub mod Marking

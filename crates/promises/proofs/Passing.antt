@@ -1,21 +1,29 @@
 -- The calls that let packets pass: dispatch, receive and the two arrivals.
 -- The argument: dispatch names each slot as often as before; receive takes dispatched's head; an arrival that is stored adds one slot, free before, to
 -- what is named, at the end of dispatched or in its channel's list.
-use Prim.Native.Nat.{ℕ, _+_, _<_}
+use Prim.Native.Nat.{ℕ, _+_, _*_, _<_}
 use mathlib.Core.Path.{_≡_, refl, ap, _∙_}
-use mathlib.Core.Bool.{true}
+use mathlib.Core.Bool.{Bool, true, false}
 use mathlib.Core.List.{List, [], _∷_, _++_}
-use lib.ListN.{length}
+use lib.ListN.{length, take, drop, getD}
 use lib.Seq.{take-set-lt}
+use native.Mathlib.Omega.{arith}
+use borrow.Author.Tests.{eq-eqb}
 use Rattle.numbers.specs.Pick.{pick}
+use Rattle.numbers.specs.Answers.{refused}
 use Rattle.numbers.specs.declared.counters.Group.{Group}
 use Rattle.numbers.specs.declared.refusals.Refusal.{Refusal}
 use Rattle.record.specs.Lists.{inItems}
 use Rattle.cells.specs.Runs.{first}
 use Rattle.cells.specs.declared.Free.{Free}
 use Rattle.cells.specs.declared.Free.the-variants.{Lowest}
+use Rattle.record.proofs.Keeps.{times}
+use Rattle.record.specs.Sizes.{cell}
+use Rattle.record.specs.Fresh.{noIncoming}
+use Rattle.record.specs.Blocks.{isBlock}
 use Rattle.record.specs.Damage.{below, held, usedIn}
 use Rattle.record.specs.declared.groups.Channel.{Channel}
+use Rattle.record.specs.declared.groups.Incoming.{Incoming}
 use Rattle.peer.specs.Damage.{sound}
 use Rattle.peer.specs.Gate.{fits, gateOf}
 use Rattle.peer.specs.Outcome.{State, Outcome, finished, unchanged}
@@ -42,11 +50,12 @@ use Rattle.laws.specs.Stores.{Arrives, leaves, stores, Adds}
 use Rattle.laws.proofs.Stores.{unsequenced-stores, unsequenced-adds, reliable-stores, reliable-adds}
 use Rattle.laws.proofs.Unsequenced.{unsequenced-has, stored-free, more-by as delivered-by}
 use Rattle.laws.proofs.Reliable.{reliable-has, held-free, between, between-whole, between-sound, left-dispatched, more-by as held-by}
-use Rattle.receive.specs.Calls.{withoutFirst, taken, receivesFrom, receivesSound, receives}
+use Rattle.receive.specs.Calls.{answerOf, replyOf, withoutFirst, taken, receivesFrom, receivesSound, receives}
+use Rattle.receive.specs.declared.Reply.the-variants as vr
 use Rattle.link_in.specs.Steps.{beside}
-use Rattle.link.specs.Runs.{saysOne, handed}
-use Rattle.promises.specs.Packets.{payload}
-use Rattle.promises.proofs.Answers.{refused-one}
+use Rattle.link.specs.Runs.{saysOne, saysTwo, Packet, handed}
+use Rattle.promises.specs.Packets.{packetAt, isComplete, payload}
+use Rattle.promises.proofs.Answers.{refused-one, refused-two}
 use Rattle.promises.proofs.Presence.{named, Sums, Passes, still, still-passes, joins-passes, takes-passes, stored-passes}
 
 -- ---- dispatch: any sum over what is named is as it was
@@ -54,7 +63,7 @@ module _ (channel : ℕ) (p : Peer) (whole : Whole p) (good : sound p ≡ true) 
   abbrev cs : List Channel
   cs = below (p .channels) (p .standing .channels)
 
-  dispatched-same : (g : List ℕ → ℕ) → Sums g → g (named (dispatchedOn channel p)) ≡ g (named p)
+  pub dispatched-same : (g : List ℕ → ℕ) → Sums g → g (named (dispatchedOn channel p)) ≡ g (named p)
   dispatched-same g adds =
       dispatched-has channel p (λ (q : Peer). g (named q) ≡ g (named p)) (λ none. refl)
       (ap (λ (ds : List Channel). g (usedIn (gone channel p .lists) ds)) (take-set-lt (p .standing .channels) (p .channels) channel (gone channel p .channel) h)
@@ -74,13 +83,37 @@ dispatch-passes s channel x whole =
     let h = below-count channel (p .standing) own in
     joins-passes x (dispatchedOn channel p) _ refl (dispatch-order channel p whole good h .joined) (dispatched-same channel p whole good h)))
 
--- ---- receive: the head comes out, or nothing
-pub receive-passes : (s : Settings) (x : State)
+-- ---- receive: the head comes out, a packet or a block, or nothing
+refused-none : (why : Refusal) (x : State) → handed (refused why) x ≡ []
+refused-none why x = neither (saysOne (refused why)) (saysTwo (refused why)) _ _ (refused-one why) (refused-two why)
+  where
+    neither : (b c : Bool) (ks ls : List Packet) → b ≡ false → c ≡ false → pick b ks (pick c ls []) ≡ []
+    neither b c ks ls d e = rw (d, e)
+
+handed-head : (x : State) (n : ℕ) → handed (answerOf (replyOf (getD (x .peer .incoming) n noIncoming) n)) x ≡ packetAt x n ∷ []
+handed-head x n = go (isBlock i)
+  where
+    i : Incoming
+    i = getD (x .peer .incoming) n noIncoming
+
+    go : (b : Bool) → handed (answerOf (pick b (vr.Block (i .channel) n (i .length)) (vr.Packet (i .channel) n (i .length)))) x
+        ≡ record {
+          channel = i .channel;
+          byte = i .byte;
+          number = i .number .0;
+          fragments = i .fragments;
+          bytes = pick b (take (i .length) (x .second)) (take (i .length) (drop (n * cell) (x .store)));
+        } ∷ []
+    go true = refl
+    go false = refl
+
+-- what stands in dispatched is complete
+pub receive-passes : (s : Settings) (x : State) → ((n : ℕ) → 0 < times (inItems (x .peer .lists .dispatched)) n → isComplete x n ≡ true)
     → let o = beside x (receives s (x .peer)) in Passes x (o .after) [] (handed (o .answer) x)
-receive-passes s x =
+receive-passes s x done =
     behind-has (gateOf (fits s lent.Nothing) (sound (x .peer))) (x .peer) (receivesSound (x .peer))
     (λ (o : Outcome Peer). Passes x (record { peer = o .after; store = x .store; second = x .second }) [] (handed (o .answer) x))
-    (λ why. rw (refused-one why) (still-passes x (x .peer) (still (x .peer))))
+    (λ why. rw (refused-none why x) (still-passes x (x .peer) (still (x .peer))))
     (λ e. go (inItems (x .peer .lists .dispatched)) refl)
   where
     go : (xs : List ℕ) → inItems (x .peer .lists .dispatched) ≡ xs
@@ -90,7 +123,9 @@ receive-passes s x =
         let l = x .peer .lists in
         let cs = below (x .peer .channels) (x .peer .standing .channels) in
         let left = shorter-items (l .dispatched) n rest e in
-        takes-passes x (taken n (x .peer)) n rest (rest ++ held cs) refl e left (used-from l cs (n ∷ rest) e) (used-from (withoutFirst l) cs rest left)
+        let here : 0 < times (inItems (l .dispatched)) n = rw e (rw (eq-eqb n n refl) (omega arith)) in
+        rw (handed-head x n)
+        (takes-passes x (taken n (x .peer)) n rest (rest ++ held cs) refl e left (used-from l cs (n ∷ rest) e) (used-from (withoutFirst l) cs rest left) (done n here))
 
 -- ---- an arrival
 abbrev Comes : Arrival → List ℕ → State → Outcome State → Type 0

@@ -7,16 +7,18 @@ use mathlib.Core.Bool.{Bool, true, false}
 use mathlib.Core.List.{List, [], _∷_, _++_, map, map-append, append-nil, append-assoc}
 use mathlib.Core.Logic.{_⊎_, inl, inr}
 use native.Mathlib.Omega.{arith}
-use lib.Dec.{leb, ltb}
+use lib.Dec.{eqb, leb, ltb}
 use lib.ListN.{length, take, drop, getD, length-take, length-drop}
 use lib.Seq.{drop-append-seam, ext-getD, getD-take, getD-drop}
 use borrow.Author.Tests.{eq-eqb, leb-true, ltb-true, ltb-false}
+use Rattle.numbers.specs.Pick.{pick}
 use Rattle.numbers.proofs.BoolLaws.{both-left}
 use Rattle.record.specs.Lists.{inItems}
 use Rattle.record.proofs.Keeps.{one, times, times-append}
 use Rattle.record.specs.Sizes.{cell}
 use Rattle.record.specs.Fresh.{noIncoming}
-use Rattle.record.specs.Damage.{below, held, inFit, usedIn}
+use Rattle.record.specs.Blocks.{isBlock, blockFit}
+use Rattle.record.specs.Damage.{below, held, kindFit, inFit, usedIn}
 use Rattle.record.specs.declared.groups.Incoming.{Incoming}
 use Rattle.peer.specs.Damage.{sound}
 use Rattle.peer.specs.Outcome.{State}
@@ -28,8 +30,8 @@ use Rattle.arrival.specs.declared.Arrival.{Arrival}
 use Rattle.laws.specs.Stores.{Stores}
 use Rattle.laws.proofs.Pools.{free-unnamed}
 use Rattle.link.specs.Runs.{Packet}
-use Rattle.promises.specs.Counts.{count}
-use Rattle.promises.specs.Packets.{packetAt, ready, present, payload, Ledger, newly}
+use Rattle.promises.specs.Counts.{count, those}
+use Rattle.promises.specs.Packets.{packetAt, ready, isComplete, present, payload, Building, Ledger, newly}
 
 -- the slots that a record's lists name
 abbrev pub named : Peer → List ℕ
@@ -48,20 +50,60 @@ pub count-none : (f : Packet → Bool) → count f [] ≡ 0
 unfolding count
 count-none f = refl
 
--- how many of the packets in these slots pass
-abbrev passing : (Packet → Bool) → State → List ℕ → ℕ
-passing f x xs = count f (map (packetAt x) xs)
+pub those-append : {A : Type 0} (f : A → Bool) (ks ls : List A) → those f (ks ++ ls) ≡ those f ks ++ those f ls
+unfolding those
+those-append f [] ls = refl
+those-append {A} f (k ∷ ks) ls = go (f k) (those-append f ks ls)
+  where
+    go : (b : Bool) → those f (ks ++ ls) ≡ those f ks ++ those f ls
+        → pick b (k ∷ those f (ks ++ ls)) (those f (ks ++ ls)) ≡ pick b (k ∷ those f ks) (those f ks) ++ those f ls
+    go true e = ap (λ (ms : List A). k ∷ ms) e
+    go false e = e
 
-passing-adds : (f : Packet → Bool) (x : State) → Sums (passing f x)
-passing-adds f x xs ys = ap (count f) (map-append (packetAt x) xs ys) ∙ count-append f (map (packetAt x) xs) (map (packetAt x) ys)
+-- how many of the packets in these slots are complete and pass
+abbrev pub passing : (Packet → Bool) → State → List ℕ → ℕ
+passing f x xs = count f (map (packetAt x) (those (isComplete x) xs))
+
+pub passing-adds : (f : Packet → Bool) (x : State) → Sums (passing f x)
+passing-adds f x xs ys =
+    let at = packetAt x in
+    let done = isComplete x in
+    ap (λ (ss : List ℕ). count f (map at ss)) (those-append done xs ys) ∙ ap (count f) (map-append at (those done xs) (those done ys))
+    ∙ count-append f (map at (those done xs)) (map at (those done ys))
+
+-- one slot: it counts where it is complete
+pub passing-one : (f : Packet → Bool) (x : State) (n : ℕ) → passing f x (n ∷ []) ≡ count f (pick (isComplete x n) (packetAt x n ∷ []) [])
+unfolding those
+passing-one f x n = go (isComplete x n)
+  where
+    go : (b : Bool) → count f (map (packetAt x) (pick b (n ∷ []) [])) ≡ count f (pick b (packetAt x n ∷ []) [])
+    go true = refl
+    go false = refl
+
+pub passing-whole : (f : Packet → Bool) (x : State) (n : ℕ) → isComplete x n ≡ true → passing f x (n ∷ []) ≡ count f (packetAt x n ∷ [])
+passing-whole f x n e = passing-one f x n ∙ ap (λ (b : Bool). count f (pick b (packetAt x n ∷ []) [])) e
 
 -- what is the same in every slot of a list
-map-same : (f g : ℕ → Packet) (xs : List ℕ) → ((s : ℕ) → 0 < times xs s → f s ≡ g s) → map f xs ≡ map g xs
+pub map-same : (f g : ℕ → Packet) (xs : List ℕ) → ((s : ℕ) → 0 < times xs s → f s ≡ g s) → map f xs ≡ map g xs
 map-same f g [] h = refl
 map-same f g (x ∷ xs) h = ap₂ (λ (k : Packet) (ks : List Packet). k ∷ ks) (h x first) (map-same f g xs (λ s p. h s (omega (arith, p))))
   where
     first : 0 < one x x + times xs x
     first = rw (eq-eqb x x refl) (omega arith)
+
+-- and of those that are complete
+pub passing-same : (f : Packet → Bool) (x y : State) (xs : List ℕ) → ((s : ℕ) → 0 < times xs s → packetAt y s ≡ packetAt x s)
+    → ((s : ℕ) → 0 < times xs s → isComplete y s ≡ isComplete x s) → passing f y xs ≡ passing f x xs
+unfolding those
+passing-same f x y [] h c = refl
+passing-same f x y (s ∷ xs) h c =
+    let same =
+    passing-one f y s ∙ ap₂ (λ (b : Bool) (k : Packet). count f (pick b (k ∷ []) [])) (c s first) (h s first) ∙ sym (passing-one f x s) in
+    let rest = passing-same f x y xs (λ t p. h t (omega (arith, p))) (λ t p. c t (omega (arith, p))) in
+    passing-adds f y (s ∷ []) xs ∙ ap₂ (λ (a b : ℕ). a + b) same rest ∙ sym (passing-adds f x (s ∷ []) xs)
+  where
+    first : 0 < one s s + times xs s
+    first = rw (eq-eqb s s refl) (omega arith)
 
 -- ---- one call: `put` went in, `out` came out
 pub record Passes (x y : State) (put out : List Packet) : Type 0 where
@@ -73,11 +115,11 @@ pub record Booked (l : Ledger) (y : State) : Type 0 where
   pub once : (f : Packet → Bool) → count f (l .received) + count f (present y) ≡ count f (l .stored)
   pub order : l .received ++ ready y ≡ l .joined
 
-abbrev pub with : Ledger → State → State → List Packet → List Packet → Ledger
-with l x y put out = record { stored = l .stored ++ put; joined = l .joined ++ newly x y; received = l .received ++ out }
+abbrev pub with : Ledger → State → State → List Packet → List Packet → Building → Ledger
+with l x y put out b = record { stored = l .stored ++ put; joined = l .joined ++ newly x y; received = l .received ++ out; building = b }
 
-pub passed : {x y : State} {put out : List Packet} (l : Ledger) → Booked l x → Passes x y put out → Booked (with l x y put out) y
-passed {x} {y} {put} {out} l h k =
+pub passed : {x y : State} {put out : List Packet} (l : Ledger) (b : Building) → Booked l x → Passes x y put out → Booked (with l x y put out b) y
+passed {x} {y} {put} {out} l b h k =
     record {
       once = λ f. omega (arith, h .once f, k .once f, count-append f (l .received) out, count-append f (l .stored) put);
       order =
@@ -86,7 +128,7 @@ passed {x} {y} {put} {out} l h k =
     }
 
 -- what joined is what is new
-grown : (x y : State) (js : List Packet) → ready y ≡ ready x ++ js → ready y ≡ ready x ++ newly x y
+pub grown : (x y : State) (js : List Packet) → ready y ≡ ready x ++ js → ready y ≡ ready x ++ newly x y
 grown x y js e =
     e ∙ ap (λ (ks : List Packet). ready x ++ ks) (sym (ap (drop (length (ready x))) e ∙ drop-append-seam (ready x) js))
 
@@ -100,23 +142,34 @@ pub still : (p : Peer) → Still p p
 still p = record { slots = refl; items = refl; names = refl }
 
 -- the packet of a slot with these bytes
-abbrev ofSlot : Incoming → List ℕ → Packet
-ofSlot i bs = record { channel = i .channel; byte = i .byte; number = i .number .0; bytes = bs }
+abbrev pub ofSlot : Incoming → List ℕ → Packet
+ofSlot i bs = record { channel = i .channel; byte = i .byte; number = i .number .0; fragments = i .fragments; bytes = bs }
 
--- the packet in a slot, by the parts that it is read from
-abbrev partsAt : List ℕ → List Incoming → ℕ → Packet
-partsAt store is s = ofSlot (getD is s noIncoming) (take (getD is s noIncoming .length) (drop (s * cell) store))
+-- the packet of what slot s holds, by both stores
+abbrev pub holding : List ℕ → List ℕ → ℕ → Incoming → Packet
+holding store second s i = ofSlot i (pick (isBlock i) (take (i .length) second) (take (i .length) (drop (s * cell) store)))
 
-parts-same : (store : List ℕ) {is js : List Incoming} {xs ys : List ℕ} → is ≡ js → xs ≡ ys → map (partsAt store is) xs ≡ map (partsAt store js) ys
-parts-same store d e = ap₂ (λ (is : List Incoming) (xs : List ℕ). map (partsAt store is) xs) d e
+-- the same state with other slots
+abbrev pooled : State → List Incoming → ℕ → Packet
+pooled x is s = holding (x .store) (x .second) s (getD is s noIncoming)
+
+parts-same : (x : State) {is js : List Incoming} {xs ys : List ℕ} → is ≡ js → xs ≡ ys → map (pooled x is) xs ≡ map (pooled x js) ys
+parts-same x d e = ap₂ (λ (is : List Incoming) (xs : List ℕ). map (pooled x is) xs) d e
+
+abbrev whole-of : List Incoming → ℕ → Bool
+whole-of is s = eqb (getD is s noIncoming .remaining) 0
+
+there-same : (x : State) {is js : List Incoming} {xs ys : List ℕ} → is ≡ js → xs ≡ ys
+    → map (pooled x is) (those (whole-of is) xs) ≡ map (pooled x js) (those (whole-of js) ys)
+there-same x d e = ap₂ (λ (is : List Incoming) (xs : List ℕ). map (pooled x is) (those (whole-of is) xs)) d e
 
 pub still-passes : (x : State) (q : Peer) → Still (x .peer) q → Passes x (record { peer = q; store = x .store; second = x .second }) [] []
 still-passes x q k =
     record {
-      once = λ f. ap (λ (ks : List Packet). count f [] + count f ks) (parts-same (x .store) (k .slots) (k .names));
+      once = λ f. ap (λ (ks : List Packet). count f [] + count f ks) (there-same x (k .slots) (k .names));
       order =
           grown x (record { peer = q; store = x .store; second = x .second }) []
-          (parts-same (x .store) (k .slots) (k .items) ∙ sym (append-nil (ready x)));
+          (parts-same x (k .slots) (k .items) ∙ sym (append-nil (ready x)));
     }
 
 -- ---- a call that names the same slots, some of them now in dispatched
@@ -127,11 +180,11 @@ pub joins-passes : (x : State) (q : Peer) (js : List ℕ) → q .incoming ≡ x 
 joins-passes x q js slots items same =
     record {
       once =
-          λ f. ap (λ (ks : List Packet). count f [] + count f ks) (parts-same (x .store) {xs = named q} slots refl)
+          λ f. ap (λ (ks : List Packet). count f [] + count f ks) (there-same x {xs = named q} slots refl)
           ∙ ap (λ (n : ℕ). count f [] + n) (same (passing f x) (passing-adds f x));
       order =
           grown x (record { peer = q; store = x .store; second = x .second }) (map (packetAt x) js)
-          (parts-same (x .store) slots items ∙ map-append (packetAt x) (inItems (x .peer .lists .dispatched)) js);
+          (parts-same x slots items ∙ map-append (packetAt x) (inItems (x .peer .lists .dispatched)) js);
     }
 
 -- ---- a call that takes the head of dispatched
@@ -141,7 +194,7 @@ past (k ∷ ks) = past ks
 
 module _ (x : State) (q : Peer) (n : ℕ) (rest others : List ℕ) (slots : q .incoming ≡ x .peer .incoming)
     (before : inItems (x .peer .lists .dispatched) ≡ n ∷ rest) (after : inItems (q .lists .dispatched) ≡ rest)
-    (used : named (x .peer) ≡ n ∷ others) (left : named q ≡ others) where
+    (used : named (x .peer) ≡ n ∷ others) (left : named q ≡ others) (done : isComplete x n ≡ true) where
   abbrev y : State
   y = record { peer = q; store = x .store; second = x .second }
 
@@ -149,7 +202,7 @@ module _ (x : State) (q : Peer) (n : ℕ) (rest others : List ℕ) (slots : q .i
   ready-was = ap (map (packetAt x)) before
 
   ready-is : ready y ≡ map (packetAt x) rest
-  ready-is = parts-same (x .store) slots after
+  ready-is = parts-same x slots after
 
   none-new : newly x y ≡ []
   none-new = ap₂ (λ (ks ls : List Packet). drop (length ks) ls) ready-was ready-is ∙ past (map (packetAt x) rest)
@@ -161,9 +214,10 @@ module _ (x : State) (q : Peer) (n : ℕ) (rest others : List ℕ) (slots : q .i
             omega (
               arith,
               count-none f,
-              ap (count f) (parts-same (x .store) slots left),
+              ap (count f) (there-same x slots left),
               ap (passing f x) used,
               passing-adds f x (n ∷ []) others,
+              passing-whole f x n done,
             );
         order =
             ap (λ (ks : List Packet). packetAt x n ∷ ks) ready-is ∙ sym ready-was ∙ sym (append-nil (ready x))
@@ -184,38 +238,55 @@ module _ (a : Arrival) (datagram : List ℕ) (x y : State) (k : Stores a datagra
   abbrev p : Peer
   p = x .peer
 
-  clauses : InClauses (p .incoming) (p .lists) (below (p .channels) (p .standing .channels)) (p .standing .channels) (p .waiting .total)
+  clauses : InClauses (p .marks) (p .incoming) (p .lists) (below (p .channels) (p .standing .channels)) (p .standing .channels) (p .waiting .total)
   clauses = incoming-clauses p good
 
   other : (s : ℕ) → 0 < times (named p) s → s ≡ k .slot → ⊥
   other s h z =
-      let none = free-unnamed (p .incoming) (p .lists) (below (p .channels) (p .standing .channels)) (p .standing .channels) (p .waiting .total) clauses
+      let none = free-unnamed (p .marks) (p .incoming) (p .lists) (below (p .channels) (p .standing .channels)) (p .standing .channels) (p .waiting .total) clauses
       (k .slot) (k .free) in
       let here : times (named p) s ≡ 0 = rw z none in
       omega (arith, h, here)
 
-  fits : (s : ℕ) → 0 < times (named p) s → getD (p .incoming) s noIncoming .length ≤ cell
-  fits s h =
+  -- a packet's cell is wide enough
+  fits : (s : ℕ) → 0 < times (named p) s → let i = getD (p .incoming) s noIncoming in isBlock i ≡ false → i .length ≤ cell
+  fits s h flat =
       let i = getD (p .incoming) s noIncoming in
+      let fit = all-at (inFit (p .marks) (p .incoming) (p .standing .channels)) (named p) (clauses .fit) s h in
       leb-true (i .length) cell
-      (both-left (leb (i .length) cell) (ltb (i .channel) (p .standing .channels)) (all-at (inFit (p .incoming) (p .standing .channels)) (named p) (clauses .fit) s h))
+      (sym (ap (λ (b : Bool). pick b (blockFit (p .marks) i) (leb (i .length) cell)) flat)
+      ∙ both-left (kindFit (p .marks) i) (ltb (i .channel) (p .standing .channels)) fit)
 
   -- what was named is as it was
-  kept : (s : ℕ) → 0 < times (named p) s → packetAt y s ≡ packetAt x s
+  pub kept : (s : ℕ) → 0 < times (named p) s → packetAt y s ≡ packetAt x s
   kept s h =
-      let i = getD (p .incoming) s noIncoming in
-      ap (λ (j : Incoming). ofSlot j (take (j .length) (drop (s * cell) (y .store)))) (k .slots s (other s h))
-      ∙ ap (ofSlot i)
-      (take-same (i .length) (s * cell) (y .store) (x .store) (k .length) (λ j low high. k .bytes j (apart j low high (ltb s (k .slot)) refl)))
+      ap (holding (y .store) (y .second) s) (k .slots s (other s h)) ∙ ap (λ (second : List ℕ). holding (y .store) second s i) (k .second)
+      ∙ ap (ofSlot i) (go (isBlock i) refl)
     where
-      apart : (j : ℕ) → s * cell ≤ j → j < s * cell + getD (p .incoming) s noIncoming .length → (b : Bool) → ltb s (k .slot) ≡ b
+      i : Incoming
+      i = getD (p .incoming) s noIncoming
+
+      apart : isBlock i ≡ false → (j : ℕ) → s * cell ≤ j → j < s * cell + i .length → (b : Bool) → ltb s (k .slot) ≡ b
           → (j < k .slot * cell) ⊎ (k .slot * cell + a .length ≤ j)
-      apart j low high true t = inl (omega (arith, fits s h, ltb-true s (k .slot) t))
-      apart j low high false t = inr (omega (arith, ltb-false s (k .slot) t, other s h))
+      apart flat j low high true t = inl (omega (arith, fits s h flat, ltb-true s (k .slot) t))
+      apart flat j low high false t = inr (omega (arith, ltb-false s (k .slot) t, other s h))
+
+      go : (b : Bool) → isBlock i ≡ b
+          → pick b (take (i .length) (x .second)) (take (i .length) (drop (s * cell) (y .store)))
+          ≡ pick b (take (i .length) (x .second)) (take (i .length) (drop (s * cell) (x .store)))
+      go true flat = refl
+      go false flat =
+          take-same (i .length) (s * cell) (y .store) (x .store) (k .length)
+          (λ j low high. k .bytes j (apart flat j low high (ltb s (k .slot)) refl))
+
+  pub kept-slot : (s : ℕ) → 0 < times (named p) s → getD (y .peer .incoming) s noIncoming ≡ getD (p .incoming) s noIncoming
+  kept-slot s h = k .slots s (other s h)
 
   pub stored-own : packetAt y (k .slot) ≡ payload a datagram
-  stored-own =
-      ap (λ (j : Incoming). ofSlot j (take (j .length) (drop (k .slot * cell) (y .store)))) (k .holds) ∙ ap (ofSlot (arrivedSlot a)) (k .payload)
+  stored-own = ap (holding (y .store) (y .second) (k .slot)) (k .holds) ∙ ap (ofSlot (arrivedSlot a)) (k .payload)
+
+  stored-done : isComplete y (k .slot) ≡ true
+  stored-done = ap (λ (i : Incoming). eqb (i .remaining) 0) (k .holds)
 
   pub stored-passes : (js : List ℕ) → inItems (y .peer .lists .dispatched) ≡ inItems (p .lists .dispatched) ++ js
       → ((g : List ℕ → ℕ) → Sums g → g (named (y .peer)) ≡ g (k .slot ∷ []) + g (named p))
@@ -228,8 +299,9 @@ module _ (a : Arrival) (datagram : List ℕ) (x y : State) (k : Stores a datagra
               arith,
               count-none f,
               more (passing f y) (passing-adds f y),
+              passing-whole f y (k .slot) stored-done,
               ap (λ (j : Packet). count f (j ∷ [])) stored-own,
-              ap (count f) (map-same (packetAt y) (packetAt x) (named p) kept),
+              passing-same f x y (named p) kept (λ s h. ap (λ (i : Incoming). eqb (i .remaining) 0) (kept-slot s h)),
             );
         order =
             grown x y (map (packetAt y) js)

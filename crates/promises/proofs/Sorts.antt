@@ -3,8 +3,8 @@
 -- gate; a sound record's channel lists hold slots of their own channel; nothing arrives before begin, which alone makes channels count.
 use Prim.Native.Nat.{ℕ, zero, suc, _+_, _%_, _≤_, _<_}
 use mathlib.Core.Path.{_≡_, refl, ap, sym, _∙_}
-use mathlib.Core.Bool.{Bool, true, false}
-use mathlib.Core.List.{List, [], _∷_, _++_, map, map-append}
+use mathlib.Core.Bool.{Bool, true, false, not}
+use mathlib.Core.List.{List, [], _∷_, _++_, map, map-append, append-assoc}
 use native.Mathlib.Omega.{arith}
 use lib.Dec.{eqb, leb}
 use lib.ListN.{length, take, drop, getD, length-map, length-take, drop-of-length-le}
@@ -68,6 +68,7 @@ use Rattle.arrival.specs.declared.Fate.the-variants as fate
 use Rattle.arrival.proofs.Admitted.{Admitted}
 use Rattle.arrive_unsequenced.specs.Calls.{sendUnsequenced, judgedOn, unsequencedSound, arrivesUnsequenced}
 use Rattle.arrive_reliable.specs.Calls.{sendReliable, reliableAfter, reliableSound, arrivesReliable}
+use Rattle.arrive_fragment.specs.Calls.{sendFragment}
 use Rattle.laws.specs.Stores.{Arrives, leaves, stores}
 use Rattle.laws.proofs.Stores.{unsequenced-stores}
 use Rattle.laws.proofs.Unsequenced.{unsequenced-has, stored-free, joins}
@@ -78,10 +79,10 @@ use Rattle.link_out.specs.declared.calls.Call.the-variants as out
 use Rattle.link_in.specs.Steps.{beside}
 use Rattle.link.specs.Runs.{saysOne, Packet}
 use Rattle.promises.specs.Counts.{count, those}
-use Rattle.promises.specs.Reports.{dispatchedIn, numbersJoined, series}
-use Rattle.promises.specs.Packets.{packetAt, ready, payload, newly, reliableOn, isEither}
+use Rattle.promises.specs.Reports.{dispatchedIn, numbersTaken, takenBy, numbersJoined, series}
+use Rattle.promises.specs.Packets.{packetAt, ready, payload, newly, isReliable, reliableOn, isEither, allTaken}
 use Rattle.promises.proofs.Answers.{refused-one}
-use Rattle.promises.proofs.Presence.{count-none, Still, stored-own}
+use Rattle.promises.proofs.Presence.{count-none, those-append, Still, stored-own}
 use Rattle.promises.proofs.Passing.{same-slot}
 use Rattle.promises.proofs.Picks.{picked}
 
@@ -120,18 +121,18 @@ all-kinds out left put once known =
     )
 
 -- one packet, if it went in
-put-all : (f : Packet → Bool) (b : Bool) (k : Packet) → (b ≡ true → f k ≡ true) → let ks = pick b (k ∷ []) [] in count f ks ≡ length ks
+pub put-all : (f : Packet → Bool) (b : Bool) (k : Packet) → (b ≡ true → f k ≡ true) → let ks = pick b (k ∷ []) [] in count f ks ≡ length ks
 unfolding count
 put-all f true k h = rw (h refl)
 put-all f false k h = refl
 
-put-none : (f : Packet → Bool) (b : Bool) (k : Packet) → (b ≡ true → f k ≡ false) → count f (pick b (k ∷ []) []) ≡ 0
+pub put-none : (f : Packet → Bool) (b : Bool) (k : Packet) → (b ≡ true → f k ≡ false) → count f (pick b (k ∷ []) []) ≡ 0
 unfolding count
 put-none f true k h = rw (h refl)
 put-none f false k h = refl
 
 -- ---- a stored arrival's byte names its command
-gate-names : (command : ℕ) (a : Arrival) (s : Settings) (standing : Standing) (end : ℕ) → arrivalGate command a s standing end ≡ Open
+pub gate-names : (command : ℕ) (a : Arrival) (s : Settings) (standing : Standing) (end : ℕ) → arrivalGate command a s standing end ≡ Open
     → names (a .byte) command ≡ true
 gate-names command a s standing end e = go (names (a .byte) command) refl e
   where
@@ -144,7 +145,7 @@ gate-names command a s standing end e = go (names (a .byte) command) refl e
     go false t e = absurd (omega (arith, ap openness e))
 
 -- where the test fails, nothing needs be shown of it
-shut-one : {b c : Bool} → b ≡ false → b ≡ true → c ≡ true
+pub shut-one : {b c : Bool} → b ≡ false → b ≡ true → c ≡ true
 shut-one f t = cc
 
 module _ (s : Settings) (a : Arrival) (datagram : List ℕ) (x : State) where
@@ -173,27 +174,16 @@ module _ (s : Settings) (a : Arrival) (datagram : List ℕ) (x : State) where
       count isEither ks ≡ length ks
   unsequenced-known group =
       put-all isEither (saysOne (arrivesUnsequenced s a group datagram x .answer)) (payload a datagram)
-      (λ t. either-by (names (a .byte) sendReliable) (unsequenced-named group t))
+      (λ t. either-by (isReliable (payload a datagram)) (unsequenced-named group t))
 
   pub reliable-known : let ks = pick (saysOne (arrivesReliable s a datagram x .answer)) (payload a datagram ∷ []) [] in count isEither ks ≡ length ks
   reliable-known =
       put-all isEither (saysOne (arrivesReliable s a datagram x .answer)) (payload a datagram)
-      (λ t. ap (λ (b : Bool). pick b true (names (a .byte) sendUnsequenced)) (reliable-named t))
-
--- ---- those of a list that pass
-those-append : (f : Packet → Bool) (ks ls : List Packet) → those f (ks ++ ls) ≡ those f ks ++ those f ls
-unfolding those
-those-append f [] ls = refl
-those-append f (k ∷ ks) ls = go (f k) (those-append f ks ls)
-  where
-    go : (b : Bool) → those f (ks ++ ls) ≡ those f ks ++ those f ls
-        → pick b (k ∷ those f (ks ++ ls)) (those f (ks ++ ls)) ≡ pick b (k ∷ those f ks) (those f ks) ++ those f ls
-    go true e = ap (λ (ms : List Packet). k ∷ ms) e
-    go false e = e
+      (λ t. ap (λ (b : Bool). pick (pick b true (names (a .byte) sendFragment)) true (names (a .byte) sendUnsequenced)) (reliable-named t))
 
 -- not reliable; and of a channel
 abbrev pub other : Packet → Bool
-other k = pick (names (k .byte) sendReliable) false true
+other k = not (isReliable k)
 
 abbrev isOf : ℕ → Packet → Bool
 isOf on k = eqb (k .channel) on
@@ -203,7 +193,7 @@ module _ (s : Settings) (a : Arrival) (datagram : List ℕ) (x : State) where
   pub reliable-put : count other (pick (saysOne (arrivesReliable s a datagram x .answer)) (payload a datagram ∷ []) []) ≡ 0
   reliable-put =
       put-none other (saysOne (arrivesReliable s a datagram x .answer)) (payload a datagram)
-      (λ t. ap (λ (b : Bool). pick b false true) (reliable-named s a datagram x t))
+      (λ t. ap (λ (b : Bool). not (pick b true (names (a .byte) sendFragment))) (reliable-named s a datagram x t))
 
   pub unsequenced-put : (group : Group) (channel : ℕ)
       → those (reliableOn channel) (pick (saysOne (arrivesUnsequenced s a group datagram x .answer)) (payload a datagram ∷ []) []) ≡ []
@@ -214,8 +204,10 @@ module _ (s : Settings) (a : Arrival) (datagram : List ℕ) (x : State) where
           → those (reliableOn channel) (pick b (payload a datagram ∷ []) []) ≡ []
       go true h =
           let nine : a .byte % 16 ≡ 9 = eqb-true (a .byte % 16) 9 (h refl) in
-          let not : names (a .byte) sendReliable ≡ false = ne-eqb (a .byte % 16) 6 (λ z. omega (arith, z, nine)) in
-          ap (λ (b : Bool). pick b (payload a datagram ∷ []) []) (both-false (eqb (a .channel) channel) (names (a .byte) sendReliable) not)
+          let six : names (a .byte) sendReliable ≡ false = ne-eqb (a .byte % 16) 6 (λ z. omega (arith, z, nine)) in
+          let eight : names (a .byte) sendFragment ≡ false = ne-eqb (a .byte % 16) 8 (λ z. omega (arith, z, nine)) in
+          let neither : isReliable (payload a datagram) ≡ false = ap (λ (b : Bool). pick b true (names (a .byte) sendFragment)) six ∙ eight in
+          ap (λ (b : Bool). pick b (payload a datagram ∷ []) []) (both-false (eqb (a .channel) channel) (isReliable (payload a datagram)) neither)
       go false h = refl
 
 -- reliable ones of one channel: all of them, or none
@@ -227,15 +219,15 @@ those-on channel on [] h o = go (eqb on channel)
     go : (b : Bool) → _≡_ {A = List Packet} [] (pick b [] [])
     go true = refl
     go false = refl
-those-on channel on (k ∷ ks) h o = go (eqb (k .channel) on) refl (names (k .byte) sendReliable) refl h o (λ h o. those-on channel on ks h o)
+those-on channel on (k ∷ ks) h o = go (eqb (k .channel) on) refl (isReliable k) refl h o (λ h o. those-on channel on ks h o)
   where
     more : (b : Bool) → those (reliableOn channel) ks ≡ pick b ks []
         → pick b (k ∷ those (reliableOn channel) ks) (those (reliableOn channel) ks) ≡ pick b (k ∷ ks) []
     more true t = ap (λ (ls : List Packet). k ∷ ls) t
     more false t = t
 
-    go : (b : Bool) → eqb (k .channel) on ≡ b → (r : Bool) → names (k .byte) sendReliable ≡ r
-        → pick b 1 0 + count (isOf on) ks ≡ suc (length ks) → pick (pick r false true) 1 0 + count other ks ≡ 0
+    go : (b : Bool) → eqb (k .channel) on ≡ b → (r : Bool) → isReliable k ≡ r
+        → pick b 1 0 + count (isOf on) ks ≡ suc (length ks) → pick (not r) 1 0 + count other ks ≡ 0
         → (count (isOf on) ks ≡ length ks → count other ks ≡ 0 → those (reliableOn channel) ks ≡ pick (eqb on channel) ks [])
         → pick (reliableOn channel k) (k ∷ those (reliableOn channel) ks) (those (reliableOn channel) ks) ≡ pick (eqb on channel) (k ∷ ks) []
     go true e true n h o rest =
@@ -247,15 +239,20 @@ those-on channel on (k ∷ ks) h o = go (eqb (k .channel) on) refl (names (k .by
     go true e false n h o rest = absurd (omega (arith, o))
     go false e r n h o rest = absurd (omega (arith, h, count-low (isOf on) ks))
 
--- the numbers of a channel's reliable ones
+-- the numbers that a channel's reliable ones take
 abbrev pub numbersOn : ℕ → List Packet → List ℕ
-numbersOn channel ks = map (λ (k : Packet). k .number) (those (reliableOn channel) ks)
+numbersOn channel ks = allTaken (those (reliableOn channel) ks)
+
+taken-append : (ks ls : List Packet) → allTaken (ks ++ ls) ≡ allTaken ks ++ allTaken ls
+unfolding allTaken
+taken-append [] ls = refl
+taken-append (k ∷ ks) ls =
+    let own = numbersTaken (k .number) (k .fragments) in
+    ap (λ (ns : List ℕ). own ++ ns) (taken-append ks ls) ∙ sym (append-assoc own (allTaken ks) (allTaken ls))
 
 pub numbers-append : (channel : ℕ) (ks ls : List Packet) → numbersOn channel (ks ++ ls) ≡ numbersOn channel ks ++ numbersOn channel ls
 numbers-append channel ks ls =
-    let number : Packet → ℕ = λ k. k .number in
-    ap (map number) (those-append (reliableOn channel) ks ls)
-    ∙ map-append number (those (reliableOn channel) ks) (those (reliableOn channel) ls)
+    ap allTaken (those-append (reliableOn channel) ks ls) ∙ taken-append (those (reliableOn channel) ks) (those (reliableOn channel) ls)
 
 -- a series begins with a series
 pub series-front : (n : ℕ) (xs ys : List ℕ) (k : ℕ) → xs ++ ys ≡ series n k → xs ≡ series n (length xs)
@@ -281,20 +278,27 @@ none-newly x y h =
     drop-of-length-le (ready y) {i = length (ready x)}
     (omega (arith, h, length-map (dispatchedIn x) (packetAt x), length-map (dispatchedIn y) (packetAt y)))
 
-numbers-dropped : (f : ℕ → Packet) (n : ℕ) (ss : List ℕ) → map (λ (k : Packet). k .number) (drop n (map f ss)) ≡ map (λ (s : ℕ). f s .number) (drop n ss)
-numbers-dropped f zero [] = refl
-numbers-dropped f zero (s ∷ ss) = ap (λ (ns : List ℕ). f s .number ∷ ns) (numbers-dropped f zero ss)
-numbers-dropped f (suc n) [] = refl
-numbers-dropped f (suc n) (s ∷ ss) = numbers-dropped f n ss
+drop-map : (f : ℕ → Packet) (n : ℕ) (ss : List ℕ) → drop n (map f ss) ≡ map f (drop n ss)
+drop-map f zero ss = refl
+drop-map f (suc n) [] = refl
+drop-map f (suc n) (s ∷ ss) = drop-map f n ss
 
--- its numbers
-pub numbers-newly : (x y : State) → map (λ (k : Packet). k .number) (newly x y) ≡ numbersJoined x y
+taken-slots : (y : State) (ss : List ℕ) → allTaken (map (packetAt y) ss) ≡ takenBy (y .peer .incoming) ss
+unfolding allTaken takenBy
+taken-slots y [] = refl
+taken-slots y (s ∷ ss) =
+    let i = getD (y .peer .incoming) s noIncoming in
+    ap (λ (ns : List ℕ). numbersTaken (i .number .0) (i .fragments) ++ ns) (taken-slots y ss)
+
+-- the numbers that it takes
+pub numbers-newly : (x y : State) → allTaken (newly x y) ≡ numbersJoined x y
 numbers-newly x y =
-    ap (λ (n : ℕ). map (λ (k : Packet). k .number) (drop n (ready y))) (length-map (dispatchedIn x) (packetAt x))
-    ∙ numbers-dropped (packetAt y) (length (dispatchedIn x)) (dispatchedIn y)
+    ap (λ (n : ℕ). allTaken (drop n (ready y))) (length-map (dispatchedIn x) (packetAt x))
+    ∙ ap allTaken (drop-map (packetAt y) (length (dispatchedIn x)) (dispatchedIn y))
+    ∙ taken-slots y (drop (length (dispatchedIn x)) (dispatchedIn y))
 
 -- ---- a sound record's channel list holds slots of its channel
-own-at : (slots : List Incoming) (j : ℕ) (cs : List Channel) (i : ℕ) → own slots j cs ≡ true → i < length cs
+pub own-at : (slots : List Incoming) (j : ℕ) (cs : List Channel) (i : ℕ) → own slots j cs ≡ true → i < length cs
     → all (λ (s : ℕ). eqb (getD slots s noIncoming .channel) (j + i)) (inItems (getD cs i noChannel .held)) ≡ true
 unfolding own
 own-at slots j [] i e h = absurd (omega (arith, h))
@@ -323,7 +327,7 @@ count-all f g (x ∷ xs) e =
     omega (arith, is, count-all f g xs (both-right (f (g x)) (all (λ (s : ℕ). f (g s)) xs) e))
 
 module _ (channel : ℕ) (p : Peer) (whole : Whole p) (good : sound p ≡ true) (h : channel < p .standing .channels) where
-  moved-own : all (λ (s : ℕ). eqb (getD (p .incoming) s noIncoming .channel) channel) (take (readyIn channel p) (inItems (chosen channel p .held)))
+  pub moved-own : all (λ (s : ℕ). eqb (getD (p .incoming) s noIncoming .channel) channel) (take (readyIn channel p) (inItems (chosen channel p .held)))
       ≡ true
   moved-own =
       let f : ℕ → Bool = λ s. eqb (getD (p .incoming) s noIncoming .channel) channel in
@@ -350,12 +354,12 @@ pub record Joined (on : ℕ) (x y : State) : Type 0 where
   pub none : Unbegun (x .peer) → newly x y ≡ []
   pub same : Unbegun (y .peer) → Unbegun (x .peer)
 
-none-joined : (on : ℕ) (x : State) → Joined on x x
+pub none-joined : (on : ℕ) (x : State) → Joined on x x
 none-joined on x =
     let e = same-newly x in
     record { of = ap (count (isOf on)) e ∙ count-none (isOf on) ∙ sym (ap (λ (ks : List Packet). length ks) e); none = λ z. e; same = λ z. z }
 
-slots-joined : (on : ℕ) (x y : State) (js : List ℕ) → dispatchedIn y ≡ dispatchedIn x ++ js
+pub slots-joined : (on : ℕ) (x y : State) (js : List ℕ) → dispatchedIn y ≡ dispatchedIn x ++ js
     → all (λ (s : ℕ). eqb (getD (y .peer .incoming) s noIncoming .channel) on) js ≡ true
     → on < x .peer .standing .channels → (Unbegun (y .peer) → Unbegun (x .peer)) → Joined on x y
 slots-joined on x y js e theirs h same =
