@@ -88,7 +88,7 @@ function meant(label, x,    text) {
     else if (label == "kind") text = named["command", x]
     else if (label == "list") text = x >= 8 ? "channel " (x - 8) : named["list", op == 7 ? (x == 0 ? 2 : 1) : x]
     else if (label == "which") text = whichNamed(x)
-    else if (label == "which store") text = x == 0 ? "the store" : "the second store"
+    else if (label == "which store") text = x == 0 ? "the store" : x == 1 ? "the second store" : ""
     else if (label == "channel" && x == 255) text = "the peer itself"
     return label " " x (text == "" ? "" : " (" text ")")
 }

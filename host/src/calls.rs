@@ -36,12 +36,27 @@ extern "C" {
         number: u16,
         length: u32,
     ) -> u32;
+    fn measure_fragment(
+        words: *mut u32,
+        store: *const u8,
+        room: usize,
+        second: *mut u8,
+        second_room: usize,
+        datagram: *const u8,
+        end: usize,
+        length: u16,
+        number: u32,
+        total: u32,
+        offset: u32,
+    ) -> u32;
     fn measure_dispatch(words: *mut u32, channel: u8) -> u32;
     fn measure_receive(words: *mut u32) -> u32;
     fn measure_link_send(
         words: *mut u32,
         store: *mut u8,
         room: usize,
+        second: *mut u8,
+        second_room: usize,
         datagram: *const u8,
         end: usize,
         length: u32,
@@ -51,6 +66,8 @@ extern "C" {
         words: *mut u32,
         store: *mut u8,
         room: usize,
+        second: *mut u8,
+        second_room: usize,
         datagram: *const u8,
         end: usize,
         kind: u32,
@@ -61,6 +78,8 @@ extern "C" {
         words: *mut u32,
         store: *mut u8,
         room: usize,
+        second: *mut u8,
+        second_room: usize,
         datagram: *const u8,
         end: usize,
         kind: u32,
@@ -83,6 +102,11 @@ pub const SENT: u32 = 1_000;
 const ROOM: usize = 49_152;
 
 static mut STORE: [u8; ROOM] = [0; ROOM];
+
+/// The store of a block.
+const SECOND_ROOM: usize = 32_768;
+
+static mut SECOND: [u8; SECOND_ROOM] = [0; SECOND_ROOM];
 
 pub static DATAGRAM: [u8; WHOLE as usize] = [1; WHOLE as usize];
 
@@ -143,6 +167,27 @@ pub fn reliable(words: &mut Record, number: u16) -> u32 {
     unsafe { measure_reliable(words, store(), ROOM, bytes, end, number, WHOLE) }
 }
 
+/// A piece of a block of two; both bring as much.
+pub fn fragment(words: &mut Record, piece: u32) -> u32 {
+    let (words, bytes, end) = (words.as_mut_ptr(), DATAGRAM.as_ptr(), DATAGRAM.len());
+    let (length, total, offset) = (WHOLE as u16, 2 * WHOLE, piece * WHOLE);
+    unsafe {
+        measure_fragment(
+            words,
+            store(),
+            ROOM,
+            second(),
+            SECOND_ROOM,
+            bytes,
+            end,
+            length,
+            piece,
+            total,
+            offset,
+        )
+    }
+}
+
 pub fn dispatch(words: &mut Record) -> u32 {
     unsafe { measure_dispatch(words.as_mut_ptr(), 0) }
 }
@@ -162,13 +207,13 @@ pub enum Kind {
 /// A call of a kind that the compiler of the link does not know, with its two numbers.
 pub fn link(words: &mut Record, kind: Kind, a: u32, b: u32) -> u32 {
     let (words, bytes, end) = (words.as_mut_ptr(), DATAGRAM.as_ptr(), DATAGRAM.len());
-    unsafe { measure_link(words, store(), ROOM, bytes, end, kind as u32, a, b) }
+    unsafe { measure_link(words, store(), ROOM, second(), SECOND_ROOM, bytes, end, kind as u32, a, b) }
 }
 
 /// The same on a record by value: read from its numbers, and written back.
 pub fn value(words: &mut Record, kind: Kind, a: u32, b: u32) -> u32 {
     let (words, bytes, end) = (words.as_mut_ptr(), DATAGRAM.as_ptr(), DATAGRAM.len());
-    unsafe { measure_value(words, store(), ROOM, bytes, end, kind as u32, a, b) }
+    unsafe { measure_value(words, store(), ROOM, second(), SECOND_ROOM, bytes, end, kind as u32, a, b) }
 }
 
 /// That reading and writing alone.
@@ -180,10 +225,15 @@ pub fn copies(words: &mut Record) -> u32 {
 /// The send of a packet that goes out whole, as data that the compiler knows.
 pub fn link_send(words: &mut Record) -> u32 {
     let (words, bytes, end) = (words.as_mut_ptr(), DATAGRAM.as_ptr(), DATAGRAM.len());
-    unsafe { measure_link_send(words, store(), ROOM, bytes, end, WHOLE, RELIABLE) }
+    unsafe { measure_link_send(words, store(), ROOM, second(), SECOND_ROOM, bytes, end, WHOLE, RELIABLE) }
 }
 
 #[allow(unused_unsafe)] // an older compiler wants it
 fn store() -> *mut u8 {
     unsafe { addr_of_mut!(STORE).cast() }
+}
+
+#[allow(unused_unsafe)] // likewise
+fn second() -> *mut u8 {
+    unsafe { addr_of_mut!(SECOND).cast() }
 }

@@ -3,7 +3,7 @@
 use crate::{calls, WHOLE};
 
 /// How many numbers a record has.
-const NUMBERS: usize = 1_234;
+const NUMBERS: usize = 1_236;
 
 pub type Record = [u32; NUMBERS];
 
@@ -57,6 +57,20 @@ pub fn holding(last: u32) -> Record {
 pub fn delivered() -> Record {
     let mut words = connected();
     assert_eq!(calls::unsequenced(&mut words, 0), 1);
+    words
+}
+
+/// The first piece of a block of two is there.
+pub fn begun() -> Record {
+    let mut words = connected();
+    assert_eq!(calls::fragment(&mut words, 0), 1);
+    words
+}
+
+/// A whole block is there to be received.
+pub fn block() -> Record {
+    let mut words = begun();
+    assert_eq!(calls::fragment(&mut words, 1), 1);
     words
 }
 

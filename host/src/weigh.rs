@@ -16,7 +16,9 @@ mod sent;
 use std::mem::size_of;
 
 use calls::Kind;
-use record::{connected, delivered, fresh, holding, sent as having_sent, waiting, Record};
+use record::{
+    begun, block, connected, delivered, fresh, holding, sent as having_sent, waiting, Record,
+};
 
 /// A packet that goes out whole, and one of 32 pieces.
 const WHOLE: u32 = 100;
@@ -118,7 +120,18 @@ impl Table {
 
     /// A call on a record, which it must leave sound.
     fn row(&mut self, name: &str, start: &Record, call: fn(&mut Record) -> u32, answer: u32) {
-        let mut left = self.line([name, name], start, call, answer);
+        self.beside([name, name], start, call, answer);
+    }
+
+    /// The same beside the source's call of another name.
+    fn beside(
+        &mut self,
+        names: [&str; 2],
+        start: &Record,
+        call: fn(&mut Record) -> u32,
+        answer: u32,
+    ) {
+        let mut left = self.line(names, start, call, answer);
         self.wrong += u32::from(calls::sound(&mut left) != 1);
     }
 
@@ -234,9 +247,22 @@ fn receive(table: &mut Table) {
     table.row("reliable arrival", &connected, |words| calls::reliable(words, NEXT), 1);
     let last = |words: &mut Record| calls::reliable(words, LAST);
     table.row("reliable arrival, passed over", &connected, last, 0);
+    fragments(table);
     table.row("dispatch, 1 ready", &holding(1), calls::dispatch, 0);
     table.row("dispatch, 1 waits", &holding(0), calls::dispatch, 0);
     table.row("receive", &delivered(), calls::receive, 1);
+}
+
+/// Beside the source's reliable arrival: the first piece clears the second store, the last dispatches the block.
+fn fragments(table: &mut Table) {
+    let pieces: [fn(&mut Record) -> u32; 2] =
+        [|words| calls::fragment(words, 0), |words| calls::fragment(words, 1)];
+    let beside = "reliable arrival";
+    table.beside(["fragment arrival, first piece", beside], &connected(), pieces[0], 1);
+    table.beside(["fragment arrival, last piece", beside], &begun(), pieces[1], 1);
+    let passed = "reliable arrival, passed over";
+    table.beside(["fragment arrival, passed over", passed], &begun(), pieces[0], 0);
+    table.beside(["receive, a block", "receive"], &block(), calls::receive, 2);
 }
 
 fn await_answers(table: &mut Table) {

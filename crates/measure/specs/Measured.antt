@@ -13,6 +13,7 @@ use Rattle.outbox.specs.declared.pieces.Piece.{Piece}
 use Rattle.send_step.specs.declared.heads.Queue.{Queue}
 use Rattle.send_step.specs.declared.heads.Queue.the-variants as queue
 use Rattle.arrival.specs.declared.Arrival.{Arrival}
+use Rattle.arrive_fragment.specs.declared.Piece.{Piece as Brought}
 use Rattle.link_out.specs.declared.calls.Call.the-variants as out
 use Rattle.link_in.specs.declared.calls.Call.the-variants as inw
 use Rattle.link.specs.declared.calls.Call.{Call}
@@ -41,6 +42,18 @@ unsequencedOf length = record { byte = 73; channel = 0; number = record { 0 = 0 
 
 abbrev pub reliableOf : ℕ → ℕ → Arrival
 reliableOf number length = record { byte = 134; channel = 0; number = record { 0 = number }; length = length; place = 0 }
+
+-- command 8: a piece of a block of two that starts at 1
+abbrev pub pieceOf : ℕ → ℕ → ℕ → ℕ → Brought
+pieceOf length number total offset =
+    record {
+      byte = 136;
+      channel = 0;
+      number = record { 0 = 1 };
+      start = record { 0 = 1 };
+      fragment = record { length = length; count = 2; number = number; total = total; offset = offset };
+      place = 0;
+    }
 
 -- a send on channel 0 as data
 abbrev pub sending : ℕ → ℕ → Call

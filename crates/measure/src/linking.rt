@@ -13,11 +13,12 @@ use places::RECORD;
 pub extern "C" fn measure_link_send(
     words: &mut [u32; RECORD],
     store: &mut [u8],
+    second: &mut [u8],
     datagram: &[u8],
     length: u32,
     flags: u32,
 ) -> u32
-    ensures { λ r. ⌜ Measured (calls (settingsOf 1392) (sending length flags) (now (datagram .entry)) (record { peer = whole (now (words .entry)); store = now (store .entry) })) r (record { peer = whole (now (words .exit)); store = now (store .exit) }) ⌝ }
+    ensures { λ r. ⌜ Measured (calls (settingsOf 1392) (sending length flags) (now (datagram .entry)) (record { peer = whole (now (words .entry)); store = now (store .entry); second = now (second .entry) })) r (record { peer = whole (now (words .exit)); store = now (store .exit); second = now (second .exit) }) ⌝ }
 {
     let send = link_out::calls::Call::Send {
         channel: 0,
@@ -25,7 +26,7 @@ pub extern "C" fn measure_link_send(
         flags,
     };
     let call = Call::Outward(send);
-    let reply = link::lent::call(words, SETTINGS, call, store, datagram);
+    let reply = link::lent::call(words, SETTINGS, call, store, second, datagram);
     telling::linked(reply)
 }
 
@@ -62,14 +63,15 @@ pub fn call_of(kind: u32, a: u32, b: u32) -> Call
 pub extern "C" fn measure_link(
     words: &mut [u32; RECORD],
     store: &mut [u8],
+    second: &mut [u8],
     datagram: &[u8],
     kind: u32,
     a: u32,
     b: u32,
 ) -> u32
-    ensures { λ r. ⌜ Measured (calls (settingsOf 1392) (callOf kind a b) (now (datagram .entry)) (record { peer = whole (now (words .entry)); store = now (store .entry) })) r (record { peer = whole (now (words .exit)); store = now (store .exit) }) ⌝ }
+    ensures { λ r. ⌜ Measured (calls (settingsOf 1392) (callOf kind a b) (now (datagram .entry)) (record { peer = whole (now (words .entry)); store = now (store .entry); second = now (second .entry) })) r (record { peer = whole (now (words .exit)); store = now (store .exit); second = now (second .exit) }) ⌝ }
 {
     let call = call_of(kind, a, b);
-    let reply = link::lent::call(words, SETTINGS, call, store, datagram);
+    let reply = link::lent::call(words, SETTINGS, call, store, second, datagram);
     telling::linked(reply)
 }

@@ -81,7 +81,7 @@ pub(crate) fn arrived(reply: arrival::Reply) -> u32
     }
 }
 
-// 1 for a packet.
+// 1 for a packet, 2 for a block.
 pub(crate) fn received(reply: receive::Reply) -> u32
     ensures { λ r. ⌜ r ≡ told (receiving.answerOf reply) ⌝ }
 {
@@ -92,6 +92,11 @@ pub(crate) fn received(reply: receive::Reply) -> u32
             cell: _,
             length: _,
         } => 1,
+        receive::Reply::Block {
+            channel: _,
+            cell: _,
+            length: _,
+        } => 2,
         receive::Reply::Refused(why) => why.number(),
     }
 }

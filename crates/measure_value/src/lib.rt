@@ -12,16 +12,17 @@ use places::RECORD;
 pub extern "C" fn measure_value(
     words: &mut [u32; RECORD],
     store: &mut [u8],
+    second: &mut [u8],
     datagram: &[u8],
     kind: u32,
     a: u32,
     b: u32,
 ) -> u32
-    ensures { λ r. ⌜ Measured (calls (settingsOf 1392) (callOf kind a b) (now (datagram .entry)) (record { peer = whole (now (words .entry)); store = now (store .entry) })) r (record { peer = whole (now (words .exit)); store = now (store .exit) }) ⌝ }
+    ensures { λ r. ⌜ Measured (calls (settingsOf 1392) (callOf kind a b) (now (datagram .entry)) (record { peer = whole (now (words .entry)); store = now (store .entry); second = now (second .entry) })) r (record { peer = whole (now (words .exit)); store = now (store .exit); second = now (second .exit) }) ⌝ }
 {
     let peer = copies::meant(words);
     let call = call_of(kind, a, b);
-    let linked = link::call(peer, SETTINGS, call, store, datagram);
+    let linked = link::call(peer, SETTINGS, call, store, second, datagram);
     let reply = linked.reply;
     copies::writing::write(words, linked.peer);
     telling::linked(reply)

@@ -28,16 +28,19 @@ linked-requires c κs = search needs
 same-length : tie.Need-same-length
 same-length c = search needs
 
+same-length-2 : tie.Need-same-length-2
+same-length-2 c = search needs
+
 returns : tie.Need-returns
 returns c =
-    let at-call = c .before .before .before .before .before in
-    let at-made = at-call .before .before in
+    let at-call = c .before .before .before .before .before .before .before in
+    let at-made = at-call .before .before .before in
     let at-meant = at-made .before in
-    let a = at-meant .before .before .before .before .args in
+    let a = at-meant .before .before .before .before .before .args in
     let k = at-call .call in
     same-outcome
-    (ap₂ (λ (call : Call) (p : Peer). calls (settingsOf 1392) call (a .datagram .now) (record { peer = p; store = a .store .now })) (at-made .call-of .ensures) (at-meant .meant .ensures))
-    (subst (λ (p : Peer). Measured (calls (settingsOf 1392) (at-made .call-of .result) (a .datagram .now) (record { peer = at-meant .meant .result; store = a .store .now })) (c .linked .result) (record { peer = p; store = k .last .1 .1 .1 .0 }))
+    (ap₂ (λ (call : Call) (p : Peer). calls (settingsOf 1392) call (a .datagram .now) (record { peer = p; store = a .store .now; second = a .second .now })) (at-made .call-of .ensures) (at-meant .meant .ensures))
+    (subst (λ (p : Peer). Measured (calls (settingsOf 1392) (at-made .call-of .result) (a .datagram .now) (record { peer = at-meant .meant .result; store = a .store .now; second = a .second .now })) (c .linked .result) (record { peer = p; store = k .last .1 .1 .1 .0; second = k .last .1 .1 .1 .1 .0 }))
     (sym (c .before .write .ensures))
     (measured answerOf (k .ensures .0) (c .linked .ensures)))
 
@@ -51,4 +54,5 @@ measure-value-spec =
     write-requires
     linked-requires
     same-length
+    same-length-2
     returns)

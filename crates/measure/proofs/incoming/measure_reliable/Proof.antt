@@ -15,7 +15,7 @@ same-length : tie.Need-same-length
 same-length c = search needs
 
 returns : tie.Need-returns
-returns c = measured answerOf (c .before .before .before .arrive .ensures) (c .arrived .ensures)
+returns c = λ second. measured answerOf (c .before .before .before .arrive .ensures second) (c .arrived .ensures)
 
 pub measure-reliable-spec : {M : Type 1} → statement M
 measure-reliable-spec = tie.close (tie.spec arrive-requires arrived-requires same-length returns)

@@ -15,7 +15,7 @@ same-length : tie.Need-same-length
 same-length c = search needs
 
 returns : tie.Need-returns
-returns c = measured answerOf (c .before .before .before .arrive .ensures) (c .arrived .ensures)
+returns c = λ second. measured answerOf (c .before .before .before .arrive .ensures second) (c .arrived .ensures)
 
 pub measure-unsequenced-spec : {M : Type 1} → statement M
 measure-unsequenced-spec =

@@ -14,8 +14,11 @@ linked-requires c κs = search needs
 same-length : tie.Need-same-length
 same-length c = search needs
 
+same-length-2 : tie.Need-same-length-2
+same-length-2 c = search needs
+
 returns : tie.Need-returns
-returns c = measured answerOf (c .before .before .before .call .ensures .0) (c .linked .ensures)
+returns c = measured answerOf (c .before .before .before .before .before .call .ensures .0) (c .linked .ensures)
 
 pub measure-link-send-spec : {M : Type 1} → statement M
-measure-link-send-spec = tie.close (tie.spec call-requires linked-requires same-length returns)
+measure-link-send-spec = tie.close (tie.spec call-requires linked-requires same-length same-length-2 returns)
