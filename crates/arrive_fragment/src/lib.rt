@@ -186,7 +186,13 @@ pub fn arrive(
         return Reply::Refused(why);
     }
     let standing = groups::standing(words);
-    let may = arrival::arrival_gate(SEND_FRAGMENT, arrival_of(a), settings, standing, datagram.len());
+    let may = arrival::arrival_gate(
+        SEND_FRAGMENT,
+        arrival_of(a),
+        settings,
+        standing,
+        datagram.len(),
+    );
     if let Gate::Shut(why) = may {
         return Reply::Refused(why);
     }

@@ -77,7 +77,10 @@ fn block_held(words: &[u32], count: u32) -> bool
 {
     let mut k: usize = 0;
     while k < CHANNELS && k < count as usize {
-        if block_in(words, places::CHANNELS + k * places::CHANNEL_WIDTH + places::HELD) {
+        if block_in(
+            words,
+            places::CHANNELS + k * places::CHANNEL_WIDTH + places::HELD,
+        ) {
             return true;
         }
         k = k + 1;

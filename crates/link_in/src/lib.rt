@@ -39,14 +39,7 @@ pub fn call(
             return Reply::Arrived(reply);
         }
         Call::FragmentArrival { piece } => {
-            let reply = arrive_fragment::arrive(
-                words,
-                settings,
-                store,
-                second,
-                datagram,
-                piece,
-            );
+            let reply = arrive_fragment::arrive(words, settings, store, second, datagram, piece);
             return Reply::Arrived(reply);
         }
         Call::Dispatch { channel } => {

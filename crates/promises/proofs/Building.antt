@@ -88,7 +88,7 @@ ready-there x k f =
       arith,
       passing-adds f x (dispatchedIn x) (held (below (x .peer .channels) (x .peer .standing .channels))),
       ap (λ (ss : List ℕ). count f (map (packetAt x) ss))
-      (those-all (isComplete x) (dispatchedIn x) (λ s h. eq-eqb (slotOf x s .remaining) 0 (k .out s h))),
+          (those-all (isComplete x) (dispatchedIn x) (λ s h. eq-eqb (slotOf x s .remaining) 0 (k .out s h))),
     )
 
 -- ---- slot s after a call: as it was, a block with its marks; or a packet that came whole
