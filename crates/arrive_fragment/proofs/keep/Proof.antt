@@ -46,7 +46,8 @@ returns-4 : tie.Need-returns-4
 returns-4 c store =
     let at-begin = c .before .before .before .before in
     let at-fate = to-fate at-begin in
-    let a = at-fate .before .before .before .before .before .args in
+    let at-start = at-fate .before .before .before .before .before in
+    let a = at-start .args in
     let b = at-begin .begin in
     let n = at-fate .fate .given in
     kept-first (a .a) (a .datagram .now) (whole (a .words .now)) (whole (b .last .0)) store (a .second .now) (b .last .1 .0) (a .fate) (n .0 .0) (n .1) (b .ensures .0) (b .ensures .1)
@@ -67,7 +68,8 @@ returns-5 : tie.Need-returns-5
 returns-5 c store =
     let at-add = c .before .before .before .before in
     let at-fate2 = to-fate2 at-add in
-    let a = at-fate2 .before .before .before .before .before .args in
+    let at-start = at-fate2 .before .before .before .before .before in
+    let a = at-start .args in
     let b = at-add .add in
     let n = at-fate2 .fate2 .given in
     kept-later (a .a) (a .datagram .now) (whole (a .words .now)) (whole (b .last .0)) store (a .second .now) (b .last .1 .0) (a .fate) (n .0 .0) (n .1) (b .ensures .0) (b .ensures .1)

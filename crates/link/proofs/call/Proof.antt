@@ -37,7 +37,8 @@ returns : tie.Need-returns
 returns c =
     let at-call = to-call c in
     let at-write = to-write at-call in
-    let a = at-write .before .before .before .before .before .args in
+    let at-start = at-write .before .before .before .before .before in
+    let a = at-start .args in
     let after = at-call .call .last .0 in
     let before : whole (at-write .write .last .0) ≡ a .peer = at-write .write .ensures in
     let came = subst (λ (p : Peer). Came answerOf (calls (a .settings) (a .call) (a .datagram .now) (record { peer = p; store = a .store .now; second = a .second .now })) (at-call .call .result) (record { peer = whole after; store = at-call .call .last .1 .1 .1 .0; second = at-call .call .last .1 .1 .1 .1 .0 })) before (at-call .call .ensures .0) in (

@@ -34,7 +34,8 @@ returns : tie.Need-returns
 returns c =
     let at-arrive = c .before .before in
     let at-call = to-call at-arrive in
-    let a = at-call .before .before .before .before .before .args in
+    let at-start = at-call .before .before .before .before .before in
+    let a = at-start .args in
     let x : State = record { peer = whole (a .words .now); store = a .store .now; second = a .second .now } in
     promised (a .settings) (a .call) (a .datagram .now) x arriving.answerOf vr.Arrived _ (at-call .call .given .1) _ refl refl _ refl _ (at-arrive .arrive .ensures (a .second .now))
 
@@ -51,7 +52,8 @@ returns-2 : tie.Need-returns-2
 returns-2 c =
     let at-arrive2 = c .before .before in
     let at-call2 = to-call2 at-arrive2 in
-    let a = at-call2 .before .before .before .before .before .args in
+    let at-start = at-call2 .before .before .before .before .before in
+    let a = at-start .args in
     let x : State = record { peer = whole (a .words .now); store = a .store .now; second = a .second .now } in
     promised (a .settings) (a .call) (a .datagram .now) x arriving.answerOf vr.Arrived _ (at-call2 .call2 .given .1) _ refl refl _ refl _ (at-arrive2 .arrive2 .ensures (a .second .now))
 
@@ -71,7 +73,8 @@ returns-3 : tie.Need-returns-3
 returns-3 c =
     let at-arrive3 = c .before .before in
     let at-call3 = to-call3 at-arrive3 in
-    let a = at-call3 .before .before .before .before .before .args in
+    let at-start = at-call3 .before .before .before .before .before in
+    let a = at-start .args in
     let x : State = record { peer = whole (a .words .now); store = a .store .now; second = a .second .now } in
     promised (a .settings) (a .call) (a .datagram .now) x arriving.answerOf vr.Arrived _ (at-call3 .call3 .given .1) _ refl refl _ refl _ (at-arrive3 .arrive3 .ensures)
 
@@ -84,7 +87,8 @@ dispatch-requires c κs = search needs
 returns-4 : tie.Need-returns-4
 returns-4 c =
     let at-call4 = c .before .before .before in
-    let a = at-call4 .before .before .before .before .before .args in
+    let at-start = at-call4 .before .before .before .before .before in
+    let a = at-start .args in
     let x : State = record { peer = whole (a .words .now); store = a .store .now; second = a .second .now } in
     promised (a .settings) (a .call) (a .datagram .now) x plain.answerOf vr.Called _ (at-call4 .call4 .given .1) _ refl refl _ refl _ (came-beside x _ (c .dispatch .ensures))
 
@@ -97,7 +101,8 @@ receive-requires c κs = search needs
 returns-5 : tie.Need-returns-5
 returns-5 c =
     let at-enum-told = c .before .before in
-    let a = at-enum-told .before .before .before .before .before .args in
+    let at-start = at-enum-told .before .before .before .before .before in
+    let a = at-start .args in
     let x : State = record { peer = whole (a .words .now); store = a .store .now; second = a .second .now } in
     promised (a .settings) (a .call) (a .datagram .now) x receiving.answerOf vr.Received _ (at-enum-told .enum-told .given .1) _ refl refl _ refl _ (came-beside x _ (c .receive .ensures))
 

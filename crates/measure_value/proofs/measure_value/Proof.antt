@@ -36,7 +36,8 @@ returns c =
     let at-call = c .before .before .before .before .before .before .before in
     let at-made = at-call .before .before .before in
     let at-meant = at-made .before in
-    let a = at-meant .before .before .before .before .before .args in
+    let at-start = at-meant .before .before .before .before .before in
+    let a = at-start .args in
     let k = at-call .call in
     same-outcome
     (ap₂ (λ (call : Call) (p : Peer). calls (settingsOf 1392) call (a .datagram .now) (record { peer = p; store = a .store .now; second = a .second .now })) (at-made .call-of .ensures) (at-meant .meant .ensures))

@@ -18,7 +18,9 @@ same-length-2 : tie.Need-same-length-2
 same-length-2 c = search needs
 
 returns : tie.Need-returns
-returns c = measured answerOf (c .before .before .before .before .before .call .ensures .0) (c .linked .ensures)
+returns c =
+    let at-call = c .before .before .before .before .before in
+    measured answerOf (at-call .call .ensures .0) (c .linked .ensures)
 
 pub measure-link-send-spec : {M : Type 1} → statement M
 measure-link-send-spec = tie.close (tie.spec call-requires linked-requires same-length same-length-2 returns)
