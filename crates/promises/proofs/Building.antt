@@ -3,14 +3,14 @@
 -- it was, or a packet that came whole; dispatch takes only what is complete; receive takes the marks only with the one block.
 use Prim.Native.Nat.{ℕ, zero, suc, _+_, _≤_, _<_}
 use mathlib.Core.Path.{_≡_, refl, ap, sym, subst, _∙_}
-use mathlib.Core.Bool.{Bool, true, false, not}
+use mathlib.Core.Bool.{Bool, true, false}
 use mathlib.Core.List.{List, [], _∷_, _++_, map}
 use native.Mathlib.Omega.{arith}
 use lib.Dec.{eqb}
 use lib.ListN.{length, take, getD, set}
-use lib.Seq.{take-set-lt, getD-set-same, getD-set-other}
+use lib.Seq.{getD-set-same, getD-set-other}
 use borrow.Author.Tests.{eqb-true, eqb-false, eq-eqb}
-use Rattle.numbers.specs.Pick.{pick, both}
+use Rattle.numbers.specs.Pick.{pick}
 use Rattle.numbers.specs.declared.counters.Group.{Group}
 use Rattle.numbers.proofs.BoolLaws.{both-left}
 use Rattle.record.specs.Lists.{inItems}
@@ -20,14 +20,14 @@ use Rattle.cells.specs.declared.Free.the-variants.{Lowest}
 use Rattle.record.specs.Fresh.{noIncoming}
 use Rattle.record.specs.Marks.{noMarks}
 use Rattle.record.specs.Blocks.{isBlock}
-use Rattle.record.specs.Damage.{below, held, blocks, usedIn}
+use Rattle.record.specs.Damage.{below, held, usedIn}
 use Rattle.record.specs.declared.groups.Channel.{Channel}
 use Rattle.record.specs.declared.groups.Incoming.{Incoming}
 use Rattle.record.specs.declared.groups.Marks.{Marks}
 use Rattle.record.specs.declared.groups.Unsequenced.{Unsequenced}
 use Rattle.peer.specs.Damage.{sound}
 use Rattle.peer.specs.Gate.{fits, gateOf}
-use Rattle.peer.specs.Outcome.{State, Outcome, finished, unchanged}
+use Rattle.peer.specs.Outcome.{State, Outcome, finished}
 use Rattle.peer.specs.Sounds.{Whole}
 use Rattle.peer.specs.Updates.{withUnsequenced}
 use Rattle.peer.specs.declared.settings.Settings.{Settings}
@@ -44,7 +44,7 @@ use Rattle.arrive_unsequenced.specs.Calls.{regrouped, judgedOn, arrivesUnsequen
 use Rattle.arrive_reliable.specs.Calls.{reliableAfter, arrivesReliable}
 use Rattle.dispatch.specs.Dispatching.{follows, numberAfter, readyCount}
 use Rattle.dispatch.specs.Calls.{dispatchGate, dispatchedOn, dispatchesSound, dispatches}
-use Rattle.dispatch.proofs.Calling.{chosen, ready as readyIn, dispatched-has}
+use Rattle.dispatch.proofs.Calling.{chosen, ready as readyIn}
 use Rattle.dispatch.proofs.Sound.{below-count}
 use Rattle.dispatch.proofs.Moving.{dispatch-order}
 use Rattle.receive.specs.Calls.{withoutFirst, clearedBy, taken, receivesFrom, receivesSound, receives}
@@ -57,7 +57,7 @@ use Rattle.link.specs.Runs.{Packet}
 use Rattle.promises.specs.Counts.{count, those}
 use Rattle.promises.specs.Reports.{dispatchedIn}
 use Rattle.promises.specs.Packets.{packetAt, ready, isComplete, present}
-use Rattle.promises.proofs.Presence.{named, passing-adds, Still}
+use Rattle.promises.proofs.Presence.{named, first-named, passing-adds, Still}
 use Rattle.promises.proofs.Passing.{dispatched-same}
 
 abbrev pub slotOf : State → ℕ → Incoming
@@ -77,10 +77,8 @@ those-all : (f : ℕ → Bool) (xs : List ℕ) → ((s : ℕ) → 0 < times xs s
 unfolding those
 those-all f [] h = refl
 those-all f (x ∷ xs) h =
-    ap (λ (b : Bool). pick b (x ∷ those f xs) (those f xs)) (h x first) ∙ ap (λ (ys : List ℕ). x ∷ ys) (those-all f xs (λ s p. h s (omega (arith, p))))
-  where
-    first : 0 < one x x + times xs x
-    first = rw (eq-eqb x x refl) (omega arith)
+    ap (λ (b : Bool). pick b (x ∷ those f xs) (those f xs)) (h x (first-named x xs))
+    ∙ ap (λ (ys : List ℕ). x ∷ ys) (those-all f xs (λ s p. h s (omega (arith, p))))
 
 pub ready-there : {B : OfBlock} (x : State) → Stock B x → (f : Packet → Bool) → count f (ready x) ≤ count f (present x)
 ready-there x k f =

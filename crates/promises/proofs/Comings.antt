@@ -1,5 +1,5 @@
 -- What comes out is what went in, each packet once, in the order in which they joined dispatched; each is reliable or unsequenced, and on each channel
--- the reliable ones bear the numbers 1, 2, 3 and so on. The argument: every call lets packets pass as Presence says, whatever it answers; a run is one
+-- the reliable ones take the numbers 1, 2, 3 and so on. The argument: every call lets packets pass as Presence says, whatever it answers; a run is one
 -- call after another, and a reset that is done begins with nothing. A channel's reliable ones that joined are those that `reports` tells of, and what
 -- came out is the front of what joined.
 use Prim.Native.Nat.{ℕ, _≤_}
@@ -30,7 +30,7 @@ use Rattle.arrive_fragment.specs.Calls.{arrivesFragment}
 use Rattle.link_out.specs.Steps.{callsOut}
 use Rattle.link_in.specs.Steps.{beside}
 use Rattle.link.specs.Steps.{calls}
-use Rattle.link.specs.Runs.{Asked, comesTo, Packet, handed, packetsOf, run, resetState}
+use Rattle.link.specs.Runs.{Asked, comesTo, Packet, handed, run, resetState}
 use Rattle.link_in.specs.declared.calls.Call.the-variants as inw
 use Rattle.link.specs.declared.calls.Call.{Call}
 use Rattle.link.specs.declared.calls.Call.the-variants as call
@@ -187,7 +187,8 @@ begin-next s mtu count datagram x l h =
         none-numbers channel ∙ ap (numbersOn channel) (sym (h .none (begin-at s mtu count (x .peer) .at (eqb-true (o .answer .number) 0 e))))
     go channel false e = refl
 
-call-next : (c : Call) (s : Settings) (datagram : List ℕ) (x : State) (l : Ledger) → Whole (x .peer) → Stock (Blocked (l .building)) x → Stock (Blocked (written c datagram x (calls s c datagram x) l .building)) (calls s c datagram x .after)
+call-next : (c : Call) (s : Settings) (datagram : List ℕ) (x : State) (l : Ledger) → Whole (x .peer) → Stock (Blocked (l .building)) x
+    → Stock (Blocked (written c datagram x (calls s c datagram x) l .building)) (calls s c datagram x .after)
     → Sorted l x → Holds s c datagram x l → Next c datagram x (calls s c datagram x) l
 call-next call.Reset s datagram x l w k v h b = reset-next s datagram x l h
 call-next (call.Begin mtu channels) s datagram x l w k v h b = begin-next s mtu channels datagram x l h

@@ -7,16 +7,16 @@ use mathlib.Core.Bool.{Bool, true, false, not}
 use mathlib.Core.List.{List, [], _∷_, _++_}
 use native.Mathlib.Omega.{arith}
 use lib.Dec.{eqb, leb, ltb}
-use lib.ListN.{length, take, drop, getD, replicate, length-take, length-append, length-replicate}
+use lib.ListN.{length, take, drop, replicate, length-take, length-append, length-replicate}
 use lib.Seq.{getD-take}
 use borrow.Author.Tests.{eqb-true, eqb-false, eq-eqb, ne-eqb}
 use Rattle.numbers.specs.Pick.{pick, both}
 use Rattle.numbers.proofs.BoolLaws.{both-left}
 use Rattle.record.specs.Lists.{inItems}
-use Rattle.record.proofs.Keeps.{one, times, times-append, once-at-most}
+use Rattle.record.proofs.Keeps.{times, times-append, once-at-most}
 use Rattle.cells.specs.declared.First.{First}
 use Rattle.cells.specs.declared.First.the-variants.{Slot, Empty}
-use Rattle.record.specs.Fresh.{noChannel, noIncoming}
+use Rattle.record.specs.Fresh.{noChannel}
 use Rattle.record.specs.Sizes.{cell, secondLength}
 use Rattle.record.specs.Marks.{noMarks, pieceMarked, withPiece}
 use Rattle.record.specs.Blocks.{isBlock, blockFit}
@@ -37,7 +37,7 @@ use Rattle.peer.proofs.Clauses.{all-at}
 use Rattle.peer.proofs.Gates.{behind-has}
 use Rattle.peer.proofs.InClauses.{incoming-clauses}
 use Rattle.peer.proofs.Ranges.{count-high}
-use Rattle.arrival.specs.Arrivals.{names, stored, passedOver, arrivalGate}
+use Rattle.arrival.specs.Arrivals.{names, arrivalGate}
 use Rattle.arrive_unsequenced.specs.Calls.{sendUnsequenced}
 use Rattle.arrive_reliable.specs.Calls.{sendReliable}
 use Rattle.arrive_fragment.specs.Pieces.{channelOf, unfinishedOn}
@@ -53,7 +53,7 @@ use Rattle.laws.proofs.FragmentStores.{first-slot, first-others, first-remainin
 use Rattle.link.specs.Runs.{saysOne, Packet}
 use Rattle.promises.specs.Counts.{count}
 use Rattle.promises.specs.Reports.{dispatchedIn}
-use Rattle.promises.specs.Packets.{packetAt, isComplete, Building, pieceWritten, withWrite, blockBuilt, isReliable, isEither}
+use Rattle.promises.specs.Packets.{packetAt, Building, pieceWritten, withWrite, blockBuilt, isReliable, isEither}
 use Rattle.promises.proofs.Answers.{refused-one}
 use Rattle.promises.proofs.Presence.{named, count-none, passing, passing-adds, passing-one, Passes, still, still-passes}
 use Rattle.promises.proofs.Building.{slotOf, OfBlock, Stock, differ}
@@ -143,7 +143,7 @@ packet-is : {c d y z m n f g : ℕ} {bs cs : List ℕ} → c ≡ d → y ≡ z �
     → _≡_ {A = Packet} (record { channel = c; byte = y; number = m; fragments = f; bytes = bs }) (record { channel = d; byte = z; number = n; fragments = g; bytes = cs })
 packet-is h i j k l = cc
 
-same-test : (a b c d : ℕ) → (a ≡ b → c ≡ d) → (c ≡ d → a ≡ b) → eqb a b ≡ eqb c d
+pub same-test : (a b c d : ℕ) → (a ≡ b → c ≡ d) → (c ≡ d → a ≡ b) → eqb a b ≡ eqb c d
 same-test a b c d f g = go (eqb c d) refl
   where
     go : (t : Bool) → eqb c d ≡ t → eqb a b ≡ t

@@ -1,5 +1,5 @@
--- The calls that let packets pass: dispatch, receive and the two arrivals.
--- The argument: dispatch names each slot as often as before; receive takes dispatched's head; an arrival that is stored adds one slot, free before, to
+-- The calls that let packets pass: dispatch, receive and the arrivals of packets (of pieces: Piecing, Fragments).
+-- The argument: dispatch names each slot as often as before; receive takes dispatched's head, which is complete; an arrival that is stored adds one slot, free before, to
 -- what is named, at the end of dispatched or in its channel's list.
 use Prim.Native.Nat.{ℕ, _+_, _*_, _<_}
 use mathlib.Core.Path.{_≡_, refl, ap, _∙_}
@@ -7,8 +7,6 @@ use mathlib.Core.Bool.{Bool, true, false}
 use mathlib.Core.List.{List, [], _∷_, _++_}
 use lib.ListN.{length, take, drop, getD}
 use lib.Seq.{take-set-lt}
-use native.Mathlib.Omega.{arith}
-use borrow.Author.Tests.{eq-eqb}
 use Rattle.numbers.specs.Pick.{pick}
 use Rattle.numbers.specs.Answers.{refused}
 use Rattle.numbers.specs.declared.counters.Group.{Group}
@@ -56,7 +54,7 @@ use Rattle.link_in.specs.Steps.{beside}
 use Rattle.link.specs.Runs.{saysOne, saysTwo, Packet, handed}
 use Rattle.promises.specs.Packets.{packetAt, isComplete, payload}
 use Rattle.promises.proofs.Answers.{refused-one, refused-two}
-use Rattle.promises.proofs.Presence.{named, Sums, Passes, still, still-passes, joins-passes, takes-passes, stored-passes}
+use Rattle.promises.proofs.Presence.{named, Sums, first-named, Passes, still, still-passes, joins-passes, takes-passes, stored-passes}
 
 -- ---- dispatch: any sum over what is named is as it was
 module _ (channel : ℕ) (p : Peer) (whole : Whole p) (good : sound p ≡ true) (h : channel < p .standing .channels) where
@@ -123,7 +121,7 @@ receive-passes s x done =
         let l = x .peer .lists in
         let cs = below (x .peer .channels) (x .peer .standing .channels) in
         let left = shorter-items (l .dispatched) n rest e in
-        let here : 0 < times (inItems (l .dispatched)) n = rw e (rw (eq-eqb n n refl) (omega arith)) in
+        let here : 0 < times (inItems (l .dispatched)) n = rw e (first-named n rest) in
         rw (handed-head x n)
         (takes-passes x (taken n (x .peer)) n rest (rest ++ held cs) refl e left (used-from l cs (n ∷ rest) e) (used-from (withoutFirst l) cs rest left) (done n here))
 

@@ -8,10 +8,10 @@ use mathlib.Core.List.{List, [], _∷_, _++_, map, append-nil}
 use native.Mathlib.Omega.{arith}
 use lib.Dec.{eqb}
 use lib.ListN.{take, drop}
-use borrow.Author.Tests.{eqb-true, eqb-false, eq-eqb}
+use borrow.Author.Tests.{eqb-true, eqb-false}
 use Rattle.numbers.specs.Pick.{pick}
 use Rattle.record.specs.Lists.{inItems}
-use Rattle.record.proofs.Keeps.{one, times, times-append}
+use Rattle.record.proofs.Keeps.{times, times-append}
 use Rattle.record.specs.Sizes.{cell}
 use Rattle.record.specs.Blocks.{isBlock}
 use Rattle.record.specs.Damage.{all, below, held}
@@ -31,7 +31,7 @@ use Rattle.promises.specs.Counts.{count}
 use Rattle.promises.specs.Reports.{dispatchedIn}
 use Rattle.promises.specs.Packets.{packetAt, ready, isComplete, newly}
 use Rattle.link.specs.Runs.{Packet}
-use Rattle.promises.proofs.Presence.{named, count-none, map-same, passing, passing-adds, passing-one, passing-same, Passes, grown, ofSlot, holding, joins-passes}
+use Rattle.promises.proofs.Presence.{named, count-none, first-named, map-same, passing, passing-adds, passing-one, passing-same, Passes, grown, ofSlot, holding, joins-passes}
 use Rattle.promises.proofs.Passing.{dispatched-same}
 use Rattle.promises.proofs.Building.{slotOf, OfBlock, Stock, differ, dispatched-stock}
 use Rattle.promises.proofs.Sorts.{Joined, slots-joined, moved-own}
@@ -79,9 +79,6 @@ module _ (x z : State) (n : ℕ) (standing : z .peer .standing ≡ x .peer .stan
       rest : (s : ℕ) → 0 < times xs s → 0 < times (named (x .peer)) s
       rest s h = inside s (omega (arith, h))
 
-      first : 0 < one t t + times xs t
-      first = rw (eq-eqb t t refl) (omega arith)
-
       go : (b : Bool) → eqb t n ≡ b → pick b 1 0 + times xs n ≡ 1 → (times xs n ≡ 1 → passing f z xs ≡ passing f z (n ∷ []) + passing f x xs)
           → passing f z (t ∷ xs) ≡ passing f z (n ∷ []) + passing f x (t ∷ xs)
       go true e once more =
@@ -99,7 +96,7 @@ module _ (x z : State) (n : ℕ) (standing : z .peer .standing ≡ x .peer .stan
           let other = eqb-false t n e in
           let same =
           passing-one f z t
-          ∙ ap₂ (λ (b : Bool) (k : Packet). count f (pick b (k ∷ []) [])) (same-done t other) (same-packet t (inside t first) other)
+          ∙ ap₂ (λ (b : Bool) (k : Packet). count f (pick b (k ∷ []) [])) (same-done t other) (same-packet t (inside t (first-named t xs)) other)
           ∙ sym (passing-one f x t) in
           omega (arith, passing-adds f z (t ∷ []) xs, passing-adds f x (t ∷ []) xs, same, more (omega (arith, once)))
 

@@ -1,6 +1,6 @@
 -- What one call may do to the packets that are there: take some out at dispatched's head, put one in, let some join dispatched; and so to the ledger.
 -- The argument: how many packets of some slots pass a test adds up over lists joined, so that lists which name each slot as often count the same; a
--- slot that stays named holds what it held, since a call that stores writes a free slot and its cell alone.
+-- slot that stays named holds what it held, since an arrival that is stored writes a free slot and its cell alone (a piece: Piecing). An unfinished block is none yet.
 use Prim.Native.Nat.{ℕ, suc, _+_, _*_, _≤_, _<_}
 use mathlib.Core.Path.{_≡_, refl, ap, ap₂, sym, _∙_}
 use mathlib.Core.Bool.{Bool, true, false}
@@ -14,7 +14,7 @@ use borrow.Author.Tests.{eq-eqb, leb-true, ltb-true, ltb-false}
 use Rattle.numbers.specs.Pick.{pick}
 use Rattle.numbers.proofs.BoolLaws.{both-left}
 use Rattle.record.specs.Lists.{inItems}
-use Rattle.record.proofs.Keeps.{one, times, times-append}
+use Rattle.record.proofs.Keeps.{times, times-append}
 use Rattle.record.specs.Sizes.{cell}
 use Rattle.record.specs.Fresh.{noIncoming}
 use Rattle.record.specs.Blocks.{isBlock, blockFit}
@@ -83,13 +83,14 @@ passing-one f x n = go (isComplete x n)
 pub passing-whole : (f : Packet → Bool) (x : State) (n : ℕ) → isComplete x n ≡ true → passing f x (n ∷ []) ≡ count f (packetAt x n ∷ [])
 passing-whole f x n e = passing-one f x n ∙ ap (λ (b : Bool). count f (pick b (packetAt x n ∷ []) [])) e
 
+-- a list's head is named
+pub first-named : (s : ℕ) (xs : List ℕ) → 0 < times (s ∷ xs) s
+first-named s xs = rw (eq-eqb s s refl) (omega arith)
+
 -- what is the same in every slot of a list
 pub map-same : (f g : ℕ → Packet) (xs : List ℕ) → ((s : ℕ) → 0 < times xs s → f s ≡ g s) → map f xs ≡ map g xs
 map-same f g [] h = refl
-map-same f g (x ∷ xs) h = ap₂ (λ (k : Packet) (ks : List Packet). k ∷ ks) (h x first) (map-same f g xs (λ s p. h s (omega (arith, p))))
-  where
-    first : 0 < one x x + times xs x
-    first = rw (eq-eqb x x refl) (omega arith)
+map-same f g (x ∷ xs) h = ap₂ (λ (k : Packet) (ks : List Packet). k ∷ ks) (h x (first-named x xs)) (map-same f g xs (λ s p. h s (omega (arith, p))))
 
 -- and of those that are complete
 pub passing-same : (f : Packet → Bool) (x y : State) (xs : List ℕ) → ((s : ℕ) → 0 < times xs s → packetAt y s ≡ packetAt x s)
@@ -97,13 +98,11 @@ pub passing-same : (f : Packet → Bool) (x y : State) (xs : List ℕ) → ((s :
 unfolding those
 passing-same f x y [] h c = refl
 passing-same f x y (s ∷ xs) h c =
+    let here = first-named s xs in
     let same =
-    passing-one f y s ∙ ap₂ (λ (b : Bool) (k : Packet). count f (pick b (k ∷ []) [])) (c s first) (h s first) ∙ sym (passing-one f x s) in
+    passing-one f y s ∙ ap₂ (λ (b : Bool) (k : Packet). count f (pick b (k ∷ []) [])) (c s here) (h s here) ∙ sym (passing-one f x s) in
     let rest = passing-same f x y xs (λ t p. h t (omega (arith, p))) (λ t p. c t (omega (arith, p))) in
     passing-adds f y (s ∷ []) xs ∙ ap₂ (λ (a b : ℕ). a + b) same rest ∙ sym (passing-adds f x (s ∷ []) xs)
-  where
-    first : 0 < one s s + times xs s
-    first = rw (eq-eqb s s refl) (omega arith)
 
 -- ---- one call: `put` went in, `out` came out
 pub record Passes (x y : State) (put out : List Packet) : Type 0 where

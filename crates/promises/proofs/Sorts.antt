@@ -1,5 +1,5 @@
 -- What goes in and what joins dispatched, by its kind: what is stored is reliable or unsequenced by its byte; what joins by an unsequenced arrival is its
--- payload, what joins by a reliable one or a dispatch is of its channel, and by no other call anything joins. The argument: a stored arrival passed its
+-- payload, what joins by a reliable one, a piece (Piecing) or a dispatch is of its channel, and by no other call anything joins. The argument: a stored arrival passed its
 -- gate; a sound record's channel lists hold slots of their own channel; nothing arrives before begin, which alone makes channels count.
 use Prim.Native.Nat.{ℕ, zero, suc, _+_, _%_, _≤_, _<_}
 use mathlib.Core.Path.{_≡_, refl, ap, sym, _∙_}

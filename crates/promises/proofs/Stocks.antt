@@ -1,7 +1,7 @@
 -- What stands in the slots, through every call: the marks stay by the calls that bring and take nothing in, a reset leaves no slot named, and each other call has its law.
 -- The argument: none of those calls names the marks; the rest is Building's and Fragments'.
 use Prim.Native.Nat.{ℕ}
-use mathlib.Core.Path.{_≡_, refl, ap, _∙_}
+use mathlib.Core.Path.{_≡_, refl, _∙_}
 use mathlib.Core.Bool.{Bool, true, false}
 use mathlib.Core.List.{List, [], _∷_}
 use native.Mathlib.Omega.{arith}

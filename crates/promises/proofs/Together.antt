@@ -8,28 +8,23 @@ use mathlib.Core.List.{List, [], _∷_, _++_, map, map-append}
 use native.Mathlib.Omega.{arith}
 use lib.Dec.{eqb, leb}
 use lib.ListN.{length, take, length-replicate}
-use borrow.Author.Tests.{eqb-true, eqb-false, eq-eqb, ne-eqb, leb-true}
+use borrow.Author.Tests.{eqb-true, eq-eqb, leb-true}
 use Rattle.numbers.specs.Pick.{pick, both}
-use Rattle.numbers.specs.declared.refusals.Refusal.the-variants.{OutOfRange}
 use Rattle.numbers.proofs.BoolLaws.{both-left, both-right, both-true, both-false}
 use Rattle.cells.specs.Runs.{has}
 use Rattle.record.proofs.Keeps.{has-append}
 use Rattle.record.specs.Sizes.{secondLength}
 use Rattle.record.specs.Marks.{mostPieces, noMarks, pieceMarked, withPiece}
-use Rattle.record.specs.Blocks.{mostBytes, blockFit}
+use Rattle.record.specs.Blocks.{mostBytes}
 use Rattle.record.specs.declared.groups.Incoming.{Incoming}
 use Rattle.record.specs.declared.groups.Marks.{Marks}
-use Rattle.blocks.specs.Blocks.{oneLess}
 use Rattle.blocks.specs.Writing.{Write, allWritten}
 use Rattle.blocks.proofs.BlockLaws.{complete}
 use Rattle.blocks.proofs.MarkLaws.{marked-with, marked-none}
 use Rattle.packets.specs.declared.Cut.{Cut}
-use Rattle.peer.specs.Fresh.{freshPeer}
-use Rattle.peer.specs.Settings.{fitSettings}
-use Rattle.peer.specs.Outcome.{State, Outcome, finished, unchanged}
+use Rattle.peer.specs.Outcome.{State}
 use Rattle.peer.specs.Sounds.{Whole}
 use Rattle.peer.specs.declared.settings.Settings.{Settings}
-use Rattle.peer.specs.declared.defaults.Kept.{Kept}
 use Rattle.lifecycle.specs.Calls.{kept}
 use Rattle.arrival.specs.declared.Arrival.{Arrival}
 use Rattle.arrive_unsequenced.specs.Calls.{arrivesUnsequenced}
@@ -37,23 +32,21 @@ use Rattle.arrive_reliable.specs.Calls.{arrivesReliable}
 use Rattle.arrive_fragment.specs.Pieces.{unfinishedOn}
 use Rattle.arrive_fragment.specs.Calls.{arrivesFragment}
 use Rattle.arrive_fragment.specs.declared.Piece.{Piece}
-use Rattle.laws.specs.Assembling.{CutOf, pieceWrite, Comes}
+use Rattle.laws.specs.Assembling.{CutOf, pieceWrite}
 use Rattle.laws.proofs.Assembling.{assembled}
-use Rattle.laws.proofs.Fates.{FieldsFit}
-use Rattle.link_in.specs.Steps.{beside}
 use Rattle.link.specs.Steps.{calls}
-use Rattle.link.specs.Runs.{Asked, comesTo, saysOne, Packet, run, resetState}
+use Rattle.link.specs.Runs.{Asked, comesTo, saysOne, Packet, resetState}
 use Rattle.link_in.specs.declared.calls.Call.the-variants as inw
 use Rattle.link.specs.declared.calls.Call.{Call}
 use Rattle.link.specs.declared.calls.Call.the-variants as call
 use Rattle.promises.specs.Counts.{count, those}
-use Rattle.promises.specs.Packets.{payload, Building, pieceWritten, builds, blockBuilt, putIn, Ledger, freshLedger, entered, isReset, writes, ledger}
+use Rattle.promises.specs.Packets.{payload, Building, builds, blockBuilt, putIn, Ledger, freshLedger, entered, isReset, writes, ledger}
 use Rattle.promises.specs.Blocks.{IsPieceOf, OnlyPieces, AllOnly, isBlockOf, AllBytes, CutTogether}
 use Rattle.promises.proofs.Sounding.{fresh-whole, call-sounds}
 use Rattle.promises.proofs.Presence.{count-append, count-none}
-use Rattle.promises.proofs.Building.{OfBlock, Stock}
-use Rattle.promises.proofs.Fragments.{zeros, Blocked, blocked-grows, Own, Grows, built, Complete, fragment-pieced}
-use Rattle.promises.proofs.Stocks.{written, fresh-stock, GrowsBy, call-stock}
+use Rattle.promises.proofs.Building.{Stock}
+use Rattle.promises.proofs.Fragments.{zeros, Blocked, blocked-grows, Grows, built, Complete, same-test, fragment-pieced}
+use Rattle.promises.proofs.Stocks.{fresh-stock, GrowsBy, call-stock}
 use Rattle.promises.proofs.Sorts.{put-none}
 use Rattle.promises.proofs.Comings.{joined-stored}
 
@@ -78,16 +71,9 @@ same-self [] = refl
 same-self (x ∷ xs) = both-true (eqb x x) (same xs xs) (eq-eqb x x refl) (same-self xs)
 
 -- ---- marks and the numbers in an order
-eqb-turn : (a b : ℕ) → eqb a b ≡ eqb b a
-eqb-turn a b = go (eqb b a) refl
-  where
-    go : (t : Bool) → eqb b a ≡ t → eqb a b ≡ t
-    go true e = eq-eqb a b (sym (eqb-true b a e))
-    go false e = ne-eqb a b (λ z. eqb-false b a e (sym z))
-
 one-more : (order : List ℕ) (j k : ℕ) → has (order ++ (j ∷ [])) k ≡ pick (eqb k j) true (has order k)
 one-more order j k =
-    has-append order (j ∷ []) k ∙ ap (λ (t : Bool). pick (has order k) true (pick t true false)) (eqb-turn j k) ∙ either (has order k) (eqb k j)
+    has-append order (j ∷ []) k ∙ ap (λ (t : Bool). pick (has order k) true (pick t true false)) (same-test j k k j sym sym) ∙ either (has order k) (eqb k j)
   where
     either : (s t : Bool) → pick s true (pick t true false) ≡ pick t true s
     either true true = refl
