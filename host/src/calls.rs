@@ -207,13 +207,17 @@ pub enum Kind {
 /// A call of a kind that the compiler of the link does not know, with its two numbers.
 pub fn link(words: &mut Record, kind: Kind, a: u32, b: u32) -> u32 {
     let (words, bytes, end) = (words.as_mut_ptr(), DATAGRAM.as_ptr(), DATAGRAM.len());
-    unsafe { measure_link(words, store(), ROOM, second(), SECOND_ROOM, bytes, end, kind as u32, a, b) }
+    unsafe {
+        measure_link(words, store(), ROOM, second(), SECOND_ROOM, bytes, end, kind as u32, a, b)
+    }
 }
 
 /// The same on a record by value: read from its numbers, and written back.
 pub fn value(words: &mut Record, kind: Kind, a: u32, b: u32) -> u32 {
     let (words, bytes, end) = (words.as_mut_ptr(), DATAGRAM.as_ptr(), DATAGRAM.len());
-    unsafe { measure_value(words, store(), ROOM, second(), SECOND_ROOM, bytes, end, kind as u32, a, b) }
+    unsafe {
+        measure_value(words, store(), ROOM, second(), SECOND_ROOM, bytes, end, kind as u32, a, b)
+    }
 }
 
 /// That reading and writing alone.
@@ -225,7 +229,9 @@ pub fn copies(words: &mut Record) -> u32 {
 /// The send of a packet that goes out whole, as data that the compiler knows.
 pub fn link_send(words: &mut Record) -> u32 {
     let (words, bytes, end) = (words.as_mut_ptr(), DATAGRAM.as_ptr(), DATAGRAM.len());
-    unsafe { measure_link_send(words, store(), ROOM, second(), SECOND_ROOM, bytes, end, WHOLE, RELIABLE) }
+    unsafe {
+        measure_link_send(words, store(), ROOM, second(), SECOND_ROOM, bytes, end, WHOLE, RELIABLE)
+    }
 }
 
 #[allow(unused_unsafe)] // an older compiler wants it
