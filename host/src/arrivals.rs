@@ -1,12 +1,19 @@
 //! The source's arrivals, with the packet that they allocate, its dispatch and its receive. What a round needs is made
 //! before it and freed after it, outside the clock; every count is of wrong answers.
 
-use enet::{Arrival, Datagram, Receiver};
+use enet::{Arrival, Datagram, Piece, Receiver};
 
-use crate::{calls::DATAGRAM, clock, clock::least, TURNS};
+use crate::{
+    calls::DATAGRAM,
+    clock,
+    clock::least,
+    few::{timed, PLACES},
+    TURNS,
+};
 
 const UNSEQUENCED: u8 = 73;
 const RELIABLE: u8 = 134;
+const FRAGMENT: u8 = 136;
 
 /// So many groups are taken: this one for each turn.
 pub fn unsequenced(group: fn(u16) -> u16) -> (f64, u32) {
@@ -16,6 +23,23 @@ pub fn unsequenced(group: fn(u16) -> u16) -> (f64, u32) {
 /// So many numbers come: this one for each turn.
 pub fn reliable(number: fn(u16) -> u16) -> (f64, u32) {
     arrive(|turn| datagram(RELIABLE, number(turn), 0))
+}
+
+/// A piece of a block of two, of which these came before.
+pub fn fragment(before: &[u32], number: u32) -> (f64, u32) {
+    let (mut receivers, mut wrong) = (PLACES.map(|_| Receiver::default()), 0);
+    let (held, datagram) = (before.iter().map(|number| piece(*number)), piece(number));
+    let held: Vec<Datagram> = held.collect();
+    let time = timed(|| {
+        for receiver in &mut receivers {
+            receiver.renew();
+            wrong += held.iter().map(|one| u32::from(receiver.arrive(one) != 0)).sum::<u32>();
+        }
+        clock::time(&PLACES, |place| {
+            wrong += u32::from(receivers[*place].arrive(&datagram) != 0);
+        })
+    });
+    (time, wrong)
 }
 
 /// Every second number is held: so each dispatch finds one ready, or finds that the first has to wait.
@@ -69,4 +93,23 @@ fn turns() -> [u16; TURNS] {
 fn datagram(byte: u8, number: u16, group: u16) -> Datagram {
     let length = DATAGRAM.len() as u16;
     Receiver::make(&Arrival { byte, channel: 0, number, group, length, rest: &DATAGRAM })
+}
+
+/// The same piece that `calls::fragment` hands over.
+fn piece(piece: u32) -> Datagram {
+    let length = DATAGRAM.len() as u16;
+    let (total, offset) = (2 * u32::from(length), piece * u32::from(length));
+    let rest = &DATAGRAM;
+    Receiver::make_piece(&Piece {
+        byte: FRAGMENT,
+        channel: 0,
+        number: 1,
+        start: 1,
+        length,
+        count: 2,
+        piece,
+        total,
+        offset,
+        rest,
+    })
 }

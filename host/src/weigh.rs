@@ -44,7 +44,7 @@ const TURNS: usize = 500;
 /// A call of the source: its time, and how many of its answers are wrong.
 type Source = (&'static str, fn() -> (f64, u32));
 
-const SOURCES: [Source; 21] = [
+const SOURCES: [Source; 24] = [
     ("send, 100 bytes", || sends::source(WHOLE)),
     ("send, 32 pieces", || sends::source(PIECES)),
     ("reset", sends::reset),
@@ -55,6 +55,9 @@ const SOURCES: [Source; 21] = [
     ("unsequenced arrival, passed over", || arrivals::unsequenced(|_| DISTANT)),
     ("reliable arrival", || arrivals::reliable(|turn| turn + NEXT)),
     ("reliable arrival, passed over", || arrivals::reliable(|_| LAST)),
+    ("fragment arrival, first piece", || arrivals::fragment(&[], 0)),
+    ("fragment arrival, last piece", || arrivals::fragment(&[0], 1)),
+    ("fragment arrival, passed over", || arrivals::fragment(&[0], 0)),
     ("dispatch, 1 ready", || arrivals::dispatch(true)),
     ("dispatch, 1 waits", || arrivals::dispatch(false)),
     ("receive", arrivals::receive),
@@ -253,15 +256,13 @@ fn receive(table: &mut Table) {
     table.row("receive", &delivered(), calls::receive, 1);
 }
 
-/// Beside the source's reliable arrival: the first piece clears the second store, the last dispatches the block.
+/// The first piece clears the second store, the last dispatches the block.
 fn fragments(table: &mut Table) {
     let pieces: [fn(&mut Record) -> u32; 2] =
         [|words| calls::fragment(words, 0), |words| calls::fragment(words, 1)];
-    let beside = "reliable arrival";
-    table.beside(["fragment arrival, first piece", beside], &connected(), pieces[0], 1);
-    table.beside(["fragment arrival, last piece", beside], &begun(), pieces[1], 1);
-    let passed = "reliable arrival, passed over";
-    table.beside(["fragment arrival, passed over", passed], &begun(), pieces[0], 0);
+    table.row("fragment arrival, first piece", &connected(), pieces[0], 1);
+    table.row("fragment arrival, last piece", &begun(), pieces[1], 1);
+    table.row("fragment arrival, passed over", &begun(), pieces[0], 0);
     table.beside(["receive, a block", "receive"], &block(), calls::receive, 2);
 }
 

@@ -96,13 +96,9 @@ impl Bench {
 
     /// The loaded peer's piece.
     unsafe fn hand_piece(&mut self, nodes: &Nodes, room: Room, piece: &Piece) -> Pieced {
-        let &Piece { byte, channel, number, start, length, count, piece: own, total, .. } = piece;
-        let fields = [start.into(), length.into(), count, own, total, piece.offset];
-        // The source's loop has swapped the number before.
-        let command = write(byte, channel, number.to_be(), KIND, &fields);
         let before = block(nodes).map(|node| (node, (*node).fragments_remaining));
         let handler = opened::handle_send_fragment;
-        let returned = self.handled(handler, &command, piece.rest, length, room);
+        let returned = self.handled(handler, &command(piece), piece.rest, piece.length, room);
         let new = self.new_node(nodes).map(|node| node.cast());
         if let Some(node) = new {
             clear(node, piece);
@@ -112,6 +108,13 @@ impl Bench {
         let block = stored.map_or_else(Vec::new, |node| bytes(node));
         Pieced { verdict: verdict(returned, stored.is_some()), block }
     }
+}
+
+/// The command as it lies in a datagram, but for its number: the source's loop has swapped that before.
+pub(super) fn command(piece: &Piece) -> Vec<u8> {
+    let &Piece { byte, channel, number, start, length, count, piece: own, total, .. } = piece;
+    let fields = [start.into(), length.into(), count, own, total, piece.offset];
+    write(byte, channel, number.to_be(), KIND, &fields)
 }
 
 /// The node of a sound record's block.

@@ -6,10 +6,13 @@ use std::{
     ptr::{addr_of_mut, null_mut},
 };
 
-use super::arrival::{command, handler, Arrival, Handler};
+use super::{
+    arrival::{command, handler, Arrival, Handler},
+    piece::{self, Piece},
+};
 use crate::{
-    enet_packet_destroy, enet_peer_dispatch_incoming_reliable_commands, enet_peer_receive, Bench,
-    ENetPacket, ENetProtocol,
+    enet_packet_destroy, enet_peer_dispatch_incoming_reliable_commands, enet_peer_receive, opened,
+    Bench, ENetPacket, ENetProtocol,
 };
 
 /// A connected peer of one channel to which nothing came yet.
@@ -28,11 +31,11 @@ pub struct Taken(*mut ENetPacket);
 
 impl Receiver {
     pub fn make(arrival: &Arrival) -> Datagram {
-        let command = command(arrival);
-        let mut bytes = [&command, arrival.rest].concat();
-        // The source copies a whole union from the command's place.
-        bytes.resize(bytes.len().max(size_of::<ENetProtocol>()), 0);
-        Datagram { bytes, payload: command.len(), handler: handler(arrival) }
+        datagram(&command(arrival), arrival.rest, handler(arrival))
+    }
+
+    pub fn make_piece(piece: &Piece) -> Datagram {
+        datagram(&piece::command(piece), piece.rest, opened::handle_send_fragment)
     }
 
     /// The source's handler and nothing else, with the packet that it allocates; 0 unless it refuses.
@@ -69,6 +72,13 @@ impl Receiver {
     }
 }
 
+fn datagram(command: &[u8], rest: &[u8], handler: Handler) -> Datagram {
+    let mut bytes = [command, rest].concat();
+    // The source copies a whole union from the command's place.
+    bytes.resize(bytes.len().max(size_of::<ENetProtocol>()), 0);
+    Datagram { bytes, payload: command.len(), handler }
+}
+
 impl Drop for Taken {
     fn drop(&mut self) {
         unsafe { enet_packet_destroy(self.0) }
@@ -84,6 +94,24 @@ mod tests {
     fn arrival(byte: u8, number: u16, group: u16) -> Datagram {
         let length = PAYLOAD.len() as u16;
         Receiver::make(&Arrival { byte, channel: 0, number, group, length, rest: &PAYLOAD })
+    }
+
+    /// A piece of a block of two at number 1.
+    fn half(piece: u32) -> Datagram {
+        let (length, total, offset) = (PAYLOAD.len() as u16, 8, 4 * piece);
+        let fields = Piece {
+            byte: 136,
+            channel: 0,
+            number: 1,
+            start: 1,
+            length,
+            count: 2,
+            piece,
+            total,
+            offset,
+            rest: &PAYLOAD,
+        };
+        Receiver::make_piece(&fields)
     }
 
     #[test]
@@ -103,6 +131,17 @@ mod tests {
         receiver.dispatch(0);
         assert!(receiver.receive().is_none());
         receiver.dispatch(1);
+        assert!(receiver.receive().is_some());
+        assert!(receiver.receive().is_none());
+    }
+
+    #[test]
+    fn a_block_comes_out_when_its_last_piece_is_there() {
+        let mut receiver = Receiver::default();
+        for piece in [1, 1, 0] {
+            assert!(receiver.receive().is_none());
+            assert_eq!(receiver.arrive(&half(piece)), 0);
+        }
         assert!(receiver.receive().is_some());
         assert!(receiver.receive().is_none());
     }
