@@ -12,13 +12,15 @@ pub const UNKNOWN: u32 = 257;
 pub(crate) fn op(f: Frame, input: &[u8]) -> u32 {
     let op = f.op;
     let is_fit = match op {
-        0 => (f.n3 < 2) & (f.n4 <= settings::STORE),
-        1..=4 | 9 | 13..=17 | 30 | 32 => true,
+        0 => (f.n3 < 2) & (f.n4 <= settings::STORE) & (f.n5 <= settings::SECOND),
+        1..=4 | 9 | 13..=15 | 30 | 32 => true,
         5 | 12 => f.n0 < 256,
         6 => (f.n4 < 2) & (f.n6 < 65536),
         7 => f.n0 < 2,
         8 => (f.n0 < 256) & (f.n1 < 65536) & (f.n2 < 65536),
         10 | 11 => is_arrival(f),
+        16 | 17 => f.n2 < 2,
+        18 => is_piece(f),
         20..=24 => sets::set_fits(f),
         31 => f.n4 <= script_commands::ROOM,
         _ => return UNKNOWN,
@@ -32,6 +34,11 @@ pub(crate) fn op(f: Frame, input: &[u8]) -> u32 {
 // A byte, a channel and a number; only an unsequenced one has a group.
 fn is_arrival(f: Frame) -> bool {
     (f.n0 < 256) & (f.n1 < 256) & (f.n2 < 65536) & ((f.op == 11) | (f.n3 < 65536))
+}
+
+// A byte, a channel, a number, a start and a length.
+fn is_piece(f: Frame) -> bool {
+    (f.n0 < 256) & (f.n1 < 256) & (f.n2 < 65536) & (f.n3 < 65536) & (f.n4 < 65536)
 }
 
 // Whether the frame's command, if its op has one, is one.

@@ -85,7 +85,7 @@ fn arrived(reply: arrival::Reply) {
     }
 }
 
-// 0 nothing there, or 1, channel, cell and length.
+// 0 nothing there, 1 a packet, 2 a block: channel, cell and length.
 fn received(reply: receive::Reply) {
     match reply {
         receive::Reply::Refused(why) => line::value(why.number()),
@@ -94,12 +94,17 @@ fn received(reply: receive::Reply) {
             channel,
             cell,
             length,
-        } => packet(channel, cell, length),
+        } => taken(1, channel, cell, length),
+        receive::Reply::Block {
+            channel,
+            cell,
+            length,
+        } => taken(2, channel, cell, length),
     }
 }
 
-fn packet(channel: u8, cell: u16, length: u32) {
-    line::pair(0, 1);
+fn taken(what: u32, channel: u8, cell: u16, length: u32) {
+    line::pair(0, what);
     line::pair(channel as u32, cell as u32);
     line::value(length);
 }

@@ -16,5 +16,6 @@ pub(crate) fn hash(is_shown: bool, p: Peer) -> u32 {
     let row = script_record::channels(row, all, count);
     let row = script_record::outgoing(row, out_pool, p.lists);
     let row = script_record::incoming(row, in_pool, p.lists, all, count);
+    let row = script_record::marks(row, p.marks);
     row.hash
 }

@@ -24,6 +24,7 @@ pub(crate) fn number(which: u32, x: u32, mut p: Peer) -> Peer {
     p.flow = values::flow(which, x, p.flow);
     p.unsequenced = values::unsequenced(which, x, p.unsequenced);
     p.waiting = values::waiting(which, x, p.waiting);
+    p.marks = values::marks(which, x, p.marks);
     p
 }
 

@@ -7,11 +7,16 @@ use script::frames::Frame;
 // The store's length; a larger one does not fit.
 pub const STORE: u32 = 49152;
 
+// The second store's.
+pub const SECOND: u32 = 32768;
+
 // What the calls of a script share beside the record.
 pub struct Bench {
     pub settings: Settings,
-    // How much of the store ops 10 and 11 are lent.
+    // How much of the store ops 10, 11 and 18 are lent.
     pub store: u32,
+    // How much of the second store op 18 is lent.
+    pub second: u32,
 }
 
 pub(crate) fn first() -> Bench {
@@ -24,6 +29,7 @@ pub(crate) fn first() -> Bench {
     Bench {
         settings,
         store: STORE,
+        second: SECOND,
     }
 }
 
@@ -53,5 +59,6 @@ pub(crate) fn set(f: Frame, bench: Bench) -> Bench {
     Bench {
         settings,
         store: f.n4,
+        second: f.n5,
     }
 }

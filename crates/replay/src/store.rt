@@ -1,9 +1,25 @@
-// Ops 16 and 17: the hash of so many bytes of the store, and they themselves, cut at its end.
+// Ops 16 and 17: the hash of so many bytes of a store, and they themselves, cut at its end.
 use numbers::widths::wide8;
+use script::frames::Frame;
 use script::line;
 use script::row;
 
-pub(crate) fn hash(store: &[u8], first: u32, count: u32) -> u32 {
+// The third number names the store: 0 the first, 1 the second.
+pub(crate) fn told(f: Frame, store: &[u8], second: &[u8]) {
+    if f.n2 == 1 {
+        return of(f, second);
+    }
+    of(f, store)
+}
+
+fn of(f: Frame, store: &[u8]) {
+    if f.op == 16 {
+        return line::value(hash(store, f.n0, f.n1));
+    }
+    tell(store, f.n0, f.n1)
+}
+
+fn hash(store: &[u8], first: u32, count: u32) -> u32 {
     let mut hash = 0;
     let mut left = count;
     let mut i = first as usize;
@@ -15,7 +31,7 @@ pub(crate) fn hash(store: &[u8], first: u32, count: u32) -> u32 {
     hash
 }
 
-pub(crate) fn tell(store: &[u8], first: u32, count: u32) {
+fn tell(store: &[u8], first: u32, count: u32) {
     let mut left = count;
     let mut i = first as usize;
     while 0 < left && i < store.len() {

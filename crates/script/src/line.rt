@@ -26,7 +26,7 @@ fn byte(b: u8) {
 
 // A call ends its line with the record's hash.
 pub fn end(op: u32, hash: u32) {
-    if (0 < op) & (op < 15) {
+    if ((0 < op) & (op < 15)) | (op == 18) {
         byte(b' ');
         byte(b'#');
         value(hash);

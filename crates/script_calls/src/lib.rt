@@ -1,8 +1,9 @@
-// Ops 1 to 14 of a script (SCRIPT.md): the call of the link that a frame asks for. The frame was seen to fit.
+// Ops 1 to 14 and 18 of a script (SCRIPT.md): the call of the link that a frame asks for. The frame was seen to fit.
 ghost use mathlib.Core.Path.{_≡_};
-ghost use Rattle.script_calls.specs.Asking.{arrivalOf, pieceOf, queueOf, inward, callOf};
+ghost use Rattle.script_calls.specs.Asking.{arrivalOf, pieceOf, fragmentOf, queueOf, arriving, inward, callOf};
 use arrival::Arrival;
 use command::fields::Command;
+use command::fields::Fragment;
 use link::calls::Call;
 use numbers::counters::Group;
 use numbers::counters::Reliable;
@@ -45,7 +46,59 @@ fn queue_of(list: u32) -> Queue
     Queue::Reliable
 }
 
-// Ops 8 to 14; another one stands for 14.
+// Op 18, the arrival of a fragment (C-11).
+fn fragment_of(f: Frame) -> arrive_fragment::Piece
+    ensures { λ r. ⌜ r ≡ fragmentOf f ⌝ }
+{
+    let number = Reliable(low16(f.n2));
+    let start = Reliable(low16(f.n3));
+    let fragment = Fragment {
+        length: low16(f.n4),
+        count: f.n5,
+        number: f.n6,
+        total: f.n7,
+        offset: f.n8,
+    };
+    arrive_fragment::Piece {
+        byte: low8(f.n0),
+        channel: low8(f.n1),
+        number,
+        start,
+        fragment,
+        place: f.n9,
+    }
+}
+
+// Ops 10, 11 and 18; another one stands for 14.
+fn arriving(f: Frame) -> Call
+    ensures { λ r. ⌜ r ≡ arriving f ⌝ }
+{
+    let op = f.op;
+    match op {
+        10 => {
+            let group = Group(low16(f.n3));
+            let arrival = arrival_of(f, f.n4, f.n5);
+            let call = link_in::calls::Call::UnsequencedArrival { arrival, group };
+            Call::Inward(call)
+        }
+        11 => {
+            let arrival = arrival_of(f, f.n3, f.n4);
+            let call = link_in::calls::Call::ReliableArrival { arrival };
+            Call::Inward(call)
+        }
+        18 => {
+            let piece = fragment_of(f);
+            let call = link_in::calls::Call::FragmentArrival { piece };
+            Call::Inward(call)
+        }
+        _ => {
+            let call = link_out::calls::Call::Throttle { sample: f.n0 };
+            Call::Outward(call)
+        }
+    }
+}
+
+// Ops 8 to 14 and 18; another one stands for 14.
 fn second(f: Frame) -> Call
     ensures { λ r. ⌜ r ≡ inward f ⌝ }
 {
@@ -65,17 +118,6 @@ fn second(f: Frame) -> Call
             let call = link_out::calls::Call::TimeoutCheck { clock: f.n0 };
             Call::Outward(call)
         }
-        10 => {
-            let group = Group(low16(f.n3));
-            let arrival = arrival_of(f, f.n4, f.n5);
-            let call = link_in::calls::Call::UnsequencedArrival { arrival, group };
-            Call::Inward(call)
-        }
-        11 => {
-            let arrival = arrival_of(f, f.n3, f.n4);
-            let call = link_in::calls::Call::ReliableArrival { arrival };
-            Call::Inward(call)
-        }
         12 => {
             let call = link_in::calls::Call::Dispatch {
                 channel: low8(f.n0),
@@ -86,10 +128,7 @@ fn second(f: Frame) -> Call
             let call = link_in::calls::Call::Receive;
             Call::Inward(call)
         }
-        _ => {
-            let call = link_out::calls::Call::Throttle { sample: f.n0 };
-            Call::Outward(call)
-        }
+        _ => arriving(f),
     }
 }
 

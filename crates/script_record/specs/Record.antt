@@ -21,6 +21,7 @@ use Rattle.record.specs.declared.groups.Unsequenced.{Unsequenced}
 use Rattle.record.specs.declared.groups.Waiting.{Waiting}
 use Rattle.record.specs.declared.groups.Channel.{Channel}
 use Rattle.record.specs.declared.groups.Incoming.{Incoming}
+use Rattle.record.specs.declared.groups.Marks.{Marks}
 
 -- "43 numbers of `ENetPeer`": the first 17, and the other 26
 abbrev pub standingRow : Ids → Standing → Bandwidth → Totals → Times → List ℕ
@@ -69,3 +70,7 @@ incomingRow i = i .byte ∷ i .channel ∷ i .number .0 ∷ i .fragments ∷ i .
 unfoldable pub usedRow : {A : Type 0} → (A → List ℕ) → List ℕ → ℕ → List A → List ℕ
 usedRow row used s [] = []
 usedRow row used s (x ∷ xs) = pick (has used s) (row x) [] ++ usedRow row used (s + 1) xs
+
+-- "and, always, the two words of marks" (C-11)
+abbrev pub marksRow : Marks → List ℕ
+marksRow m = m .low ∷ m .high ∷ []

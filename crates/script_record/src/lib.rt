@@ -8,7 +8,7 @@ ghost use Rattle.record.specs.Lists.{inItems};
 ghost use Rattle.record.specs.Rows.{slotRow};
 ghost use Rattle.record.specs.Damage.{below, usedOut, usedIn};
 ghost use Rattle.script.specs.Row.{told};
-ghost use Rattle.script_record.specs.Record.{standingRow, paceRow, outRow, inRow, listsRow, unsequencedRow, channelRow, channelsRow, incomingRow, usedRow};
+ghost use Rattle.script_record.specs.Record.{standingRow, paceRow, outRow, inRow, listsRow, unsequencedRow, channelRow, channelsRow, incomingRow, usedRow, marksRow};
 use command::fields::Command;
 use command::layout;
 use command::rows;
@@ -23,6 +23,7 @@ use record::groups::Incoming;
 use record::groups::Limits;
 use record::groups::Lists;
 use record::groups::Loss;
+use record::groups::Marks;
 use record::groups::Outgoing;
 use record::groups::Standing;
 use record::groups::Throttling;
@@ -269,6 +270,14 @@ fn incoming_slot(row: Row, s: Incoming) -> Row
         s.remaining,
         s.length,
     ];
+    row::put_all(row, &numbers)
+}
+
+// The marks of the block end the row, always (C-11).
+pub fn marks(row: Row, m: Marks) -> Row
+    ensures { λ r. ⌜ r ≡ told row (marksRow m) ⌝ }
+{
+    let numbers = [m.low, m.high];
     row::put_all(row, &numbers)
 }
 

@@ -16,7 +16,7 @@ short x = ltb x 65536
 -- op 20: the session ids are bytes; the peer ids and what stands from the reliable number to the outgoing group are of 16 bits
 abbrev pub numberFits : ℕ → ℕ → Bool
 numberFits which x =
-    (leb which 49 || (leb 64 which && leb which 95))
+    (leb which 49 || (leb 64 which && leb which 97))
     && (not (eqb which 3 || eqb which 4) || byte x)
     && (not (leb which 1 || (leb 42 which && leb which 46)) || short x)
 

@@ -18,7 +18,7 @@ use script::frames::Frame;
 fn number_fits(which: u32, x: u32) -> bool
     ensures { λ r. ⌜ r ≡ numberFits which x ⌝ }
 {
-    ((which <= 49) | ((64 <= which) & (which <= 95)))
+    ((which <= 49) | ((64 <= which) & (which <= 97)))
         & (!((which == 3) | (which == 4)) | (x < 256))
         & (!((which <= 1) | ((42 <= which) & (which <= 46))) | (x < 65536))
 }

@@ -12,6 +12,7 @@ use record::groups::Flow;
 use record::groups::Ids;
 use record::groups::Limits;
 use record::groups::Loss;
+use record::groups::Marks;
 use record::groups::Standing;
 use record::groups::Throttling;
 use record::groups::Times;
@@ -221,15 +222,28 @@ pub fn waiting(which: u32, x: u32, g: Waiting) -> Waiting
     }
 }
 
+pub fn marks(which: u32, x: u32, g: Marks) -> Marks
+    ensures { λ r. ⌜ r .low ≡ at which 96 x (g .low) ⌝ }
+    ensures { λ r. ⌜ r .high ≡ at which 97 x (g .high) ⌝ }
+{
+    Marks {
+        low: long(which, 96, x, g.low),
+        high: long(which, 97, x, g.high),
+    }
+}
+
 // The words are 64 to 95.
 fn words_at(which: u32, x: u32, words: [u32; UNSEQUENCED_WORDS]) -> [u32; UNSEQUENCED_WORDS]
     ensures { λ r. ⌜ r ≡ wordsAt which x words ⌝ }
 {
-    let mut to = words;
-    if 64 <= which {
-        let i = which as usize % UNSEQUENCED_WORDS;
-        to[i] = x;
+    if which < 64 {
+        return words;
     }
+    if 95 < which {
+        return words;
+    }
+    let mut to = words;
+    to[which as usize % UNSEQUENCED_WORDS] = x;
     to
 }
 

@@ -1,4 +1,4 @@
--- The op picks the call; each number is the frame's, as it fits its place.
+-- The op picks the call; each number is the frame's, as it fits its place; the arrivals are `arriving`'s.
 use mathlib.Core.Path.{_≡_}
 use borrow.Author.Tests.{ne-eqb}
 use borrow.Author.Needs.{needs}
@@ -14,17 +14,11 @@ low8-requires c κs = search needs
 low16-requires-2 : tie.Need-low16-requires-2
 low16-requires-2 c κs = search needs
 
-low16-requires-3 : tie.Need-low16-requires-3
-low16-requires-3 c κs = search needs
-
-arrival-of-requires : tie.Need-arrival-of-requires
-arrival-of-requires c κs = search needs
-
-arrival-of-requires-2 : tie.Need-arrival-of-requires-2
-arrival-of-requires-2 c κs = search needs
-
 low8-requires-2 : tie.Need-low8-requires-2
 low8-requires-2 c κs = search needs
+
+arriving-requires : tie.Need-arriving-requires
+arriving-requires c κs = search needs
 
 returns : tie.Need-returns
 returns c =
@@ -38,29 +32,19 @@ returns-2 c =
 
 returns-3 : tie.Need-returns-3
 returns-3 c =
-    let e : c .before .before .before .args .f .op ≡ 10 = c .before .before .match .keys3 in
-    rw (e, c .arrival-of .ensures, c .before .low163 .ensures)
+    let e : c .before .before .args .f .op ≡ 12 = c .before .match .keys3 in
+    rw (e, c .low82 .ensures)
 
 returns-4 : tie.Need-returns-4
 returns-4 c =
-    let e : c .before .before .args .f .op ≡ 11 = c .before .match .keys4 in
-    rw (e, c .arrival-of2 .ensures)
+    let e : c .before .args .f .op ≡ 13 = c .match .keys4 in
+    rw e
 
 returns-5 : tie.Need-returns-5
 returns-5 c =
-    let e : c .before .before .args .f .op ≡ 12 = c .before .match .keys5 in
-    rw (e, c .low82 .ensures)
-
-returns-6 : tie.Need-returns-6
-returns-6 c =
-    let e : c .before .args .f .op ≡ 13 = c .match .keys6 in
-    rw e
-
-returns-7 : tie.Need-returns-7
-returns-7 c =
-    let op = c .before .args .f .op in
-    let h = c .match .rest in
-    rw (ne-eqb (op) 8 (h .0 .0 .0 .0 .0 .1), ne-eqb (op) 9 (h .0 .0 .0 .0 .1), ne-eqb (op) 10 (h .0 .0 .0 .1), ne-eqb (op) 11 (h .0 .0 .1), ne-eqb (op) 12 (h .0 .1), ne-eqb (op) 13 (h .1))
+    let op = c .before .before .args .f .op in
+    let h = c .before .match .rest in
+    rw (ne-eqb (op) 8 (h .0 .0 .0 .1), ne-eqb (op) 9 (h .0 .0 .1), ne-eqb (op) 12 (h .0 .1), ne-eqb (op) 13 (h .1)) (c .arriving .ensures)
 
 pub second-spec : {M : Type 1} → statement M
 second-spec =
@@ -69,14 +53,10 @@ second-spec =
     low16-requires
     low8-requires
     low16-requires-2
-    low16-requires-3
-    arrival-of-requires
-    arrival-of-requires-2
     low8-requires-2
+    arriving-requires
     returns
     returns-2
     returns-3
     returns-4
-    returns-5
-    returns-6
-    returns-7)
+    returns-5)
