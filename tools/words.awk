@@ -88,6 +88,7 @@ function meant(label, x,    text) {
     else if (label == "kind") text = named["command", x]
     else if (label == "list") text = x >= 8 ? "channel " (x - 8) : named["list", op == 7 ? (x == 0 ? 2 : 1) : x]
     else if (label == "which") text = whichNamed(x)
+    else if (label == "which store") text = x == 0 ? "the store" : "the second store"
     else if (label == "channel" && x == 255) text = "the peer itself"
     return label " " x (text == "" ? "" : " (" text ")")
 }
@@ -108,7 +109,12 @@ function byteNamed(x,    text) {
 function whichNamed(x) {
     if (op == 22) return named["channel", x]
     if (op == 21) return x == 0 ? "its length" : "its slot " x
-    return x >= 64 ? "word " (x - 64) : named["number", x]
+    return wordNamed(x)
+}
+
+# The window's words are 64 to 95.
+function wordNamed(x) {
+    return x >= 64 && x <= 95 ? "word " (x - 64) : named["number", x]
 }
 
 # What the line says. field[] are its numbers after the op, the hash left out.
@@ -125,7 +131,7 @@ function answered(    n, k) {
     if (field[0] != 0) return refused(field[0])
     if (op == 30) return "next place " field[1] ", " command(2)
     if (op == 31) return content(1, n)
-    if (op == 13 && field[1] == 1) return "channel " field[2] ", cell " field[3] ", length " field[4]
+    if (op == 13 && field[1] > 0) return (field[1] == 2 ? "a block: " : "") "channel " field[2] ", cell " field[3] ", length " field[4]
     if (op == 7 && field[1] == 1) return "to send: " slot(2)
     return (op, field[1]) in answer ? answer[op, field[1]] : "done"
 }
@@ -176,7 +182,7 @@ function row(n,    k, text) {
 
 function numbersOf(first, last,    k, text) {
     for (k = first; k <= last; k++) {
-        if (field[place] != 0) text = text (text == "" ? "" : ", ") (k >= 64 ? "word " (k - 64) " " field[place] : meant(named["number", k], field[place]))
+        if (field[place] != 0) text = text (text == "" ? "" : ", ") meant(wordNamed(k), field[place])
         place++
     }
     return text == "" ? "" : "\n        " text
@@ -208,5 +214,6 @@ function slotsOf(n,    k, text) {
         text = text "\n        incoming slot " k ": " labelled("command byte, channel, reliable number, fragments, remaining, length", place)
         place += 6
     }
+    text = text numbersOf(96, 97)
     return place == n ? text : "\n        damaged: the numbers of its slots cannot be told apart"
 }

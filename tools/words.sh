@@ -43,12 +43,13 @@ list_calls() {
         $1 == "state" || $1 == "flag" || $1 == "list" || $1 == "channel" || $1 == "number" && $2 > 42 { note($1, $2 " " $3) }
         $1 == "command" { command[$2] = $3 ($4 == "" ? "" : ": " $4) }
         END {
-            print "\nunsequenced, reliable: the bytes are the datagram, place is where the payload starts in it; read: where the command starts."
-            print "settings: checksum 0 or 1; unsequenced and reliable are lent so much of the store as its length says, all is 49152."
+            print "\nunsequenced, reliable, fragment: the bytes are the datagram, place is where the payload starts in it; read: where the command starts."
+            print "settings: checksum 0 or 1; unsequenced, reliable and fragment are lent so much of the store as its length says, all is 49152;"
+            print "    fragment is lent so much of the second store too, all is 32768. hash, bytes: which store 0 or 1, the second."
             print "setup, write, set-outgoing: kind is 1 to 12, packet 0 or 1, room up to 64; the fields of the kind come last."
             print "send: flags " notes["flag"] "; they add up."
             print "step: list 0 outgoing, 1 send-reliable. set-list: list " notes["list"] ", 8 to 15 the channels" q "; which 0 its length, then its slots."
-            print "set-number: which 0 to 42 the numbers of ENetPeer in order, " notes["number"] ", 64 to 95 the words."
+            print "set-number: which 0 to 42 the numbers of ENetPeer in order, " notes["number"] ", 64 to 95 the words of the window."
             print "set-channel: which " notes["channel"] "."
             print "state: " notes["state"] "."
             print "command byte: the kind, 64 more says unsequenced, 128 more asks for acknowledgement. The kinds and their fields:"

@@ -1,4 +1,4 @@
--- `main` hands two arrays on as slices.
+-- `main` hands three arrays on as slices.
 use borrow.Author.Needs.{needs}
 use Rattle.replay.proofs.main.Statement.{statement}
 use Rattle.replay.proofs.main.Tie as tie
@@ -9,6 +9,9 @@ slice-aggregate-play c = search needs
 slice-aggregate-play-2 : tie.Need-slice-aggregate-play-2
 slice-aggregate-play-2 c = search needs
 
+slice-aggregate-play-3 : tie.Need-slice-aggregate-play-3
+slice-aggregate-play-3 c = search needs
+
 play-requires : tie.Need-play-requires
 play-requires c κs = search needs
 
@@ -16,4 +19,5 @@ returns : tie.Need-returns
 returns c = search needs
 
 pub main-spec : {M : Type 1} → statement M
-main-spec = tie.close (tie.spec slice-aggregate-play slice-aggregate-play-2 play-requires returns)
+main-spec =
+    tie.close (tie.spec slice-aggregate-play slice-aggregate-play-2 slice-aggregate-play-3 play-requires returns)

@@ -7,10 +7,10 @@ use Rattle.replay.proofs.play.Statement.{statement}
 use Rattle.replay.proofs.play.Tie as tie
 
 abbrev Inv-loop : tie.InvT-loop
-Inv-loop input₀ store₀ turns₀ bench₀ peer₀ input store turns bench peer = (length input ≡ length input₀) × (length store ≡ length store₀)
+Inv-loop input₀ store₀ second₀ turns₀ bench₀ peer₀ input store second turns bench peer = (length input ≡ length input₀) × (length store ≡ length store₀) × (length second ≡ length second₀)
 
 abbrev μ-loop : tie.MeasureT-loop
-μ-loop input₀ store₀ turns₀ bench₀ peer₀ input store turns bench peer = turns
+μ-loop input₀ store₀ second₀ turns₀ bench₀ peer₀ input store second turns bench peer = turns
 
 first-requires : tie.Need-first-requires Inv-loop μ-loop
 first-requires c κs = search needs
@@ -44,15 +44,16 @@ end-requires c κs = search needs
 
 loop-less : tie.Need-loop-less Inv-loop μ-loop
 loop-less c =
-    let at-loop-test = c .before .before .before .before .before .before .before .before .before .before .before .before .before .before .before .before .before in
+    let at-loop-test = c .before .before .before .before .before .before .before .before .before .before .before .before .before .before .before .before .before .before .before .before .before in
     omega (arith, at-loop-test .loop-test .taken)
 
 loop-again : tie.Need-loop-again Inv-loop μ-loop
 loop-again c =
-    let at-store = c .before .before .before .before in
-    let at-input = at-store .before .before .before .before .before .before .before .before .before .before in
+    let at-second = c .before .before .before .before in
+    let at-store = at-second .before .before in
+    let at-input = at-store .before .before .before .before .before .before .before .before .before .before .before .before in
     let at-loop = at-input .before .before .before .before in
-    (search (needs, at-input .input .given, at-loop .loop .inv), search (needs, at-store .store .given, at-loop .loop .inv))
+    (search (needs, at-input .input .given, at-loop .loop .inv), search (needs, at-store .store .given, at-loop .loop .inv), search (needs, at-second .second .given, at-loop .loop .inv))
 
 same-length : tie.Need-same-length Inv-loop μ-loop
 same-length c = search needs
@@ -60,14 +61,20 @@ same-length c = search needs
 same-length-2 : tie.Need-same-length-2 Inv-loop μ-loop
 same-length-2 c = search needs
 
-returns : tie.Need-returns Inv-loop μ-loop
-returns c = search needs
-
 same-length-3 : tie.Need-same-length-3 Inv-loop μ-loop
 same-length-3 c = search needs
 
+returns : tie.Need-returns Inv-loop μ-loop
+returns c = search needs
+
 same-length-4 : tie.Need-same-length-4 Inv-loop μ-loop
 same-length-4 c = search needs
+
+same-length-5 : tie.Need-same-length-5 Inv-loop μ-loop
+same-length-5 c = search needs
+
+same-length-6 : tie.Need-same-length-6 Inv-loop μ-loop
+same-length-6 c = search needs
 
 returns-2 : tie.Need-returns-2 Inv-loop μ-loop
 returns-2 c = search needs
@@ -92,7 +99,9 @@ play-spec =
     loop-again
     same-length
     same-length-2
-    returns
     same-length-3
+    returns
     same-length-4
+    same-length-5
+    same-length-6
     returns-2)
