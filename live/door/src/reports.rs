@@ -79,11 +79,10 @@ pub fn length_back(kind: Kind, length: usize) -> usize {
     }
 }
 
-fn pattern(seed: u32, report: Name) -> impl Iterator<Item = u8> {
-    let mut state = seed.wrapping_mul(2_654_435_761)
-        ^ report.index.wrapping_mul(40_503)
-        ^ report.kind.letter() as u32
-        ^ 0x9e37_79b9;
+/// Bytes of seed, letter and index.
+pub fn pattern(seed: u32, letter: char, index: u32) -> impl Iterator<Item = u8> {
+    let mut state =
+        seed.wrapping_mul(2_654_435_761) ^ index.wrapping_mul(40_503) ^ letter as u32 ^ 0x9e37_79b9;
     std::iter::repeat_with(move || {
         state = state.wrapping_mul(1_664_525).wrapping_add(1_013_904_223);
         (state >> 24) as u8
@@ -94,7 +93,8 @@ fn pattern(seed: u32, report: Name) -> impl Iterator<Item = u8> {
 pub fn bytes(seed: u32, report: Name, length: usize) -> Vec<u8> {
     let mut bytes = vec![report.kind.letter() as u8];
     bytes.extend(report.index.to_be_bytes());
-    bytes.extend(pattern(seed, report).take(length.saturating_sub(HEAD)));
+    let rest = pattern(seed, report.kind.letter(), report.index);
+    bytes.extend(rest.take(length.saturating_sub(HEAD)));
     bytes
 }
 
@@ -108,7 +108,7 @@ pub fn check(seed: u32, channel: u32, length: usize, bytes: &[u8]) -> (Name, usi
     let differ = bytes
         .iter()
         .skip(HEAD)
-        .zip(pattern(seed, report))
+        .zip(pattern(seed, kind.letter(), index))
         .filter(|(got, made)| *got != made)
         .count();
     (

@@ -46,6 +46,17 @@ impl Door {
         Ok(true)
     }
 
+    /// For each block that came the door sends up what it was, reliably, as soon as there is a slot.
+    pub fn answer_blocks(&mut self) -> Fallible<()> {
+        while self.outbox.waiting() + self.plan.spare < OUTGOING_SLOTS {
+            let Some(answer) = self.blocks.unsaid.pop_front() else { break };
+            let kind = Kind::Reliable;
+            self.link.send(kind.channel(), answer.len(), kind.flags())?.done("send")?;
+            self.outbox.keep(None, answer, 1);
+        }
+        Ok(())
+    }
+
     /// In silence a ping goes out at every interval, while reports wait too: its acknowledgement is what resets the earliest timeout.
     pub fn ping_in_silence(&mut self) -> Fallible<()> {
         let now = self.clock.now();

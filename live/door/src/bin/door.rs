@@ -22,6 +22,7 @@ const KNOWN: &[&str] = &[
     "reliable",
     "unsequenced",
     "length",
+    "blocks",
     "pace",
     "mtu",
     "channels",
@@ -58,6 +59,7 @@ fn plan(words: &Words) -> Fallible<Plan> {
         reliable: words.number("reliable", 500)?,
         unsequenced: words.number("unsequenced", 500)?,
         length: words.number("length", SHORT)?,
+        blocks: words.number("blocks", 0)?,
         seed: words.number("seed", 1)?,
         pace: words.number("pace", 2)?,
         mtu: words.number("mtu", 1392)?,
@@ -86,6 +88,13 @@ fn compare(door: &mut Door) -> Fallible<()> {
             door.outbox.waiting(),
             look.host_count,
             OUTGOING_SLOTS - look.free_outgoing()
+        ));
+    }
+    let incoming = &door.incoming;
+    if look.incoming != incoming.held || (look.marks != [0, 0]) != incoming.block.is_some() {
+        return Err(format!(
+            "the host counted {} incoming and the block {:?}, the record says {} and marks {:?}",
+            incoming.held, incoming.block, look.incoming, look.marks
         ));
     }
     turned_over(door, &look);
