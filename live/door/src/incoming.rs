@@ -15,9 +15,9 @@ const NO_ROOM: u32 = 8;
 pub enum Room {
     /// Hands in whatever comes: the mistake that loses the link.
     TakeAll,
-    /// Keeps the last free slot for a next number, and does not answer the others: they come again.
+    /// Keeps the last free slot and the place for a block for a next number, and does not answer the others: they come again.
     KeepLast,
-    /// Keeps the last free slot likewise, keeps the others itself, answers them, and hands them in when their turn comes.
+    /// Keeps them likewise, keeps the other packets and pieces itself, answers them, and hands them in when their turn comes.
     KeepPackets,
 }
 
@@ -39,8 +39,13 @@ impl Incoming {
         command.kind() == FRAGMENT && self.block == Some((command.channel, command.first_number()))
     }
 
+    /// While one block is there no other can begin.
+    fn is_of_another_block(&self, command: &Command) -> bool {
+        command.kind() == FRAGMENT && self.block.is_some() && !self.is_of_the_block(command)
+    }
+
     /// A piece of the block that was begun needs no room. A packet has some while one slot is left for a next number, and one for a block that
-    /// may begin. A block that would begin may have to wait for one that cannot begin before it is received.
+    /// may begin. A later block that began would wait for one before it, which then could not begin.
     fn has_room(&self, command: &Command) -> bool {
         if command.kind() == FRAGMENT {
             self.is_of_the_block(command)
@@ -81,10 +86,13 @@ impl Door {
     }
 
     /// Where there is no room to spare, only a next number may have the last: a packet is dispatched and received at once, and its slot is free
-    /// again; a block needs its own pieces alone, and those need no slot.
+    /// again; a block needs its own pieces alone, and those need no slot. A host that keeps packets keeps the pieces of a second block too.
     fn must_wait(&mut self, command: &Command) -> Fallible<bool> {
         if self.incoming.room == Room::TakeAll || self.incoming.has_room(command) {
             return Ok(false);
+        }
+        if self.incoming.room == Room::KeepPackets && self.incoming.is_of_another_block(command) {
+            return Ok(true);
         }
         let last = self.link.look()?.last_numbers.get(command.channel as usize).copied();
         Ok(last.is_some_and(|last| !is_its_turn(command.first_number(), last)))
@@ -131,13 +139,9 @@ impl Door {
         }
         let last = self.link.look()?.last_numbers;
         let incoming = &mut self.incoming;
-        let is_free = |command: &Command| {
-            command.kind() != FRAGMENT
-                || incoming.block.is_none()
-                || incoming.is_of_the_block(command)
-        };
         let turn = |command: &Command| {
-            is_its_turn(command.first_number(), last[command.channel as usize]) && is_free(command)
+            is_its_turn(command.first_number(), last[command.channel as usize])
+                && !incoming.is_of_another_block(command)
         };
         let key = incoming.kept.iter().find(|(_, (command, _))| turn(command)).map(|(key, _)| *key);
         Ok(key.and_then(|key| incoming.kept.remove(&key)))

@@ -109,6 +109,7 @@ fn turned_over(door: &mut Door, look: &Look) {
     let below = |number: Option<&u32>| u64::from(number.is_some_and(|number| *number < start));
     door.most("numbers-out-turned", below(look.given_numbers.first()));
     door.most("numbers-back-turned", below(look.last_numbers.first()));
+    door.most("numbers-of-blocks-turned", below(look.last_numbers.get(1)));
     door.most("groups-out-turned", below(Some(&look.outgoing_group)));
     door.most("groups-back-turned", u64::from(look.incoming_group < start - start % 1024));
     door.most("clock-turned", u64::from(door.clock.now() < door.clock.first()));
