@@ -1,7 +1,8 @@
 /* The gateway: stock ENet (Debian's libenet) on loopback. It accepts one peer, prints what it gets, and sends it back on the same channel with
  * the same reliability. Words: seconds= (it ends by itself), seed= (of the reports' bytes), patience= (after how many
  * milliseconds it gives a peer up, in place of ENet's 5,000), leave= (it disconnects after so many reports), start= (counters, below),
- * blocks= (how many parameter blocks it sends down) every= (one every so many milliseconds, 0 all at once), wrong= (a run that must fail).
+ * blocks= (how many parameter blocks it sends down) every= (one every so many milliseconds, 0 all at once) ahead= (how many it sends before the
+ * door has answered the first), wrong= (a run that must fail).
  */
 #include "reports.h"
 #include <enet/enet.h>
@@ -14,7 +15,8 @@
 /* A door's link takes whole packets alone (C-11 is not built): what is longer than WHOLE comes back as its first HEAD bytes. */
 enum { WHOLE = 1000, HEAD = 48, CHANNELS = 2, WRONG_INDEX = 5, WRONG_BLOCK = 4 };
 
-static unsigned seconds = 60, start = 0, patience = 0, leave = 0, blocks = 0, every = 0;
+static unsigned seconds = 60, start = 0, patience = 0, leave = 0, blocks = 0, every = 0, ahead = ~0u;
+static unsigned answered = 0;
 static const char *wrong = "";
 
 static void read_words(int count, char **words) {
@@ -32,6 +34,7 @@ static void read_words(int count, char **words) {
         else if (!strcmp(words[i], "start")) start = (unsigned)strtoul(value, NULL, 10);
         else if (!strcmp(words[i], "blocks")) blocks = (unsigned)strtoul(value, NULL, 10);
         else if (!strcmp(words[i], "every")) every = (unsigned)strtoul(value, NULL, 10);
+        else if (!strcmp(words[i], "ahead")) ahead = (unsigned)strtoul(value, NULL, 10);
         else if (!strcmp(words[i], "wrong")) wrong = value;
         else {
             fprintf(stderr, "gateway: there is no word %s\n", words[i]);
@@ -107,13 +110,14 @@ static void send_next_block(ENetPeer *peer, unsigned index) {
 
 static void send_due_blocks(ENetPeer *peer, unsigned long long connected) {
     static unsigned sent = 0;
-    while (sent < blocks && stamp() - connected >= 1000ull * every * sent) send_next_block(peer, sent++);
+    while (sent < blocks && sent - answered < ahead && stamp() - connected >= 1000ull * every * sent) send_next_block(peer, sent++);
 }
 
 static void receive(ENetEvent *event) {
     ENetPacket *packet = event->packet;
     if (is_answer(packet->data, packet->dataLength)) {
         print_answer(packet->data);
+        answered++;
         enet_packet_destroy(packet);
         return;
     }

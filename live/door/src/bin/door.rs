@@ -97,6 +97,10 @@ fn compare(door: &mut Door) -> Fallible<()> {
             incoming.held, incoming.block, look.incoming, look.marks
         ));
     }
+    let early = incoming.block.is_some_and(|(channel, start)| {
+        look.last_numbers.get(channel as usize).is_some_and(|last| start != (last + 1) & 0xffff)
+    });
+    door.most("blocks-out-of-turn", u64::from(early));
     turned_over(door, &look);
     door.most("throttle", u64::from(look.packet_throttle));
     door.most("round-trip", u64::from(look.round_trip));
