@@ -12,8 +12,7 @@
 #include <unistd.h>
 #include "blocks.h"
 
-/* A door's link takes whole packets alone (C-11 is not built): what is longer than WHOLE comes back as its first HEAD bytes. */
-enum { WHOLE = 1000, HEAD = 48, CHANNELS = 2, WRONG_INDEX = 5, WRONG_BLOCK = 4 };
+enum { CHANNELS = 2, WRONG_INDEX = 5, WRONG_BLOCK = 4 };
 
 static unsigned seconds = 60, start = 0, patience = 0, leave = 0, blocks = 0, every = 0, ahead = ~0u;
 static unsigned answered = 0;
@@ -61,8 +60,7 @@ static int start_counters(ENetHost *host, ENetEvent *event) {
 
 static void send_back(ENetPeer *peer, enet_uint8 channel, const ENetPacket *packet) {
     enet_uint32 flags = packet->flags & (ENET_PACKET_FLAG_RELIABLE | ENET_PACKET_FLAG_UNSEQUENCED);
-    size_t length = packet->dataLength > WHOLE ? HEAD : packet->dataLength;
-    ENetPacket *back = enet_packet_create(packet->data, length, flags);
+    ENetPacket *back = enet_packet_create(packet->data, packet->dataLength, flags);
     if (back != NULL && enet_peer_send(peer, channel, back) < 0) enet_packet_destroy(back);
 }
 

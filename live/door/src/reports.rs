@@ -58,24 +58,13 @@ impl FromStr for Name {
 const HEAD: usize = 5;
 /// A report's length where a run says nothing else; an unsequenced one never has another, since one above a fragment's length goes reliable.
 pub const SHORT: usize = 48;
-/// The gateway sends back whole what is not longer than this, and else the first bytes: the link takes no fragments.
-const WHOLE: usize = 1000;
 
-/// How long a report of a kind is where reliable ones have that length: as it goes out, and as it comes back.
-pub fn length_out(kind: Kind, length: usize) -> usize {
+/// How long a report of a kind is where reliable ones have that length.
+pub fn length_of(kind: Kind, length: usize) -> usize {
     if kind == Kind::Reliable {
         length
     } else {
         SHORT
-    }
-}
-
-pub fn length_back(kind: Kind, length: usize) -> usize {
-    let out = length_out(kind, length);
-    if out > WHOLE {
-        SHORT
-    } else {
-        out
     }
 }
 
@@ -99,7 +88,7 @@ pub fn bytes(seed: u32, report: Name, length: usize) -> Vec<u8> {
 }
 
 /// Which report came back on a channel, and how many of its bytes are wrong; another length or channel than its own counts as one.
-/// `length` is that of reliable reports on their way out.
+/// `length` is that of reliable reports.
 pub fn check(seed: u32, channel: u32, length: usize, bytes: &[u8]) -> (Name, usize) {
     let kind = if bytes.first() == Some(&b'U') { Kind::Unsequenced } else { Kind::Reliable };
     let index =
@@ -114,7 +103,7 @@ pub fn check(seed: u32, channel: u32, length: usize, bytes: &[u8]) -> (Name, usi
     (
         report,
         differ
-            + usize::from(bytes.len() != length_back(kind, length))
+            + usize::from(bytes.len() != length_of(kind, length))
             + usize::from(channel != kind.channel()),
     )
 }
@@ -130,7 +119,7 @@ mod tests {
         assert_eq!(check(9, 1, 48, &bytes(9, REPORT, 48)), (REPORT, 0));
         let long = Name { kind: Kind::Reliable, index: 2 };
         assert_eq!(check(9, 0, 400, &bytes(9, long, 400)), (long, 0));
-        assert_eq!(check(9, 0, 5000, &bytes(9, long, 5000)[..48]), (long, 0));
+        assert_eq!(check(9, 0, 5000, &bytes(9, long, 5000)), (long, 0));
     }
 
     #[test]

@@ -5,7 +5,7 @@ use crate::door::Door;
 use crate::link::{Reply, Step, FROM_OUTGOING, FROM_SEND_RELIABLE};
 use crate::look::OUTGOING_SLOTS;
 use crate::outbox::commands_of;
-use crate::reports::{bytes, length_out, Kind, Name};
+use crate::reports::{bytes, length_of, Kind, Name};
 use crate::{told, Fallible};
 
 const THROTTLE_SCALE: u32 = 32;
@@ -34,7 +34,7 @@ impl Door {
 
     /// Whether the link took the report. Reliable ones leave the spare slots free, since they hold theirs until they are acknowledged.
     fn send(&mut self, report: Name) -> Fallible<bool> {
-        let length = length_out(report.kind, self.plan.length);
+        let length = length_of(report.kind, self.plan.length);
         let commands = commands_of(length, self.mtu);
         let spare = if report.kind == Kind::Reliable { self.plan.spare } else { 0 };
         if self.outbox.waiting() + commands as usize + spare > OUTGOING_SLOTS {

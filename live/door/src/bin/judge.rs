@@ -7,7 +7,7 @@ use door::judge::{
     Sent, Verdict,
 };
 use door::logs::{count_of, read};
-use door::reports::{length_back, length_out, SHORT};
+use door::reports::{length_of, SHORT};
 use door::words::Words;
 use door::Fallible;
 use std::path::PathBuf;
@@ -90,8 +90,8 @@ fn run() -> Fallible<i32> {
         unsequenced: words.number("unsequenced", 500)?,
     };
     let length = words.number("length", SHORT)?;
-    let there = judge(&counted(&gateway, "got", |kind| length_out(kind, length))?, sent);
-    let back = judge(&counted(&door, "back", |kind| length_back(kind, length))?, sent);
+    let there = judge(&counted(&gateway, "got", |kind| length_of(kind, length))?, sent);
+    let back = judge(&counted(&door, "back", |kind| length_of(kind, length))?, sent);
     let (blocks, seed) = (words.number("blocks", 0)?, words.number("seed", 1)?);
     let of_blocks = |log, word| Ok::<_, String>(judge_blocks(&blocks_in(log, word)?, seed, blocks));
     let ends = [there, back, of_blocks(&door, "block")?, of_blocks(&gateway, "answered")?];
