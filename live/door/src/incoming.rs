@@ -240,3 +240,54 @@ impl Door {
             .event(format_args!("block {number} {channel} {} {} {wrong}", block.length, block.hash))
     }
 }
+
+#[cfg(test)]
+mod tests {
+    use super::*;
+
+    fn packet(number: u32) -> Command {
+        Command { byte: 134, channel: 0, number, fields: vec![48] }
+    }
+
+    fn piece(channel: u32, start: u32, number: u32) -> Command {
+        let fields = vec![start, 1_364, 25, number, 32_768, 1_364 * number];
+        Command { byte: 136, channel, number: start + number, fields }
+    }
+
+    fn incoming(held: usize, block: Option<(u32, u32)>) -> Incoming {
+        Incoming { held, block, ..Incoming::new(Room::KeepPackets) }
+    }
+
+    #[test]
+    fn a_piece_takes_its_turn_by_its_blocks_start() {
+        assert_eq!((packet(7).first_number(), packet(7).payload_length()), (7, 48));
+        assert_eq!((piece(0, 7, 3).first_number(), piece(0, 7, 3).payload_length()), (7, 1_364));
+    }
+
+    #[test]
+    fn the_next_number_and_repeats_have_their_turn() {
+        let turns = [7, 8, 9, 7 + 32_767, 7 + 32_768, 6].map(|number| is_its_turn(number, 7));
+        assert_eq!(turns, [true, true, false, false, true, true]);
+        assert!(is_its_turn(0, 65_535) && !is_its_turn(1, 65_535));
+    }
+
+    #[test]
+    fn packets_leave_a_slot_for_a_next_number_and_one_for_a_block() {
+        assert!(incoming(9, None).has_room(&packet(9)));
+        assert!(!incoming(10, None).has_room(&packet(9)));
+        assert!(incoming(10, Some((1, 7))).has_room(&packet(9)));
+        assert!(!incoming(11, Some((1, 7))).has_room(&packet(9)));
+    }
+
+    #[test]
+    fn a_begun_block_has_room_for_its_pieces_and_none_for_anothers() {
+        let begun = incoming(12, Some((1, 7)));
+        assert!(begun.has_room(&piece(1, 7, 24)) && !begun.is_of_another_block(&piece(1, 7, 24)));
+        for other in [piece(0, 7, 0), piece(1, 32, 0)] {
+            assert!(!begun.has_room(&other) && begun.is_of_another_block(&other));
+            assert!(!incoming(0, None).has_room(&other));
+            assert!(!incoming(0, None).is_of_another_block(&other));
+        }
+        assert!(!begun.is_of_another_block(&packet(9)));
+    }
+}

@@ -23,7 +23,8 @@ pub struct Verdict {
     pub doubled: usize,
     pub unknown: usize,
     pub bytes_wrong: u64,
-    pub of_blocks: bool,
+    /// Of what, where not of reports.
+    pub of: &'static str,
 }
 
 /// How many of each kind were sent.
@@ -79,7 +80,7 @@ impl Verdict {
             (self.unknown as u64, "unknown"),
             (self.bytes_wrong, "bytes wrong"),
         ];
-        let of = if self.of_blocks { " (blocks)" } else { "" };
+        let of = if self.of.is_empty() { String::new() } else { format!(" ({})", self.of) };
         named
             .iter()
             .filter(|fault| fault.0 > 0)
@@ -133,10 +134,10 @@ pub fn blocks_in(lines: &[Vec<String>], word: &str) -> Fallible<Vec<Came>> {
 }
 
 /// Every block that was sent must be there once, with its bytes and in its channel's order. The judge makes them anew from the seed; what is none
-/// of them is unknown.
-pub fn judge_blocks(came: &[Came], seed: u32, sent: u32) -> Verdict {
+/// of them is unknown. `of` names the end.
+pub fn judge_blocks(came: &[Came], of: &'static str, seed: u32, sent: u32) -> Verdict {
     let made: Vec<Block> = (0..sent).map(|index| blocks::made(seed, index)).collect();
-    let mut sum = Verdict { of_blocks: true, ..Verdict::default() };
+    let mut sum = Verdict { of, ..Verdict::default() };
     let mut next = [0, 0];
     let mut times = vec![0; made.len()];
     for (block, bytes_wrong) in came {
@@ -298,7 +299,7 @@ mod tests {
 
     fn of_blocks(indices: &[u32]) -> Verdict {
         let came: Vec<Came> = indices.iter().map(|index| (blocks::made(7, *index), 0)).collect();
-        judge_blocks(&came, 7, 4)
+        judge_blocks(&came, "blocks", 7, 4)
     }
 
     #[test]
@@ -317,11 +318,11 @@ mod tests {
         let Block { channel, length, hash } = blocks::made(7, 1);
         let line = format!("1 answered 0 {channel} {length} {hash}");
         let came = blocks_in(&lines(&line), "answered").unwrap();
-        assert_eq!(judge_blocks(&came, 7, 2).faults(), ["1 missing (blocks)"]);
-        assert_eq!(judge_blocks(&came, 8, 2).unknown, 1);
+        assert_eq!(judge_blocks(&came, "blocks", 7, 2).faults(), ["1 missing (blocks)"]);
+        assert_eq!(judge_blocks(&came, "blocks", 8, 2).unknown, 1);
         let line = format!("1 block 0 {channel} {length} {hash} 2");
         let came = blocks_in(&lines(&line), "block").unwrap();
-        assert_eq!(judge_blocks(&came, 7, 2).bytes_wrong, 2);
+        assert_eq!(judge_blocks(&came, "blocks", 7, 2).bytes_wrong, 2);
         assert!(blocks_in(&lines("1 block 0 0 x 3"), "block").is_err());
     }
 }

@@ -93,8 +93,14 @@ fn run() -> Fallible<i32> {
     let there = judge(&counted(&gateway, "got", |kind| length_of(kind, length))?, sent);
     let back = judge(&counted(&door, "back", |kind| length_of(kind, length))?, sent);
     let (blocks, seed) = (words.number("blocks", 0)?, words.number("seed", 1)?);
-    let of_blocks = |log, word| Ok::<_, String>(judge_blocks(&blocks_in(log, word)?, seed, blocks));
-    let ends = [there, back, of_blocks(&door, "block")?, of_blocks(&gateway, "answered")?];
+    let of_blocks =
+        |log, word, of| Ok::<_, String>(judge_blocks(&blocks_in(log, word)?, of, seed, blocks));
+    let ends = [
+        there,
+        back,
+        of_blocks(&door, "block", "blocks at the door")?,
+        of_blocks(&gateway, "answered", "blocks as answered")?,
+    ];
     let expected = expected(&words)?;
     let asked = Asked { expected, needs: words.text("needs", ""), fault: words.text("fault", "") };
     let against = objections(&asked, &ends, [&door, &gateway]);
