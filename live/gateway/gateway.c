@@ -1,7 +1,8 @@
 /* The gateway: stock ENet (Debian's libenet) on loopback. It accepts one peer, prints what it gets, and sends it back on the same channel with
  * the same reliability. Words: seconds= (it ends by itself), seed= (of the reports' bytes), patience= (after how many
  * milliseconds it gives a peer up, in place of ENet's 5,000), leave= (it disconnects after so many reports), start= (counters, below),
- * wrong= (a run that must fail).
+ * blocks= (how many parameter blocks it sends down) every= (one every so many milliseconds, 0 all at once) ahead= (how many it sends before the
+ * door has answered the first), wrong= (a run that must fail).
  */
 #include "reports.h"
 #include <enet/enet.h>
@@ -9,11 +10,12 @@
 #include <stdlib.h>
 #include <string.h>
 #include <unistd.h>
+#include "blocks.h"
 
-/* A door's link takes whole packets alone (C-11 is not built): what is longer than WHOLE comes back as its first HEAD bytes. */
-enum { WHOLE = 1000, HEAD = 48, CHANNELS = 2, WRONG_INDEX = 5 };
+enum { CHANNELS = 2, WRONG_INDEX = 5, WRONG_BLOCK = 4 };
 
-static unsigned seconds = 60, start = 0, patience = 0, leave = 0;
+static unsigned seconds = 60, start = 0, patience = 0, leave = 0, blocks = 0, every = 0, ahead = ~0u;
+static unsigned answered = 0;
 static const char *wrong = "";
 
 static void read_words(int count, char **words) {
@@ -29,6 +31,9 @@ static void read_words(int count, char **words) {
         else if (!strcmp(words[i], "patience")) patience = (unsigned)strtoul(value, NULL, 10);
         else if (!strcmp(words[i], "leave")) leave = (unsigned)strtoul(value, NULL, 10);
         else if (!strcmp(words[i], "start")) start = (unsigned)strtoul(value, NULL, 10);
+        else if (!strcmp(words[i], "blocks")) blocks = (unsigned)strtoul(value, NULL, 10);
+        else if (!strcmp(words[i], "every")) every = (unsigned)strtoul(value, NULL, 10);
+        else if (!strcmp(words[i], "ahead")) ahead = (unsigned)strtoul(value, NULL, 10);
         else if (!strcmp(words[i], "wrong")) wrong = value;
         else {
             fprintf(stderr, "gateway: there is no word %s\n", words[i]);
@@ -55,8 +60,7 @@ static int start_counters(ENetHost *host, ENetEvent *event) {
 
 static void send_back(ENetPeer *peer, enet_uint8 channel, const ENetPacket *packet) {
     enet_uint32 flags = packet->flags & (ENET_PACKET_FLAG_RELIABLE | ENET_PACKET_FLAG_UNSEQUENCED);
-    size_t length = packet->dataLength > WHOLE ? HEAD : packet->dataLength;
-    ENetPacket *back = enet_packet_create(packet->data, length, flags);
+    ENetPacket *back = enet_packet_create(packet->data, packet->dataLength, flags);
     if (back != NULL && enet_peer_send(peer, channel, back) < 0) enet_packet_destroy(back);
 }
 
@@ -81,8 +85,40 @@ static void answer(ENetPeer *peer, enet_uint8 channel, ENetPacket *packet) {
     }
 }
 
+/* ENet itself cuts a block that is longer than a fragment (its MTU less 28) into commands 8; the others go as one command 6. */
+static void send_block(ENetPeer *peer, unsigned index) {
+    static unsigned char bytes[BLOCK_LONGEST];
+    enet_uint8 channel = (enet_uint8)(index % CHANNELS);
+    size_t length = make_block(bytes, index);
+    ENetPacket *packet;
+    if (index == WRONG_BLOCK && !strcmp(wrong, "block-changed")) bytes[length - 1] ^= 1;
+    packet = enet_packet_create(bytes, length, ENET_PACKET_FLAG_RELIABLE);
+    if (packet != NULL && enet_peer_send(peer, channel, packet) < 0) enet_packet_destroy(packet);
+    printf("%llu block %u %u %u\n", stamp(), index, (unsigned)channel, (unsigned)length);
+}
+
+/* The block whose turn it is; in a run that must fail WRONG_BLOCK stays out, goes twice, or changes places with the next one of its channel. */
+static void send_next_block(ENetPeer *peer, unsigned index) {
+    int here = index == WRONG_BLOCK, next = index == WRONG_BLOCK + CHANNELS;
+    if (here && !strcmp(wrong, "block-missing")) return;
+    if (here && !strcmp(wrong, "block-doubled")) send_block(peer, index);
+    if (!strcmp(wrong, "block-swapped") && (here || next)) index = here ? WRONG_BLOCK + CHANNELS : WRONG_BLOCK;
+    send_block(peer, index);
+}
+
+static void send_due_blocks(ENetPeer *peer, unsigned long long connected) {
+    static unsigned sent = 0;
+    while (sent < blocks && sent - answered < ahead && stamp() - connected >= 1000ull * every * sent) send_next_block(peer, sent++);
+}
+
 static void receive(ENetEvent *event) {
     ENetPacket *packet = event->packet;
+    if (is_answer(packet->data, packet->dataLength)) {
+        print_answer(packet->data);
+        answered++;
+        enet_packet_destroy(packet);
+        return;
+    }
     printf("%llu got %c %u %u %u %s %u\n", stamp(), packet->dataLength > 0 && packet->data[0] == 'U' ? 'U' : 'R', report_index(packet->data, packet->dataLength),
            (unsigned)packet->dataLength, bytes_wrong(packet->data, packet->dataLength), packet->flags & ENET_PACKET_FLAG_RELIABLE ? "reliable" : "unsequenced",
            (unsigned)event->channelID);
@@ -111,12 +147,16 @@ static void connected(ENetPeer *peer) {
 /* Ends when its peer leaves or is given up, or at its limit. A door that leaves names 13 as its reason; where the gateway itself leaves,
  * a second is more than an answer takes. */
 static const char *serve(ENetHost *host) {
-    unsigned long long end = stamp() + seconds * 1000000ull, left = 0;
+    unsigned long long end = stamp() + seconds * 1000000ull, left = 0, since = 0;
     unsigned count = 0;
     ENetEvent event;
     while (stamp() < end) {
-        if (enet_host_service(host, &event, 20) <= 0) continue;
-        if (event.type == ENET_EVENT_TYPE_CONNECT) connected(event.peer);
+        if (since != 0) send_due_blocks(&host->peers[0], since);
+        if (enet_host_service(host, &event, blocks > 0 ? 2 : 20) <= 0) continue;
+        if (event.type == ENET_EVENT_TYPE_CONNECT) {
+            connected(event.peer);
+            since = stamp();
+        }
         if (event.type == ENET_EVENT_TYPE_RECEIVE) receive(&event);
         if (event.type == ENET_EVENT_TYPE_RECEIVE && ++count == leave) {
             left = stamp();

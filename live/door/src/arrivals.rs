@@ -4,7 +4,7 @@ use crate::datagram::{read_header, Header, NO_PEER_ID};
 use crate::door::{Door, End};
 use crate::handshake::{Verified, CONNECTED, CONNECTING, DISCONNECTING, OWN_PEER_ID};
 use crate::incoming::Fate;
-use crate::link::{Command, Reply};
+use crate::link::{Command, Reply, FRAGMENT, RELIABLE, UNSEQUENCED};
 use crate::Fallible;
 
 /// Where the next command stands, and whether this one is answered; nothing where the rest of the datagram is not read.
@@ -64,20 +64,20 @@ impl Door {
                 Some((after, Fate::Answered))
             }
             5 if connected => Some((after, Fate::Answered)),
-            6 if connected => {
+            RELIABLE | FRAGMENT if connected => {
                 let fate = self.reliable(command, after, datagram)?;
-                Some((after + command.fields[0] as usize, fate))
+                Some((after + command.payload_length(), fate))
             }
-            9 if connected => {
+            UNSEQUENCED if connected => {
                 let fate = self.unsequenced(command, after, datagram)?;
-                Some((after + command.fields[1] as usize, fate))
+                Some((after + command.payload_length(), fate))
             }
             // bandwidth limit and throttle configure have no call: they are acknowledged, and the door goes on
             10 | 11 if connected => {
                 self.count("commands-without-a-call");
                 Some((after, Fate::Answered))
             }
-            // unreliable packets and fragments are not in the link, and a connect is for one who waits for it
+            // unreliable packets and their fragments are not in the link, and a connect is for one who waits for it
             _ => {
                 self.count("commands-left");
                 None

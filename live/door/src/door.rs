@@ -2,7 +2,7 @@
 
 use crate::clock::Clock;
 use crate::handshake::{Handshake, CONNECTED, CONNECTING, DISCONNECTING, PEER_ITSELF};
-use crate::incoming::{Incoming, Room};
+use crate::incoming::{Blocks, Incoming, Room};
 use crate::link::{Command, Link, ASKS_FOR_ACKNOWLEDGEMENT};
 use crate::logs::Log;
 use crate::outbox::Outbox;
@@ -36,6 +36,8 @@ pub struct Plan {
     pub reliable: u32,
     pub unsequenced: u32,
     pub length: usize,
+    /// Parameter blocks that the gateway sends; the door stays until they are there.
+    pub blocks: u32,
     pub seed: u32,
     /// Milliseconds between two reports of a kind.
     pub pace: u64,
@@ -107,6 +109,7 @@ pub struct Door {
     pub next_reliable: u32,
     pub next_unsequenced: u32,
     pub back: Back,
+    pub blocks: Blocks,
     /// The clock when a datagram was heard, and when a ping was queued.
     pub last_heard: u32,
     pub last_ping: u32,
@@ -146,6 +149,7 @@ impl Door {
             next_reliable: 0,
             next_unsequenced: 0,
             back: Back::default(),
+            blocks: Blocks::default(),
             last_heard: now,
             last_ping: now,
             datagrams: 0,
@@ -187,6 +191,7 @@ impl Door {
             return Ok(());
         }
         if self.state == CONNECTED {
+            self.answer_blocks()?;
             self.report()?;
             self.ping_in_silence()?;
             self.leave_when_done()?;
@@ -233,13 +238,14 @@ impl Door {
         Ok(())
     }
 
-    /// Nothing is left to say, every reliable report came back, and it was silent for long enough.
+    /// Nothing is left to say, every reliable report came back, every block came, and it was silent for long enough.
     fn leave_when_done(&mut self) -> Fallible<()> {
         let said = self.next_reliable == self.plan.reliable
-            && self.next_unsequenced == self.plan.unsequenced;
+            && self.next_unsequenced == self.plan.unsequenced
+            && self.blocks.unsaid.is_empty();
+        let came = self.back.reliable >= self.plan.reliable && self.blocks.came >= self.plan.blocks;
         let stayed = self.clock.elapsed() - self.back.last > self.plan.stay;
-        if said && self.outbox.waiting() == 0 && self.back.reliable >= self.plan.reliable && stayed
-        {
+        if said && self.outbox.waiting() == 0 && came && stayed {
             let disconnect = Command {
                 byte: 4 | ASKS_FOR_ACKNOWLEDGEMENT,
                 channel: PEER_ITSELF,

@@ -1,5 +1,6 @@
-//! The judge of a run: from what an end counted, whether reports are missing, doubled, out of order or changed.
+//! The judge of a run: from what an end counted, whether reports or blocks are missing, doubled, out of order or changed.
 
+use crate::blocks::{self, Block};
 use crate::logs::{count_of, sum_of};
 use crate::reports::{Kind, Name};
 use crate::Fallible;
@@ -13,7 +14,7 @@ pub struct Got {
 }
 
 /// What one end counted. Of unsequenced reports some may be lost and any order is right, so those columns are of reliable ones alone.
-#[derive(Debug, Default, PartialEq)]
+#[derive(Debug, Default, Clone, PartialEq)]
 pub struct Verdict {
     pub reliable: usize,
     pub unsequenced: usize,
@@ -22,6 +23,8 @@ pub struct Verdict {
     pub doubled: usize,
     pub unknown: usize,
     pub bytes_wrong: u64,
+    /// Of what, where not of reports.
+    pub of: &'static str,
 }
 
 /// How many of each kind were sent.
@@ -77,10 +80,11 @@ impl Verdict {
             (self.unknown as u64, "unknown"),
             (self.bytes_wrong, "bytes wrong"),
         ];
+        let of = if self.of.is_empty() { String::new() } else { format!(" ({})", self.of) };
         named
             .iter()
             .filter(|fault| fault.0 > 0)
-            .map(|fault| format!("{} {}", fault.0, fault.1))
+            .map(|fault| format!("{} {}{of}", fault.0, fault.1))
             .collect()
     }
 }
@@ -110,10 +114,56 @@ pub fn counted(
     Ok(got)
 }
 
+/// A block as an end said that it came, and how many of its bytes the door found wrong.
+pub type Came = (Block, u64);
+
+/// The blocks in a log's lines `TIME block|answered NUMBER CHANNEL LENGTH HASH [BYTES-WRONG]`: what the door received, and what the gateway was
+/// told of it.
+pub fn blocks_in(lines: &[Vec<String>], word: &str) -> Fallible<Vec<Came>> {
+    let mut came = Vec::new();
+    for line in lines.iter().filter(|line| line.len() >= 6 && line[1] == word) {
+        let number = |text: &String| {
+            text.parse::<u32>().map_err(|_| format!("{text} is no number in a log"))
+        };
+        let (channel, length, hash) =
+            (number(&line[3])?, number(&line[4])? as usize, number(&line[5])?);
+        let wrong = line.get(6).map_or(Ok(0), number)?;
+        came.push((Block { channel, length, hash }, u64::from(wrong)));
+    }
+    Ok(came)
+}
+
+/// Every block that was sent must be there once, with its bytes and in its channel's order. The judge makes them anew from the seed; what is none
+/// of them is unknown. `of` names the end.
+pub fn judge_blocks(came: &[Came], of: &'static str, seed: u32, sent: u32) -> Verdict {
+    let made: Vec<Block> = (0..sent).map(|index| blocks::made(seed, index)).collect();
+    let mut sum = Verdict { of, ..Verdict::default() };
+    let mut next = [0, 0];
+    let mut times = vec![0; made.len()];
+    for (block, bytes_wrong) in came {
+        sum.bytes_wrong += bytes_wrong;
+        let Some(index) = made.iter().position(|made| made == block) else {
+            sum.unknown += 1;
+            continue;
+        };
+        times[index] += 1;
+        if times[index] > 1 {
+            sum.doubled += 1;
+            continue;
+        }
+        let next = &mut next[block.channel as usize];
+        sum.reliable += 1;
+        sum.out_of_order += usize::from(index < *next);
+        *next = index.max(*next);
+    }
+    sum.missing = made.len() - sum.reliable;
+    sum
+}
+
 /// What a run is expected to be.
 #[derive(Clone, Copy, PartialEq)]
 pub enum Expected {
-    /// Every reliable report at both ends once, in order and unchanged; no unsequenced one twice; and the door left by itself.
+    /// Every reliable report and block at both ends once, in order and unchanged; no unsequenced one twice; and the door left by itself.
     Whole,
     /// Nothing that was counted is wrong; whether the link holds is left open.
     Sound,
@@ -142,7 +192,7 @@ pub fn is_lost(door: &[Vec<String>], gateway: &[Vec<String>]) -> bool {
 }
 
 /// Nothing where all is as asked.
-pub fn objections(asked: &Asked, ends: [&Verdict; 2], logs: [&[Vec<String>]; 2]) -> Objections {
+pub fn objections(asked: &Asked, ends: &[Verdict], logs: [&[Vec<String>]; 2]) -> Objections {
     let faults: Vec<String> = ends.iter().flat_map(|end| end.faults()).collect();
     let sound = ends.iter().all(|end| end.is_sound());
     let needs = asked.needs.split(',').filter(|name| !name.is_empty());
@@ -222,7 +272,8 @@ mod tests {
             (verdict("R0 R1 R2"), verdict("R0 R1 R1 R2"), verdict("R0 R1"));
         let say = |expected, end: &Verdict, door: &str, needs: &str| {
             let asked = Asked { expected, needs: needs.to_string(), fault: "doubled".to_string() };
-            let said = objections(&asked, [end, &whole], [&log(door), &log("left")]);
+            let ends = [end.clone(), whole.clone()];
+            let said = objections(&asked, &ends, [&log(door), &log("left")]);
             (said.wrong.is_empty(), said.not_shown.is_empty())
         };
         assert_eq!(say(Expected::Whole, &whole, "left", "kept"), (true, true));
@@ -243,6 +294,35 @@ mod tests {
             vec!["refused-other".to_string(), "1".to_string()],
         ];
         let asked = Asked { expected: Expected::Whole, needs: String::new(), fault: String::new() };
-        assert_eq!(objections(&asked, [&whole, &whole], [&refused, &refused]).wrong.len(), 1);
+        assert_eq!(objections(&asked, &[whole], [&refused, &refused]).wrong.len(), 1);
+    }
+
+    fn of_blocks(indices: &[u32]) -> Verdict {
+        let came: Vec<Came> = indices.iter().map(|index| (blocks::made(7, *index), 0)).collect();
+        judge_blocks(&came, "blocks", 7, 4)
+    }
+
+    #[test]
+    fn blocks_keep_their_channels_order() {
+        assert!(of_blocks(&[0, 1, 2, 3]).is_whole());
+        assert!(of_blocks(&[1, 3, 0, 2]).is_whole());
+        assert_eq!(of_blocks(&[0, 3, 2, 1]).faults(), ["1 out of order (blocks)"]);
+        assert_eq!(of_blocks(&[0, 1, 3]).faults(), ["1 missing (blocks)"]);
+        assert_eq!(of_blocks(&[0, 1, 1, 2, 3]).faults(), ["1 doubled (blocks)"]);
+        assert_eq!(of_blocks(&[0, 1, 2, 3, 5]).faults(), ["1 unknown (blocks)"]);
+    }
+
+    #[test]
+    fn blocks_are_read_off_a_log_and_compared_with_the_seeds() {
+        let lines = |text: &str| vec![text.split(' ').map(String::from).collect::<Vec<_>>()];
+        let Block { channel, length, hash } = blocks::made(7, 1);
+        let line = format!("1 answered 0 {channel} {length} {hash}");
+        let came = blocks_in(&lines(&line), "answered").unwrap();
+        assert_eq!(judge_blocks(&came, "blocks", 7, 2).faults(), ["1 missing (blocks)"]);
+        assert_eq!(judge_blocks(&came, "blocks", 8, 2).unknown, 1);
+        let line = format!("1 block 0 {channel} {length} {hash} 2");
+        let came = blocks_in(&lines(&line), "block").unwrap();
+        assert_eq!(judge_blocks(&came, "blocks", 7, 2).bytes_wrong, 2);
+        assert!(blocks_in(&lines("1 block 0 0 x 3"), "block").is_err());
     }
 }

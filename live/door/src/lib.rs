@@ -5,6 +5,7 @@
 #![forbid(unsafe_code)]
 
 pub mod arrivals;
+pub mod blocks;
 pub mod clock;
 pub mod datagram;
 pub mod door;

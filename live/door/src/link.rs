@@ -10,8 +10,10 @@ pub const FROM_OUTGOING: u32 = 0;
 pub const FROM_SEND_RELIABLE: u32 = 1;
 pub const ASKS_FOR_ACKNOWLEDGEMENT: u32 = 128;
 
-/// The command of an unsequenced packet.
-const UNSEQUENCED: u32 = 9;
+/// The commands that bring a payload.
+pub const RELIABLE: u32 = 6;
+pub const FRAGMENT: u32 = 8;
+pub const UNSEQUENCED: u32 = 9;
 
 /// A command as reader, writer and send step have it: byte, channel, number, and the fields in the source's order.
 #[derive(Debug, Clone, PartialEq)]
@@ -31,6 +33,33 @@ impl Command {
     pub fn is_acknowledged(&self) -> bool {
         self.byte & ASKS_FOR_ACKNOWLEDGEMENT != 0
     }
+
+    /// How many bytes follow: the only field of command 6, the second of 8 and 9.
+    pub fn payload_length(&self) -> usize {
+        match self.kind() {
+            RELIABLE => self.fields[0] as usize,
+            FRAGMENT | UNSEQUENCED => self.fields[1] as usize,
+            _ => 0,
+        }
+    }
+
+    /// The number by which it takes its turn on its channel: a piece's is its block's start.
+    pub fn first_number(&self) -> u32 {
+        if self.kind() == FRAGMENT {
+            self.fields[0]
+        } else {
+            self.number
+        }
+    }
+}
+
+/// What a receive took out.
+#[derive(Debug)]
+pub struct Received {
+    pub channel: u32,
+    pub bytes: Vec<u8>,
+    /// Its bytes stood in the second store.
+    pub is_block: bool,
 }
 
 /// What a send step has put on its way.
@@ -166,23 +195,31 @@ impl Link {
         Ok(self.call(9, &[clock], &[])?.done("timeout check")? == [3])
     }
 
-    /// The unsequenced arrival of command 9, whose fields are its group and its length, or the reliable one of command 6, whose field is its length.
+    /// The arrival of command 6, 8 or 9; each takes the command's fields in their order, and the place of the payload.
     pub fn arrival(&mut self, command: &Command, place: usize, datagram: &[u8]) -> Fallible<Reply> {
-        let op = if command.kind() == UNSEQUENCED { 10 } else { 11 };
+        let op = match command.kind() {
+            UNSEQUENCED => 10,
+            FRAGMENT => 18,
+            _ => 11,
+        };
         let mut numbers = vec![command.byte, command.channel, command.number];
         numbers.extend(&command.fields);
         numbers.push(place as u32);
         self.call(op, &numbers, datagram)
     }
 
-    /// The next packet's channel, and its bytes from its cell of the store.
-    pub fn receive(&mut self) -> Fallible<Option<(u32, Vec<u8>)>> {
+    /// The next packet with its bytes, from its cell of the store or, of a block, from the start of the second store. They are read before any other
+    /// call: the next first piece sets the second store to 0.
+    pub fn receive(&mut self) -> Fallible<Option<Received>> {
         let values = self.call(13, &[], &[])?.done("receive")?;
-        if let [1, channel, cell, length] = values[..] {
-            let bytes = self.ask(17, &[4096 * cell, length], &[])?;
-            return Ok(Some((channel, bytes.iter().map(|byte| *byte as u8).collect())));
-        }
-        Ok(None)
+        let (channel, first, length, is_block) = match values[..] {
+            [1, channel, cell, length] => (channel, 4096 * cell, length, false),
+            [2, channel, _, length] => (channel, 0, length, true),
+            _ => return Ok(None),
+        };
+        let bytes = self.ask(17, &[first, length, u32::from(is_block)], &[])?;
+        let bytes = bytes.iter().map(|byte| *byte as u8).collect();
+        Ok(Some(Received { channel, bytes, is_block }))
     }
 
     pub fn look(&mut self) -> Fallible<Look> {

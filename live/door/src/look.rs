@@ -20,6 +20,8 @@ pub struct Look {
     pub sent: usize,
     pub send_reliable: usize,
     pub outgoing: usize,
+    /// Incoming slots in use.
+    pub incoming: usize,
     pub host_count: u32,
     pub incoming_group: u32,
     pub outgoing_group: u32,
@@ -27,6 +29,8 @@ pub struct Look {
     pub given_numbers: Vec<u32>,
     /// Each channel's incoming reliable number: the last that was dispatched.
     pub last_numbers: Vec<u32>,
+    /// Which pieces of a block are there; 0 where there is no block.
+    pub marks: [u32; 2],
 }
 
 impl Look {
@@ -61,7 +65,7 @@ impl Row<'_> {
 pub fn look(row: &[u32]) -> Fallible<Look> {
     let peer = row.get(..43).ok_or("op 15's row is too short")?;
     let mut rest = Row(&row[43..]);
-    let (sent, send_reliable, outgoing, _dispatched) =
+    let (sent, send_reliable, outgoing, mut incoming) =
         (rest.list()?, rest.list()?, rest.list()?, rest.list()?);
     rest.skip(2)?;
     let (incoming_group, outgoing_group) = (rest.next()?, rest.next()?);
@@ -73,8 +77,12 @@ pub fn look(row: &[u32]) -> Fallible<Look> {
         rest.skip(1)?;
         last_numbers.push(rest.next()?);
         rest.skip(1)?;
-        rest.list()?;
+        incoming += rest.list()?;
     }
+    let marks = match rest.0 {
+        [.., first, second] => [*first, *second],
+        _ => return Err("op 15's row does not end with the marks".to_string()),
+    };
     Ok(Look {
         channel_count: peer[6],
         next_timeout: peer[15],
@@ -89,11 +97,13 @@ pub fn look(row: &[u32]) -> Fallible<Look> {
         sent,
         send_reliable,
         outgoing,
+        incoming,
         host_count,
         incoming_group,
         outgoing_group,
         given_numbers,
         last_numbers,
+        marks,
     })
 }
 
@@ -109,7 +119,9 @@ mod tests {
         row.extend([1, 0, 64_512, 65_300]);
         row.extend([0; 32 + 2]);
         row.push(77);
-        row.extend([1, 2, 3, 4, 1, 11, 5, 6, 7, 8, 0]);
+        row.extend([1, 2, 3, 4, 1, 10, 5, 6, 7, 8, 0]);
+        row.extend([6, 0, 9, 0, 0, 48, 8, 0, 10, 3, 1, 70]);
+        row.extend([5, 0]);
         let look = look(&row).unwrap();
         assert_eq!(
             (look.sent, look.send_reliable, look.outgoing, look.free_outgoing()),
@@ -118,6 +130,7 @@ mod tests {
         assert_eq!((look.incoming_group, look.outgoing_group), (64_512, 65_300));
         assert_eq!((look.given_numbers, look.last_numbers), (vec![1, 5], vec![3, 7]));
         assert_eq!((look.host_count, look.mtu), (77, 39));
+        assert_eq!((look.incoming, look.marks), (2, [5, 0]));
     }
 
     #[test]

@@ -58,11 +58,9 @@ impl FromStr for Name {
 const HEAD: usize = 5;
 /// A report's length where a run says nothing else; an unsequenced one never has another, since one above a fragment's length goes reliable.
 pub const SHORT: usize = 48;
-/// The gateway sends back whole what is not longer than this, and else the first bytes: the link takes no fragments.
-const WHOLE: usize = 1000;
 
-/// How long a report of a kind is where reliable ones have that length: as it goes out, and as it comes back.
-pub fn length_out(kind: Kind, length: usize) -> usize {
+/// How long a report of a kind is where reliable ones have that length.
+pub fn length_of(kind: Kind, length: usize) -> usize {
     if kind == Kind::Reliable {
         length
     } else {
@@ -70,20 +68,10 @@ pub fn length_out(kind: Kind, length: usize) -> usize {
     }
 }
 
-pub fn length_back(kind: Kind, length: usize) -> usize {
-    let out = length_out(kind, length);
-    if out > WHOLE {
-        SHORT
-    } else {
-        out
-    }
-}
-
-fn pattern(seed: u32, report: Name) -> impl Iterator<Item = u8> {
-    let mut state = seed.wrapping_mul(2_654_435_761)
-        ^ report.index.wrapping_mul(40_503)
-        ^ report.kind.letter() as u32
-        ^ 0x9e37_79b9;
+/// Bytes of seed, letter and index.
+pub fn pattern(seed: u32, letter: char, index: u32) -> impl Iterator<Item = u8> {
+    let mut state =
+        seed.wrapping_mul(2_654_435_761) ^ index.wrapping_mul(40_503) ^ letter as u32 ^ 0x9e37_79b9;
     std::iter::repeat_with(move || {
         state = state.wrapping_mul(1_664_525).wrapping_add(1_013_904_223);
         (state >> 24) as u8
@@ -94,12 +82,13 @@ fn pattern(seed: u32, report: Name) -> impl Iterator<Item = u8> {
 pub fn bytes(seed: u32, report: Name, length: usize) -> Vec<u8> {
     let mut bytes = vec![report.kind.letter() as u8];
     bytes.extend(report.index.to_be_bytes());
-    bytes.extend(pattern(seed, report).take(length.saturating_sub(HEAD)));
+    let rest = pattern(seed, report.kind.letter(), report.index);
+    bytes.extend(rest.take(length.saturating_sub(HEAD)));
     bytes
 }
 
 /// Which report came back on a channel, and how many of its bytes are wrong; another length or channel than its own counts as one.
-/// `length` is that of reliable reports on their way out.
+/// `length` is that of reliable reports.
 pub fn check(seed: u32, channel: u32, length: usize, bytes: &[u8]) -> (Name, usize) {
     let kind = if bytes.first() == Some(&b'U') { Kind::Unsequenced } else { Kind::Reliable };
     let index =
@@ -108,13 +97,13 @@ pub fn check(seed: u32, channel: u32, length: usize, bytes: &[u8]) -> (Name, usi
     let differ = bytes
         .iter()
         .skip(HEAD)
-        .zip(pattern(seed, report))
+        .zip(pattern(seed, kind.letter(), index))
         .filter(|(got, made)| *got != made)
         .count();
     (
         report,
         differ
-            + usize::from(bytes.len() != length_back(kind, length))
+            + usize::from(bytes.len() != length_of(kind, length))
             + usize::from(channel != kind.channel()),
     )
 }
@@ -130,7 +119,7 @@ mod tests {
         assert_eq!(check(9, 1, 48, &bytes(9, REPORT, 48)), (REPORT, 0));
         let long = Name { kind: Kind::Reliable, index: 2 };
         assert_eq!(check(9, 0, 400, &bytes(9, long, 400)), (long, 0));
-        assert_eq!(check(9, 0, 5000, &bytes(9, long, 5000)[..48]), (long, 0));
+        assert_eq!(check(9, 0, 5000, &bytes(9, long, 5000)), (long, 0));
     }
 
     #[test]

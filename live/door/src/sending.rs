@@ -5,7 +5,7 @@ use crate::door::Door;
 use crate::link::{Reply, Step, FROM_OUTGOING, FROM_SEND_RELIABLE};
 use crate::look::OUTGOING_SLOTS;
 use crate::outbox::commands_of;
-use crate::reports::{bytes, length_out, Kind, Name};
+use crate::reports::{bytes, length_of, Kind, Name};
 use crate::{told, Fallible};
 
 const THROTTLE_SCALE: u32 = 32;
@@ -34,7 +34,7 @@ impl Door {
 
     /// Whether the link took the report. Reliable ones leave the spare slots free, since they hold theirs until they are acknowledged.
     fn send(&mut self, report: Name) -> Fallible<bool> {
-        let length = length_out(report.kind, self.plan.length);
+        let length = length_of(report.kind, self.plan.length);
         let commands = commands_of(length, self.mtu);
         let spare = if report.kind == Kind::Reliable { self.plan.spare } else { 0 };
         if self.outbox.waiting() + commands as usize + spare > OUTGOING_SLOTS {
@@ -44,6 +44,17 @@ impl Door {
         self.link.send(report.kind.channel(), length, report.kind.flags())?.done("send")?;
         self.outbox.keep(Some(report), bytes(self.plan.seed, report, length), commands);
         Ok(true)
+    }
+
+    /// For each block that came the door sends up what it was, reliably, as soon as there is a slot.
+    pub fn answer_blocks(&mut self) -> Fallible<()> {
+        while self.outbox.waiting() + self.plan.spare < OUTGOING_SLOTS {
+            let Some(answer) = self.blocks.unsaid.pop_front() else { break };
+            let kind = Kind::Reliable;
+            self.link.send(kind.channel(), answer.len(), kind.flags())?.done("send")?;
+            self.outbox.keep(None, answer, 1);
+        }
+        Ok(())
     }
 
     /// In silence a ping goes out at every interval, while reports wait too: its acknowledgement is what resets the earliest timeout.

@@ -22,6 +22,7 @@ const KNOWN: &[&str] = &[
     "reliable",
     "unsequenced",
     "length",
+    "blocks",
     "pace",
     "mtu",
     "channels",
@@ -58,6 +59,7 @@ fn plan(words: &Words) -> Fallible<Plan> {
         reliable: words.number("reliable", 500)?,
         unsequenced: words.number("unsequenced", 500)?,
         length: words.number("length", SHORT)?,
+        blocks: words.number("blocks", 0)?,
         seed: words.number("seed", 1)?,
         pace: words.number("pace", 2)?,
         mtu: words.number("mtu", 1392)?,
@@ -88,6 +90,17 @@ fn compare(door: &mut Door) -> Fallible<()> {
             OUTGOING_SLOTS - look.free_outgoing()
         ));
     }
+    let incoming = &door.incoming;
+    if look.incoming != incoming.held || (look.marks != [0, 0]) != incoming.block.is_some() {
+        return Err(format!(
+            "the host counted {} incoming and the block {:?}, the record says {} and marks {:?}",
+            incoming.held, incoming.block, look.incoming, look.marks
+        ));
+    }
+    let early = incoming.block.is_some_and(|(channel, start)| {
+        look.last_numbers.get(channel as usize).is_some_and(|last| start != (last + 1) & 0xffff)
+    });
+    door.most("blocks-out-of-turn", u64::from(early));
     turned_over(door, &look);
     door.most("throttle", u64::from(look.packet_throttle));
     door.most("round-trip", u64::from(look.round_trip));
@@ -100,6 +113,7 @@ fn turned_over(door: &mut Door, look: &Look) {
     let below = |number: Option<&u32>| u64::from(number.is_some_and(|number| *number < start));
     door.most("numbers-out-turned", below(look.given_numbers.first()));
     door.most("numbers-back-turned", below(look.last_numbers.first()));
+    door.most("numbers-of-blocks-turned", below(look.last_numbers.get(1)));
     door.most("groups-out-turned", below(Some(&look.outgoing_group)));
     door.most("groups-back-turned", u64::from(look.incoming_group < start - start % 1024));
     door.most("clock-turned", u64::from(door.clock.now() < door.clock.first()));

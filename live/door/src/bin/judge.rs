@@ -1,12 +1,13 @@
 //! judge: one line of the table from a run's logs. 1 where something is wrong, 4 where the run did not show what it is for.
 //!
-//! Words: room=FOLDER name= expect=whole|sound|lost|wrong reliable= unsequenced= length= needs=SUM,SUM fault=WORD shows=SUM,SUM; `judge head=1` says the columns.
+//! Words: room=FOLDER name= expect=whole|sound|lost|wrong reliable= unsequenced= length= blocks= seed= needs=SUM,SUM fault=WORD shows=SUM,SUM; `judge head=1` says the columns.
 
 use door::judge::{
-    counted, is_lost, judge, objections, Asked, Expected, Objections, Sent, Verdict,
+    blocks_in, counted, is_lost, judge, judge_blocks, objections, Asked, Expected, Objections,
+    Sent, Verdict,
 };
 use door::logs::{count_of, read};
-use door::reports::{length_back, length_out, SHORT};
+use door::reports::{length_of, SHORT};
 use door::words::Words;
 use door::Fallible;
 use std::path::PathBuf;
@@ -19,6 +20,8 @@ const KNOWN: &[&str] = &[
     "reliable",
     "unsequenced",
     "length",
+    "blocks",
+    "seed",
     "needs",
     "fault",
     "shows",
@@ -87,24 +90,30 @@ fn run() -> Fallible<i32> {
         unsequenced: words.number("unsequenced", 500)?,
     };
     let length = words.number("length", SHORT)?;
-    let there = judge(&counted(&gateway, "got", |kind| length_out(kind, length))?, sent);
-    let back = judge(&counted(&door, "back", |kind| length_back(kind, length))?, sent);
+    let there = judge(&counted(&gateway, "got", |kind| length_of(kind, length))?, sent);
+    let back = judge(&counted(&door, "back", |kind| length_of(kind, length))?, sent);
+    let (blocks, seed) = (words.number("blocks", 0)?, words.number("seed", 1)?);
+    let of_blocks =
+        |log, word, of| Ok::<_, String>(judge_blocks(&blocks_in(log, word)?, of, seed, blocks));
+    let ends = [
+        there,
+        back,
+        of_blocks(&door, "block", "blocks at the door")?,
+        of_blocks(&gateway, "answered", "blocks as answered")?,
+    ];
     let expected = expected(&words)?;
     let asked = Asked { expected, needs: words.text("needs", ""), fault: words.text("fault", "") };
-    let against = objections(&asked, [&there, &back], [&door, &gateway]);
-    let verdict = say(
-        expected,
-        &against,
-        &[there.faults(), back.faults()].concat(),
-        is_lost(&door, &gateway),
-    );
+    let against = objections(&asked, &ends, [&door, &gateway]);
+    let faults: Vec<String> = ends.iter().flat_map(Verdict::faults).collect();
+    let verdict = say(expected, &against, &faults, is_lost(&door, &gateway));
     let seen = shown(&words, &door);
     let rest = if seen.is_empty() { verdict } else { format!("{verdict} ({seen})") };
-    println!("{}", row(&words.text("name", "run"), cells(&door, &there, &back), &rest));
+    println!("{}", row(&words.text("name", "run"), cells(&door, &ends), &rest));
     Ok(if !against.wrong.is_empty() { 1 } else { 4 * i32::from(!against.not_shown.is_empty()) })
 }
 
-fn cells(door: &[Vec<String>], there: &Verdict, back: &Verdict) -> [String; 8] {
+fn cells(door: &[Vec<String>], ends: &[Verdict; 4]) -> [String; 8] {
+    let [there, back, ..] = ends;
     let sent = (count_of(door, "sent-reliable"), count_of(door, "sent-unsequenced"));
     let lost = |from: (u64, u64), to: &Verdict| {
         (from.0 + from.1).saturating_sub((to.reliable + to.unsequenced) as u64)
@@ -115,13 +124,13 @@ fn cells(door: &[Vec<String>], there: &Verdict, back: &Verdict) -> [String; 8] {
         pair(there),
         pair(back),
         count_of(door, "sent-again").to_string(),
-        count_of(door, "passed-over").to_string(),
+        (count_of(door, "passed-over") + count_of(door, "pieces-passed-over")).to_string(),
         format!(
             "{}+{}",
             lost(sent, there),
             lost((there.reliable as u64, there.unsequenced as u64), back)
         ),
-        (there.bytes_wrong + back.bytes_wrong).to_string(),
+        ends.iter().map(|end| end.bytes_wrong).sum::<u64>().to_string(),
     ]
 }
 
