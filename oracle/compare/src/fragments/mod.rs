@@ -1,6 +1,7 @@
 //! Scripts about blocks that come in pieces: rules, random sequences, and every input of a set.
 
 pub mod cut;
+mod mtus;
 mod sequences;
 mod sets;
 
@@ -17,12 +18,13 @@ pub use sequences::write;
 pub const RULES: &str = include_str!("rules.txt");
 
 /// The sets by their names on the command line.
-pub const NAMES: [&str; 1] = ["fragment"];
+pub const NAMES: [&str; 2] = ["fragment", "mtu"];
 
 /// A set by its name on the command line.
 pub fn named(name: &str) -> Option<Set> {
     match name {
         "fragment" => Some(sets::write),
+        "mtu" => Some(mtus::write),
         _ => None,
     }
 }
