@@ -21,7 +21,7 @@ use Rattle.command.specs.Shapes.{shaped, shapedBy, connectBy, fragmentBy}
 use Rattle.numbers.proofs.BoolLaws.{both-left, both-right}
 use Rattle.command.proofs.LayoutLaws.{known-low, known-high, layout-length}
 
-abbrev cut : ℕ → ℕ → ℕ
+abbrev pub cut : ℕ → ℕ → ℕ
 cut w x = pick (eqb w 1) (x % 256) (pick (eqb w 2) (x % 65536) x)
 
 cut-fit : (w x : ℕ) → x < 256 ^ w → cut w x ≡ x
@@ -36,7 +36,7 @@ cut-fit w x h = go (eqb w 1) refl
     go false e = two (eqb w 2) refl
 
 -- the numbers of the row from i on, each cut to its width
-abbrev cuts : List ℕ → List ℕ → ℕ → List ℕ
+abbrev pub cuts : List ℕ → List ℕ → ℕ → List ℕ
 cuts [] xs i = []
 cuts (w ∷ ws) xs i = cut w (getD xs i 0) ∷ cuts ws xs (i + 1)
 
@@ -58,7 +58,7 @@ abbrev pub shapedRow : ℕ → List ℕ → List ℕ
 shapedRow k xs =
     kindOf (shaped k xs) ∷ getD xs 0 0 % 256 ∷ getD xs 1 0 % 256 ∷ getD xs 2 0 % 65536 ∷ fieldsRow (shaped k xs)
 
-shaped-row : (k : ℕ) (xs : List ℕ) → 1 ≤ k → k ≤ 12 → shapedRow k xs ≡ k ∷ cuts (layout k) xs 0
+pub shaped-row : (k : ℕ) (xs : List ℕ) → 1 ≤ k → k ≤ 12 → shapedRow k xs ≡ k ∷ cuts (layout k) xs 0
 unfolding layout shapedBy connectBy fragmentBy
 shaped-row zero xs l h = absurd (omega arith)
 shaped-row (suc zero) xs l h = refl
