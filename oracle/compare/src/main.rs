@@ -24,6 +24,7 @@ mod repeats;
 mod script;
 mod sending;
 mod sequence;
+mod snapshots;
 mod talking;
 mod tally;
 
