@@ -120,13 +120,22 @@ pub fn longest(random: &mut Random) -> Record {
     record
 }
 
-/// A snapshot, of a sound record or now and then of a damaged one, that something may have happened to.
-pub fn mutated(random: &mut Random) -> Vec<u8> {
-    let record = if random.once_in(12) { harm::any(random) } else { any(random) };
-    let mut bytes = snapshot(random, &record);
-    match random.below(24) {
-        0 => {}
-        1 => bytes = noise(random),
+/// A snapshot to mutate, of a sound record with few stored bytes or now and then of a damaged one.
+pub fn base(random: &mut Random) -> Vec<u8> {
+    let mut record = any(random);
+    if random.once_in(24) {
+        record = harm::any(random);
+    } else if !random.once_in(48) {
+        thin(random, &mut record);
+    }
+    snapshot(random, &record)
+}
+
+/// The snapshot after something happened to it, or noise.
+pub fn mutated(random: &mut Random, base: &[u8]) -> Vec<u8> {
+    let mut bytes = base.to_vec();
+    match random.below(32) {
+        0 => bytes = noise(random),
         _ => {
             for _ in 0..1 + random.below(2) {
                 mutate(random, &mut bytes);
