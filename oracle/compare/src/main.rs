@@ -24,6 +24,7 @@ mod repeats;
 mod script;
 mod sending;
 mod sequence;
+mod snapshots;
 mod talking;
 mod tally;
 
@@ -75,13 +76,15 @@ fn usage() -> String {
   compare arriving SEED COUNT SCRIPT_FILE LINES_FILE
   compare acknowledging SEED COUNT SCRIPT_FILE LINES_FILE
   compare fragments SEED COUNT SCRIPT_FILE LINES_FILE
+  compare snapshots SEED COUNT SCRIPT_FILE LINES_FILE
+  compare mutated SEED COUNT SCRIPT_FILE LINES_FILE
   compare talking SEED COUNT SCRIPT_FILE LINES_FILE
   compare living SEED COUNT SCRIPT_FILE LINES_FILE
   compare repeats SEED COUNT SCRIPT_FILE PLAIN_FILE INSERTED_FILE LINES_FILE
       PLAIN: the script without the inserted frames; INSERTED: the numbers of their lines
   compare without INSERTED GOT
   compare every SET SCRIPT_FILE LINES_FILE
-      SET: {}, {}, {}, {}
+      SET: {}, {}, {}, {}, {}
   compare packing SEED COUNT
   compare reliable SEED COUNT
   compare pieces SEED COUNT
@@ -93,7 +96,8 @@ fn usage() -> String {
         sets::NAMES.join(", "),
         arriving::NAMES.join(", "),
         acknowledging::NAMES.join(", "),
-        fragments::NAMES.join(", ")
+        fragments::NAMES.join(", "),
+        snapshots::NAMES.join(", ")
     )
 }
 
@@ -126,6 +130,8 @@ fn write_drawn(
         "arriving" => |output, seed, count| arriving::write(output, seed, count, Mix::All),
         "acknowledging" => acknowledging::write,
         "fragments" => fragments::write,
+        "snapshots" => snapshots::write,
+        "mutated" => snapshots::write_mutated,
         "talking" => talking::write,
         "living" => living::write,
         _ => return Err(usage()),
@@ -151,6 +157,7 @@ fn leave_out(inserted: &str, got: &str) -> Result<ExitCode, String> {
 fn write_every(set: &str, script: &str, lines: &str) -> Result<ExitCode, String> {
     let write = sets::named(set).or_else(|| arriving::named(set));
     let write = write.or_else(|| acknowledging::named(set)).or_else(|| fragments::named(set));
+    let write = write.or_else(|| snapshots::named(set));
     let write = write.ok_or_else(|| format!("there is no set {set}\n{}", usage()))?;
     written(script, lines, write)
 }

@@ -17,6 +17,9 @@ pub const CELL: usize = STORE / INCOMING;
 pub const SECOND: usize = 32_768;
 pub const PIECES: u32 = 64;
 
+/// C-12: how many bytes the snapshot buffer has.
+pub const BUFFER: usize = 131_072;
+
 /// The state in which a peer is connected.
 pub const CONNECTED: u32 = 5;
 
@@ -66,6 +69,9 @@ pub struct Model {
     pub record: Record,
     pub store: Vec<u8>,
     pub second: Vec<u8>,
+    /// The snapshot buffer, and whether ops 33 to 36 are answered: replay and the stored scripts do not have them yet.
+    pub buffer: Vec<u8>,
+    pub snapshots: bool,
 }
 
 impl Model {
@@ -81,8 +87,15 @@ impl Model {
 
     fn on(bench: Bench) -> Self {
         let settings = Settings::START;
-        let (store, second) = (vec![0; STORE], vec![0; SECOND]);
-        Model { bench, settings, record: Record::fresh(settings.mtu), store, second }
+        Model {
+            bench,
+            settings,
+            record: Record::fresh(settings.mtu),
+            store: vec![0; STORE],
+            second: vec![0; SECOND],
+            buffer: vec![0; BUFFER],
+            snapshots: false,
+        }
     }
 
     /// A call that the port adds: by hand on a living peer, else by document 01's rule on the record.
@@ -118,6 +131,12 @@ impl Model {
             return Some(11);
         }
         self.lent_refusal()
+    }
+
+    /// Whether what a call that is lent both stores asks first is so: settings in range, and both stores whole.
+    pub fn lends_both(&self) -> bool {
+        let Settings { store, second, .. } = self.settings;
+        self.settings.fit() && (store as usize, second as usize) == (STORE, SECOND)
     }
 
     /// Lays a packet's bytes into the slot's cell; the cell's bytes past them stay.

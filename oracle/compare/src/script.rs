@@ -5,7 +5,7 @@ use std::io;
 use crate::{
     frame::Frame,
     model::Model,
-    ops::{self, cell, outgoing, Group, GROUPS, MORE},
+    ops::{self, cell, outgoing, Group, GROUPS, MORE, SNAPSHOTS},
     output::Output,
     random::Random,
 };
@@ -20,7 +20,7 @@ pub fn names() -> impl Iterator<Item = &'static str> {
 
 /// The names of what takes part only if it is asked for.
 pub fn more() -> impl Iterator<Item = &'static str> {
-    MORE.iter().map(|group| group.name)
+    MORE.iter().chain(SNAPSHOTS).map(|group| group.name)
 }
 
 /// Which groups take part, and whether the script ends inside a frame.
@@ -67,6 +67,7 @@ impl Plan {
         output: &mut Output,
         more: impl FnOnce(&mut Output) -> io::Result<()>,
     ) -> io::Result<()> {
+        output.model.snapshots |= self.choice.groups.iter().any(|group| ops::is_snapshots(group));
         let mut random = Random::new(self.seed);
         let mut turns = vec![0; self.choice.groups.len()];
         for _ in 0..self.count {

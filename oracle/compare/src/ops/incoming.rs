@@ -6,7 +6,7 @@ use super::Group;
 use crate::{frame::Frame, model::Model, random::Random};
 
 /// The largest numbers: the slot, then the types of document 01's slot.
-const LIMITS: [u32; 7] = [
+pub const LIMITS: [u32; 7] = [
     INCOMING as u32 - 1,
     u8::MAX as u32,
     u8::MAX as u32,

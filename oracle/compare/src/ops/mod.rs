@@ -9,7 +9,9 @@ mod channel;
 mod dispatch;
 mod distance;
 pub mod fragment;
-mod incoming;
+pub mod incoming;
+mod laid;
+mod lay;
 mod number;
 pub mod outgoing;
 mod ping;
@@ -17,10 +19,12 @@ mod read;
 mod receive;
 pub mod reliable;
 pub mod reset;
+mod restore;
 mod row;
 pub mod send;
 mod settings;
 pub mod setup;
+mod snapshot;
 mod state;
 pub mod step;
 pub mod store;
@@ -74,15 +78,23 @@ pub const MORE: &[Group] = &[
     incoming::GROUP,
 ];
 
+/// C-12's groups, which take part likewise. A model answers them only if it is told to, since replay does not yet.
+pub const SNAPSHOTS: &[Group] = &[snapshot::GROUP, restore::GROUP, lay::GROUP, laid::GROUP];
+
 /// The group of this name.
 pub fn named(name: &str) -> Option<&'static Group> {
-    GROUPS.iter().chain(MORE).find(|group| group.name == name)
+    GROUPS.iter().chain(MORE).chain(SNAPSHOTS).find(|group| group.name == name)
+}
+
+/// Whether it is one of C-12's.
+pub fn is_snapshots(group: &Group) -> bool {
+    SNAPSHOTS.iter().any(|other| other.name == group.name)
 }
 
 /// Makes the frame's call on the model and answers its line.
 pub fn answer(model: &mut Model, frame: &Frame) -> String {
     match named(&frame.op.to_string()) {
-        Some(group) => (group.line)(model, frame),
-        None => frame.unknown(),
+        Some(group) if model.snapshots || !is_snapshots(group) => (group.line)(model, frame),
+        _ => frame.unknown(),
     }
 }

@@ -9,7 +9,7 @@ use super::Group;
 use crate::{frame::Frame, model::Model, random::Random};
 
 /// The largest numbers before the kind: the slot, then the types of document 01's slot.
-const LIMITS: [u32; 13] = [
+pub const LIMITS: [u32; 13] = [
     OUTGOING as u32 - 1,
     u16::MAX as u32,
     u16::MAX as u32,
@@ -26,6 +26,9 @@ const LIMITS: [u32; 13] = [
 ];
 const KIND: usize = LIMITS.len();
 const FIELDS: usize = KIND + 1;
+
+/// The place of the command byte among the slot's numbers.
+pub const BYTE: usize = 9;
 
 pub const GROUP: Group = Group { name: "23", weight: 4, frame, line };
 

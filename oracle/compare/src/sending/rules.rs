@@ -105,19 +105,23 @@ fn frame(words: &str) -> Frame {
 #[cfg(test)]
 mod tests {
     use super::*;
-    use crate::{acknowledging, fragments, repeats};
+    use crate::{acknowledging, fragments, repeats, snapshots};
+
+    const TEXTS: [&str; 5] =
+        [TEXT, acknowledging::RULES, fragments::RULES, repeats::RULES, snapshots::RULES];
 
     #[test]
     fn every_rule_replies_as_it_says() {
-        for text in [TEXT, acknowledging::RULES, fragments::RULES, repeats::RULES] {
-            write_text(&mut Output::new(io::sink(), io::sink()), text).unwrap();
+        for text in TEXTS {
+            let mut output = Output::new(io::sink(), io::sink());
+            output.model.snapshots = true;
+            write_text(&mut output, text).unwrap();
         }
     }
 
     #[test]
     fn every_rule_has_a_name_of_its_own() {
-        let texts = [TEXT, acknowledging::RULES, fragments::RULES, repeats::RULES];
-        let rules = texts.into_iter().flat_map(rules);
+        let rules = TEXTS.into_iter().flat_map(rules);
         let mut names: Vec<&str> = rules.map(|rule| rule.name).collect();
         let all = names.len();
         names.sort();
