@@ -1,11 +1,11 @@
 -- Lent numbers cut to their bits, one by one, as places; numbers of the record by their place.
 -- The argument: induction on the bits and the numbers.
 use Prim.Native.Nat.{ℕ, zero, suc, _+_, _≤_, _<_}
-use mathlib.Core.Path.{_≡_, refl, ap, sym, _∙_}
+use mathlib.Core.Path.{_≡_, refl, ap, _∙_}
 use mathlib.Core.List.{List, [], _∷_}
 use native.Mathlib.Nat.{not-suc-le-zero, le-of-suc-le-suc}
 use native.Mathlib.Omega.{arith}
-use lib.ListN.{length, getD, take, drop}
+use lib.ListN.{length, getD, take}
 use lib.Seq.{drop-cons}
 use Rattle.lists.specs.Rows.{section}
 use Rattle.places.specs.Whole.{numbers}

@@ -5,9 +5,9 @@ use Prim.Native.Nat.{ℕ, zero, suc, _+_, _*_, _-_, _≤_, _<_}
 use mathlib.Core.Path.{_≡_, refl, ap, sym, _∙_}
 use mathlib.Core.Bool.{Bool, true, false}
 use mathlib.Core.List.{List, [], _∷_, _++_, map}
-use native.Mathlib.Nat.{zero-add, not-suc-le-zero}
+use native.Mathlib.Nat.{zero-add}
 use native.Mathlib.Omega.{arith}
-use lib.Dec.{leb, ltb, eqb}
+use lib.Dec.{ltb, eqb}
 use lib.ListN.{length, getD, set, take, drop, length-append, length-set, List·getD-map}
 use lib.Seq.{getD-set-same, getD-set-other}
 use borrow.Author.Tests.{lt-ltb, le-ltb, ne-eqb, eqb-true}
@@ -15,7 +15,7 @@ use Rattle.numbers.specs.Pick.{pick, both}
 use Rattle.numbers.proofs.BoolLaws.{both-left, both-right}
 use Rattle.command.specs.Layout.{known, layout, widthOf}
 use Rattle.command.specs.Bytes.{pad}
-use Rattle.command.specs.Rows.{kindOf, rowOf, fieldsRow}
+use Rattle.command.specs.Rows.{kindOf, rowOf}
 use Rattle.command.specs.Shapes.{assembled}
 use Rattle.command.specs.declared.fields.Command.{Command}
 use Rattle.command.proofs.LayoutLaws.{known-low, known-high, layout-known, layout-length, each-layout}

@@ -1,7 +1,7 @@
 -- Which slots the lists name: the turns and the ends of the loops over a list and over the channels; two lists one after the other.
 -- The argument: the definition on the whole is the definition on what is left.
 use Prim.Native.Nat.{ℕ, _+_, _*_, _≤_, _<_, min}
-use mathlib.Core.Path.{_≡_, refl, ap, sym, _∙_}
+use mathlib.Core.Path.{_≡_, ap, _∙_}
 use mathlib.Core.Bool.{Bool, true, false}
 use mathlib.Core.List.{List, _++_}
 use lib.ListN.{length, getD, take, drop, length-take}

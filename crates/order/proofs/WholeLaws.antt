@@ -4,7 +4,7 @@ use Prim.Native.Nat.{ℕ, zero, suc, _+_, _*_, _-_, _/_, _%_, _≤_, _<_}
 use mathlib.Core.Path.{_≡_, refl, ap, sym, _∙_}
 use mathlib.Core.Bool.{Bool}
 use mathlib.Core.List.{List, [], _∷_, _++_}
-use native.Mathlib.Nat.{div-add-mod', mod-lt}
+use native.Mathlib.Nat.{div-add-mod'}
 use native.Mathlib.Omega.{arith}
 use lib.Dec.{ltb}
 use lib.ListN.{length, getD, length-append}
@@ -14,7 +14,7 @@ use Rattle.places.specs.Updates.{channelAt}
 use Rattle.places.proofs.Sized.{sized}
 use Rattle.order.specs.Table.{nowhere, numbered, eachPlaces, ownBits, ownRow, groupBits, groupRow, marksRow, channelPlaces, slotPlaces, inSlotPlaces, usedOutgoing, usedIncoming, listsPlaces, thingsPlaces, table}
 use Rattle.order.specs.declared.Place.{Place}
-use Rattle.order.proofs.TableLaws.{at-front, at-back, past-seam, EachOf, each-length, each-place, numbered-length}
+use Rattle.order.proofs.TableLaws.{at-front, at-back, past-seam, each-length, each-place, numbered-length}
 use Rattle.order.proofs.PartLaws.{listAt, places-length, channel-length, in-slot-length, group-length, own-length}
 use Rattle.order.proofs.SlotLaws.{slot-length}
 

@@ -9,6 +9,7 @@ ghost use Prim.Native.Nat.{_<_};
 ghost use lib.ListN.{length, getD};
 ghost use Rattle.places.specs.Whole.{whole, recordLength};
 ghost use Rattle.order.specs.Table.{table, nowhere, listsPlaces, thingsPlaces};
+use parts::FLAGS;
 use places::CHANNEL_WIDTH;
 use places::CHANNELS;
 use places::DISPATCHED;
@@ -31,9 +32,6 @@ pub struct Place {
     pub is_command: bool,
     pub is_written: bool,
 }
-
-// The flags, which follow the lists.
-const FLAGS: usize = 155;
 
 // A list of the outgoing pool: its length, and a cell a slot.
 const LIST: usize = 33;

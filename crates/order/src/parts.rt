@@ -24,13 +24,20 @@ use places::HELD;
 use places::IN_POOL;
 use places::MARKS;
 use places::POOL;
+use pool::IN_WIDTH;
 use pool::WIDTH;
 use record::INCOMING;
 
-// Where the record has its channel count, its flags and its words.
-const COUNT: usize = 6;
+// Where the record has its connect id, its state and its channel count, its outgoing reliable number, and its flags, which follow the lists.
+const CONNECT: usize = 2;
 
-const FLAGS: usize = 155;
+const STATE: usize = 5;
+
+const RELIABLE: usize = 42;
+
+pub(crate) const COUNT: usize = 6;
+
+pub(crate) const FLAGS: usize = 155;
 
 // An outgoing slot's own numbers; its kind is its last.
 const OWN: usize = 9;
@@ -44,16 +51,16 @@ pub(crate) fn own(words: &[u32], j: usize) -> Place
     ensures { λ r. ⌜ r ≡ getD (numbered ownBits (ownRow (whole (now (words .entry))))) j nowhere ⌝ }
 {
     let x = words[j];
-    if j < 2 {
+    if j < CONNECT {
         return kinds::short(x);
     }
-    if j == 2 {
+    if j <= CONNECT {
         return kinds::long(x);
     }
-    if j < 5 {
+    if j < STATE {
         return kinds::byte(x);
     }
-    if j < 42 {
+    if j < RELIABLE {
         return kinds::long(x);
     }
     kinds::short(x)
@@ -205,7 +212,7 @@ pub(crate) fn incoming(words: &[u32], s: usize, j: usize) -> Place
     requires { ⌜ j < 6 ⌝ }
     ensures { λ r. ⌜ r ≡ getD (inSlotPlaces (usedIncoming (whole (now (words .entry))) s) (getD (whole (now (words .entry)) .incoming) s noIncoming)) j nowhere ⌝ }
 {
-    let x = words[IN_POOL + s * 6 + j];
+    let x = words[IN_POOL + s * IN_WIDTH + j];
     let is_written = used::incoming(words, s);
     if j < 2 {
         return kinds::written_if(is_written, kinds::byte(x));

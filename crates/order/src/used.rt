@@ -7,6 +7,7 @@ ghost use Rattle.lists.specs.Rows.{rowAt, itemsOf};
 ghost use Rattle.record.specs.Damage.{below, held as heldBy};
 ghost use Rattle.places.specs.Whole.{whole, recordLength};
 ghost use Rattle.order.specs.Table.{usedOutgoing, usedIncoming};
+use crate::parts::COUNT;
 use cells::least;
 use places::CHANNEL_WIDTH;
 use places::CHANNELS;
@@ -18,9 +19,6 @@ use places::SENT;
 use record::INCOMING;
 use record::OUTGOING as CELLS;
 use record::groups::CHANNELS as ALL;
-
-// Where the record has its channel count.
-const COUNT: usize = 6;
 
 // Whether the list at a place names slot s.
 fn names(words: &[u32], at: usize, size: usize, s: usize) -> bool

@@ -1,7 +1,8 @@
 // Whether the numbers of a frame fit what its op makes of them.
+use crate::setters;
 use crate::settings;
+use places::RECORD;
 use script::frames::Frame;
-use script_set::sets;
 
 // In place of the op of a frame that makes no call: a number does not fit its parameter's type, or a place is not there.
 pub const BAD: u32 = 256;
@@ -9,7 +10,7 @@ pub const BAD: u32 = 256;
 // An op that is not listed.
 pub const UNKNOWN: u32 = 257;
 
-pub(crate) fn op(f: Frame, input: &[u8]) -> u32 {
+pub(crate) fn op(f: Frame, input: &[u8], words: &[u32; RECORD]) -> u32 {
     let op = f.op;
     let is_fit = match op {
         0 => (f.n3 < 2) & (f.n4 <= settings::STORE) & (f.n5 <= settings::SECOND),
@@ -21,7 +22,7 @@ pub(crate) fn op(f: Frame, input: &[u8]) -> u32 {
         10 | 11 => is_arrival(f),
         16 | 17 => f.n2 < 2,
         18 => is_piece(f),
-        20..=24 => sets::set_fits(f),
+        20..=24 => setters::is_fit(f, input, words),
         31 => f.n4 <= script_commands::ROOM,
         _ => return UNKNOWN,
     };

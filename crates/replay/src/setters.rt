@@ -1,64 +1,68 @@
-// Ops 20 to 24: the bench's own changes of the record, sound or not. The frame was seen to fit.
-use numbers::widths::low16;
-use peer::Peer;
-use record::groups::CHANNELS;
-use record::groups::Channel;
-use record::groups::Lists;
+// Ops 20 to 24: the bench's own changes of the record, sound or not.
+use places::RECORD;
+use pool::IN_WIDTH;
+use pool::WIDTH;
 use script::frames::Frame;
-use script_set::cells;
-use script_set::pools;
-use script_set::sets;
-use script_set::values;
+use script_set::named;
 
-// Op 20: each group, which changes where the number is its own.
-pub(crate) fn number(which: u32, x: u32, mut p: Peer) -> Peer {
-    p.ids = values::ids(which, x, p.ids);
-    p.standing = values::standing(which, x, p.standing);
-    p.bandwidth = values::bandwidth(which, x, p.bandwidth);
-    p.totals = values::totals(which, x, p.totals);
-    p.times = values::times(which, x, p.times);
-    p.loss = values::loss(which, x, p.loss);
-    p.throttling = values::throttling(which, x, p.throttling);
-    p.limits = values::limits(which, x, p.limits);
-    p.trips = values::trips(which, x, p.trips);
-    p.flow = values::flow(which, x, p.flow);
-    p.unsequenced = values::unsequenced(which, x, p.unsequenced);
-    p.waiting = values::waiting(which, x, p.waiting);
-    p.marks = values::marks(which, x, p.marks);
-    p
+// The numbers of a slot of each pool that a frame gives from its second number on.
+const OUTGOING: u8 = 9;
+
+const INCOMING: u8 = 6;
+
+// Where ops 20 to 22 set a number; where the slot of 23 and 24 begins.
+fn place_of(f: Frame) -> usize {
+    let op = f.op;
+    match op {
+        20 => named::number_place(f.n0),
+        21 => named::cell_place(f.n0, f.n1),
+        22 => named::channel_place(f.n0, f.n1),
+        23 => named::outgoing_place(f.n0),
+        _ => named::incoming_place(f.n0),
+    }
 }
 
-// Ops 21 to 24: each part, which changes where the op is its own.
-pub(crate) fn part(f: Frame, input: &[u8], mut p: Peer) -> Peer {
-    let all = p.channels;
-    let out_pool = p.outgoing;
-    let in_pool = p.incoming;
-    let c = channel(f, all[f.n0 as usize % CHANNELS]);
-    let command = script_commands::command(input, 10, 11);
-    let all = pools::channels(f.n0, c, all);
-    let out_pool = pools::outgoing(f.op == 23, f.n0, sets::outgoing(f, command), out_pool);
-    let in_pool = pools::incoming(f.op == 24, f.n0, sets::incoming(f), in_pool);
-    p.lists = lists(f, p.lists);
-    p.channels = all;
-    p.outgoing = out_pool;
-    p.incoming = in_pool;
-    p
+// The number that ops 20 to 22 set.
+fn value(f: Frame) -> u32 {
+    if f.op == 20 { f.n1 } else { f.n2 }
 }
 
-fn lists(f: Frame, l: Lists) -> Lists {
-    if f.op != 21 {
-        return l;
+// Whether the frame's numbers fit their places, but for a command's own.
+pub(crate) fn is_fit(f: Frame, input: &[u8], words: &[u32; RECORD]) -> bool {
+    let at = place_of(f);
+    if RECORD <= at {
+        return false;
     }
-    cells::lists(f.n0, f.n1, low16(f.n2), l)
+    let op = f.op;
+    match op {
+        23 => script_set::all_fit(words, at, input, 1, OUTGOING),
+        24 => script_set::all_fit(words, at, input, 1, INCOMING),
+        _ => script_set::fits_at(words, at, value(f)),
+    }
 }
 
-// The channels' lists are 8 to 15.
-fn channel(f: Frame, c: Channel) -> Channel {
-    if f.op == 22 {
-        return values::channel(f.n1, f.n2, c);
+// The frame was seen to fit.
+pub(crate) fn set(f: Frame, input: &[u8], words: &mut [u32; RECORD]) {
+    let at = place_of(f);
+    let op = f.op;
+    match op {
+        23 => outgoing(at, input, words),
+        24 => incoming(at, input, words),
+        _ => script_set::put(words, at, value(f)),
     }
-    if f.op == 21 && 8 <= f.n0 {
-        return cells::held(f.n1, low16(f.n2), c);
+}
+
+fn outgoing(at: usize, input: &[u8], words: &mut [u32; RECORD]) {
+    if RECORD - WIDTH < at {
+        return;
     }
-    c
+    script_set::put_all(words, at, input, 1, OUTGOING);
+    script_set::put_command(words, at + 9, script_commands::command(input, 10, 11));
+}
+
+fn incoming(at: usize, input: &[u8], words: &mut [u32; RECORD]) {
+    if RECORD - IN_WIDTH < at {
+        return;
+    }
+    script_set::put_all(words, at, input, 1, INCOMING);
 }

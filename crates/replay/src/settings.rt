@@ -1,6 +1,4 @@
 // Op 0: the settings for the calls that follow.
-use peer::Peer;
-use peer::defaults::Kept;
 use peer::settings::Settings;
 use script::frames::Frame;
 
@@ -31,18 +29,6 @@ pub(crate) fn first() -> Bench {
         store: STORE,
         second: SECOND,
     }
-}
-
-// The reset record, with every kept number 0.
-pub(crate) fn fresh() -> Peer {
-    let kept = Kept {
-        incoming_peer: 0,
-        outgoing_session: 0,
-        incoming_session: 0,
-        reserved: 0,
-        queued: 0,
-    };
-    Peer::fresh(numbers::consts::HOST_DEFAULT_MTU, kept)
 }
 
 // Any other op leaves them as they are.

@@ -1,3 +1,1 @@
-pub mod Values
-pub mod Cells
-pub mod Sets
+pub mod Setting

@@ -7,16 +7,16 @@ use Rattle.replay.proofs.play.Statement.{statement}
 use Rattle.replay.proofs.play.Tie as tie
 
 abbrev Inv-loop : tie.InvT-loop
-Inv-loop input₀ store₀ second₀ turns₀ bench₀ peer₀ input store second turns bench peer = (length input ≡ length input₀) × (length store ≡ length store₀) × (length second ≡ length second₀)
+Inv-loop input₀ words₀ store₀ second₀ turns₀ bench₀ input words store second turns bench = (length input ≡ length input₀) × (length store ≡ length store₀) × (length second ≡ length second₀)
 
 abbrev μ-loop : tie.MeasureT-loop
-μ-loop input₀ store₀ second₀ turns₀ bench₀ peer₀ input store second turns bench peer = turns
+μ-loop input₀ words₀ store₀ second₀ turns₀ bench₀ input words store second turns bench = turns
 
 first-requires : tie.Need-first-requires Inv-loop μ-loop
 first-requires c κs = search needs
 
-fresh-requires : tie.Need-fresh-requires Inv-loop μ-loop
-fresh-requires c κs = search needs
+reset-requires : tie.Need-reset-requires Inv-loop μ-loop
+reset-requires c κs = search needs
 
 loop-holds : tie.Need-loop-holds Inv-loop μ-loop
 loop-holds c = search needs
@@ -33,8 +33,8 @@ asked-requires c κs = search needs
 set-requires : tie.Need-set-requires Inv-loop μ-loop
 set-requires c κs = search needs
 
-changed-requires : tie.Need-changed-requires Inv-loop μ-loop
-changed-requires c κs = search needs
+change-requires : tie.Need-change-requires Inv-loop μ-loop
+change-requires c κs = search needs
 
 hash-requires : tie.Need-hash-requires Inv-loop μ-loop
 hash-requires c κs = search needs
@@ -44,14 +44,14 @@ end-requires c κs = search needs
 
 loop-less : tie.Need-loop-less Inv-loop μ-loop
 loop-less c =
-    let at-loop-test = c .before .before .before .before .before .before .before .before .before .before .before .before .before .before .before .before .before .before .before .before .before in
+    let at-loop-test = c .before .before .before .before .before .before .before .before .before .before .before .before .before .before .before .before .before .before .before .before .before .before .before .before in
     omega (arith, at-loop-test .loop-test .taken)
 
 loop-again : tie.Need-loop-again Inv-loop μ-loop
 loop-again c =
-    let at-second = c .before .before .before .before in
+    let at-second = c .before .before .before .before .before in
     let at-store = at-second .before .before in
-    let at-input = at-store .before .before .before .before .before .before .before .before .before .before .before .before in
+    let at-input = at-store .before .before .before .before .before .before .before .before .before .before .before .before .before .before in
     let at-loop = at-input .before .before .before .before in
     (search (needs, at-input .input .given, at-loop .loop .inv), search (needs, at-store .store .given, at-loop .loop .inv), search (needs, at-second .second .given, at-loop .loop .inv))
 
@@ -86,13 +86,13 @@ play-spec =
     Inv-loop
     μ-loop
     first-requires
-    fresh-requires
+    reset-requires
     loop-holds
     sub-turns
     is-next-requires
     asked-requires
     set-requires
-    changed-requires
+    change-requires
     hash-requires
     end-requires
     loop-less

@@ -28,10 +28,11 @@ as-command-requires c κs = search needs
 
 returns : tie.Need-returns
 returns c =
-    let a = c .before .before .before .before .before .before .args in
     let at-field = c .before .before in
+    let at-width = at-field .before .before in
+    let a = at-width .before .before .args in
     let e : at-field .field .result ≡ cutPlace (8 * widthOf (kindFrom (a .kind)) (a .j)) (fieldFrom (a .kind) (a .j) (a .x)) =
-    at-field .field .ensures ∙ rw (at-field .before .field-from .ensures, at-field .before .before .width-of .ensures, at-field .before .before .before .kind-from .ensures)
+    at-field .field .ensures ∙ rw (at-field .before .field-from .ensures, at-width .width-of .ensures, at-width .before .kind-from .ensures)
     in
     c .as-command .ensures ∙ ap asCommand e ∙ rw (eq-eqb (a .j) 0 (c .before .if1 .taken))
 
@@ -40,12 +41,13 @@ written-if-requires c κs = search needs
 
 returns-2 : tie.Need-returns-2
 returns-2 c =
-    let a = c .before .before .before .before .before .before .args in
     let at-field = c .before .before in
+    let at-width = at-field .before .before in
+    let a = at-width .before .before .args in
     let e : at-field .field .result ≡ cutPlace (8 * widthOf (kindFrom (a .kind)) (a .j)) (fieldFrom (a .kind) (a .j) (a .x)) =
-    at-field .field .ensures ∙ rw (at-field .before .field-from .ensures, at-field .before .before .width-of .ensures, at-field .before .before .before .kind-from .ensures)
+    at-field .field .ensures ∙ rw (at-field .before .field-from .ensures, at-width .width-of .ensures, at-width .before .kind-from .ensures)
     in
-    c .written-if .ensures ∙ rw (e, at-field .before .before .width-of .ensures, at-field .before .before .before .kind-from .ensures, ne-eqb (a .j) 0 (c .before .if1 .left))
+    c .written-if .ensures ∙ rw (e, at-width .width-of .ensures, at-width .before .kind-from .ensures, ne-eqb (a .j) 0 (c .before .if1 .left))
 
 pub command-spec : {M : Type 1} → statement M
 command-spec =

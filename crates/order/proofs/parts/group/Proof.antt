@@ -1,5 +1,4 @@
 -- `group` meets its contract: each number cut to the bits of its place.
-use native.Mathlib.Omega.{arith}
 use mathlib.Core.Path.{_∙_}
 use borrow.Author.Needs.{needs}
 use Rattle.order.proofs.PartLaws.{group-place, group-narrow, group-wide}

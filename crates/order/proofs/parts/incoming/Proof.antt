@@ -2,8 +2,6 @@
 use mathlib.Core.Path.{_∙_}
 use native.Mathlib.Omega.{arith}
 use borrow.Author.Needs.{needs}
-use Rattle.places.specs.Whole.{whole}
-use Rattle.order.specs.Table.{usedIncoming}
 use Rattle.order.proofs.PartLaws.{in-slot-place, in-slot-narrow, in-slot-wide}
 use Rattle.order.proofs.parts.incoming.Statement.{statement}
 use Rattle.order.proofs.parts.incoming.Tie as tie
@@ -34,8 +32,9 @@ written-if-requires c κs = search needs
 
 returns : tie.Need-returns
 returns c =
-    let a = c .before .before .before .before .before .before .args in
-    c .written-if .ensures ∙ rw (c .before .byte .ensures, c .before .before .before .incoming .ensures) (in-slot-place (a .words .now) (usedIncoming (whole (a .words .now)) (a .s)) (a .s) (a .j) 8 (omega arith) (omega arith) (in-slot-narrow (a .j) (c .before .before .if1 .taken)))
+    let at-used = c .before .before .before in
+    let a = at-used .before .before .before .args in
+    c .written-if .ensures ∙ rw (c .before .byte .ensures, ← at-used .incoming .ensures) (in-slot-place (a .words .now) (at-used .incoming .result) (a .s) (a .j) 8 (omega arith) (omega arith) (in-slot-narrow (a .j) (omega arith)))
 
 short-requires : tie.Need-short-requires
 short-requires c κs = search needs
@@ -45,8 +44,9 @@ written-if-requires-2 c κs = search needs
 
 returns-2 : tie.Need-returns-2
 returns-2 c =
-    let a = c .before .before .before .before .before .before .before .args in
-    c .written-if2 .ensures ∙ rw (c .before .short .ensures, c .before .before .before .before .incoming .ensures) (in-slot-place (a .words .now) (usedIncoming (whole (a .words .now)) (a .s)) (a .s) (a .j) 16 (omega arith) (omega arith) (rw (c .before .before .if2 .taken)))
+    let at-used = c .before .before .before .before in
+    let a = at-used .before .before .before .args in
+    c .written-if2 .ensures ∙ rw (c .before .short .ensures, ← at-used .incoming .ensures) (in-slot-place (a .words .now) (at-used .incoming .result) (a .s) (a .j) 16 (omega arith) (omega arith) (rw (c .before .before .if2 .taken)))
 
 long-requires : tie.Need-long-requires
 long-requires c κs = search needs
@@ -56,8 +56,9 @@ written-if-requires-3 c κs = search needs
 
 returns-3 : tie.Need-returns-3
 returns-3 c =
-    let a = c .before .before .before .before .before .before .before .args in
-    c .written-if3 .ensures ∙ rw (c .before .long .ensures, c .before .before .before .before .incoming .ensures) (in-slot-place (a .words .now) (usedIncoming (whole (a .words .now)) (a .s)) (a .s) (a .j) 32 (omega arith) (omega arith) (in-slot-wide (a .j) (omega arith) (omega arith)))
+    let at-used = c .before .before .before .before in
+    let a = at-used .before .before .before .args in
+    c .written-if3 .ensures ∙ rw (c .before .long .ensures, ← at-used .incoming .ensures) (in-slot-place (a .words .now) (at-used .incoming .result) (a .s) (a .j) 32 (omega arith) (omega arith) (in-slot-wide (a .j) (omega arith) (omega arith)))
 
 pub incoming-spec : {M : Type 1} → statement M
 incoming-spec =

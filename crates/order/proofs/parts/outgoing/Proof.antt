@@ -4,8 +4,6 @@ use mathlib.Core.Path.{_∙_}
 use native.Mathlib.Omega.{arith}
 use lib.ListN.{getD}
 use borrow.Author.Needs.{needs}
-use Rattle.places.specs.Whole.{whole}
-use Rattle.order.specs.Table.{usedOutgoing}
 use Rattle.order.proofs.SlotLaws.{slot-number-place, slot-kind-place, slot-command-place}
 use Rattle.order.proofs.parts.outgoing.Statement.{statement}
 use Rattle.order.proofs.parts.outgoing.Tie as tie
@@ -36,8 +34,9 @@ written-if-requires c κs = search needs
 
 returns : tie.Need-returns
 returns c =
-    let a = c .before .before .before .before .before .before .args in
-    c .written-if .ensures ∙ rw (c .before .slot-number .ensures, c .before .before .before .outgoing .ensures) (slot-number-place (a .words .now) (a .s) (omega arith) (usedOutgoing (whole (a .words .now)) (a .s)) (a .j) (c .before .before .if1 .taken))
+    let at-used = c .before .before .before in
+    let a = at-used .before .before .before .args in
+    c .written-if .ensures ∙ rw (c .before .slot-number .ensures, ← at-used .outgoing .ensures) (slot-number-place (a .words .now) (a .s) (omega arith) (at-used .outgoing .result) (a .j) (omega arith))
 
 byte-requires : tie.Need-byte-requires
 byte-requires c κs = search needs
@@ -47,8 +46,9 @@ written-if-requires-2 c κs = search needs
 
 returns-2 : tie.Need-returns-2
 returns-2 c =
-    let a = c .before .before .before .before .before .before .before .args in
-    c .written-if2 .ensures ∙ rw (c .before .byte .ensures) (slot-kind-place (a .words .now) (a .s) (omega arith) (usedOutgoing (whole (a .words .now)) (a .s)) (a .j) (getD (a .words .now) (330 + a .s * 26 + a .j) 0 % 256) (c .before .before .if2 .taken))
+    let at-used = c .before .before .before .before in
+    let a = at-used .before .before .before .args in
+    c .written-if2 .ensures ∙ rw (c .before .byte .ensures, ← at-used .outgoing .ensures) (slot-kind-place (a .words .now) (a .s) (omega arith) (at-used .outgoing .result) (a .j) (getD (a .words .now) (330 + a .s * 26 + a .j) 0 % 256) (c .before .before .if2 .taken))
 
 add-command : tie.Need-add-command
 add-command c = search needs
@@ -67,8 +67,9 @@ written-if-requires-3 c κs = search needs
 
 returns-3 : tie.Need-returns-3
 returns-3 c =
-    let a = c .before .before .before .before .before .before .before .before .args in
-    c .written-if3 .ensures ∙ rw (c .before .command .ensures, c .before .before .before .before .before .outgoing .ensures) (slot-command-place (a .words .now) (a .s) (omega arith) (usedOutgoing (whole (a .words .now)) (a .s)) (a .j) (omega arith) (omega arith))
+    let at-used = c .before .before .before .before .before in
+    let a = at-used .before .before .before .args in
+    c .written-if3 .ensures ∙ rw (c .before .command .ensures, ← at-used .outgoing .ensures) (slot-command-place (a .words .now) (a .s) (omega arith) (at-used .outgoing .result) (a .j) (omega arith) (omega arith))
 
 pub outgoing-spec : {M : Type 1} → statement M
 outgoing-spec =

@@ -19,7 +19,7 @@ returns : tie.Need-returns
 returns c =
     let start = c .before .before .before .before in
     let a = start .args in
-    c .short .ensures ∙ own-place (a .words .now) (a .j) 16 (omega arith) (own-peers (a .j) (c .before .if1 .taken))
+    c .short .ensures ∙ own-place (a .words .now) (a .j) 16 (omega arith) (own-peers (a .j) (omega arith))
 
 long-requires : tie.Need-long-requires
 long-requires c κs = search needs
@@ -28,7 +28,8 @@ returns-2 : tie.Need-returns-2
 returns-2 c =
     let start = c .before .before .before .before .before in
     let a = start .args in
-    c .long .ensures ∙ own-place (a .words .now) (a .j) 32 (omega arith) (rw (c .before .if2 .taken))
+    let e : a .j ≡ 2 = omega arith in
+    c .long .ensures ∙ own-place (a .words .now) (a .j) 32 (omega arith) (rw e)
 
 byte-requires : tie.Need-byte-requires
 byte-requires c κs = search needs
@@ -37,7 +38,7 @@ returns-3 : tie.Need-returns-3
 returns-3 c =
     let start = c .before .before .before .before .before .before in
     let a = start .args in
-    c .byte .ensures ∙ own-place (a .words .now) (a .j) 8 (omega arith) (own-sessions (a .j) (omega arith) (c .before .if3 .taken))
+    c .byte .ensures ∙ own-place (a .words .now) (a .j) 8 (omega arith) (own-sessions (a .j) (omega arith) (omega arith))
 
 long-requires-2 : tie.Need-long-requires-2
 long-requires-2 c κs = search needs
@@ -46,7 +47,7 @@ returns-4 : tie.Need-returns-4
 returns-4 c =
     let start = c .before .before .before .before .before .before .before in
     let a = start .args in
-    c .long2 .ensures ∙ own-place (a .words .now) (a .j) 32 (omega arith) (own-wide (a .j) (omega arith) (c .before .if4 .taken))
+    c .long2 .ensures ∙ own-place (a .words .now) (a .j) 32 (omega arith) (own-wide (a .j) (omega arith) (omega arith))
 
 short-requires-2 : tie.Need-short-requires-2
 short-requires-2 c κs = search needs

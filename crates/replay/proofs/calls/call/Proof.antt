@@ -28,8 +28,8 @@ slice-relend-prefix-call c = search needs
 
 slice-aggregate-call : tie.Need-slice-aggregate-call
 slice-aggregate-call c =
-    let at-if1 = c .before .before .before .before in
-    let at-start = c .before .before .before .before .before .before .before .before .before .before in
+    let at-if1 = c .before .before .before .before .before in
+    let at-start = at-if1 .before .before .before .before .before .before in
     let a = at-start .args in
     sym (length-take-le (a .bench .store) (a .store .now) (at-if1 .if1 .left))
 
@@ -38,8 +38,8 @@ slice-relend-prefix-call-2 c = search needs
 
 slice-aggregate-call-2 : tie.Need-slice-aggregate-call-2
 slice-aggregate-call-2 c =
-    let at-if2 = c .before .before .before .before in
-    let at-start = c .before .before .before .before .before .before .before .before .before .before .before in
+    let at-if2 = c .before .before .before .before .before in
+    let at-start = at-if2 .before .before .before .before .before .before .before in
     let a = at-start .args in
     sym (length-take-le (a .bench .second) (a .second .now) (at-if2 .if2 .left))
 
