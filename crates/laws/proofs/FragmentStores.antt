@@ -39,7 +39,6 @@ use Rattle.peer.proofs.Clauses.{all-at}
 use Rattle.peer.proofs.InClauses.{incoming-clauses, total-low}
 use Rattle.arrival.proofs.Cells.{laid-is, laid-length}
 use Rattle.arrival.proofs.Admitted.{not-passed, not-refused}
-use Rattle.dispatch.specs.Calls.{withDispatch}
 use Rattle.dispatch.proofs.Calling.{chosen, ready, gone, dispatched-has}
 use Rattle.dispatch.proofs.Moving.{dispatch-order}
 use Rattle.arrive_fragment.specs.Calls.{openedOn, piecedOn, finishedOn, pieceOn, withBytes, cleared, fragmentAfter, arrivesFragment}
