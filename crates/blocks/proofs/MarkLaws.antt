@@ -5,20 +5,13 @@ use mathlib.Core.Bool.{Bool, true, false}
 use Prim.Native.Nat.{ℕ, zero, suc, _+_, _/_, _%_, _≤_, _<_}
 use native.Mathlib.Omega.{arith}
 use lib.Dec.{eqb, leb, ltb}
-use borrow.Author.Tests.{ltb-true, ltb-false, eqb-true, eqb-false, lt-leb, eq-eqb, ne-eqb}
+use borrow.Author.Tests.{ltb-true, ltb-false, eqb-true, eqb-false, lt-leb, ne-eqb}
 use Rattle.numbers.specs.Pick.{pick, both}
 use Rattle.numbers.specs.Bits.{bit, withBit}
 use Rattle.numbers.proofs.BitLaws.{bit-with, bit-zero}
-use Rattle.numbers.proofs.BoolLaws.{both-left, both-right, both-false}
+use Rattle.numbers.proofs.BoolLaws.{both-left, both-right, both-false, same-test}
 use Rattle.record.specs.Marks.{mostPieces, noMarks, pieceMarked, withPiece, markedFrom, markedCount}
 use Rattle.record.specs.declared.groups.Marks.{Marks}
-
-same-test : (a b c d : ℕ) → (a ≡ b → c ≡ d) → (c ≡ d → a ≡ b) → eqb a b ≡ eqb c d
-same-test a b c d f g = go (eqb c d) refl
-  where
-    go : (t : Bool) → eqb c d ≡ t → eqb a b ≡ t
-    go true t = eq-eqb a b (g (eqb-true c d t))
-    go false t = ne-eqb a b (λ e. eqb-false c d t (f e))
 
 -- ---- one word of the two
 

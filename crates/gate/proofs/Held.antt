@@ -27,15 +27,21 @@ use Rattle.peer.specs.declared.Peer.{Peer}
 use Rattle.places.specs.Whole.{inListFrom}
 use Rattle.gate.specs.CodeHalves.{Passes, Sums, listBytes, heldSound, inSide}
 
--- channel k, whose list is in a row
-module _ (marks : Marks) (slots : List Incoming) (count : ℕ) (cs : List Channel) (n k : ℕ) (long : n ≤ length cs) (h : k < n) (row m : List ℕ)
-    (is : getD cs k noChannel .held ≡ inListFrom row) (ok : Bool) (after : List ℕ) (w : Passes (inPasses marks slots count true k) 12 m row ok after) where
+-- channel k, whose list is in a row, and what the walk over it found
+pub record HeldTurn (marks : Marks) (slots : List Incoming) (count : ℕ) (cs : List Channel) (n k : ℕ) (row m : List ℕ) (ok : Bool) (after : List ℕ) : Type 0 where
+  pub long : n ≤ length cs
+  pub here : k < n
+  pub is : getD cs k noChannel .held ≡ inListFrom row
+  pub walk : Passes (inPasses marks slots count true k) 12 m row ok after
+
+module _ {marks : Marks} {slots : List Incoming} {count : ℕ} {cs : List Channel} {n k : ℕ} {row m : List ℕ} {ok : Bool} {after : List ℕ}
+    (t : HeldTurn marks slots count cs n k row m ok after) where
   next : heldSound marks slots count k m (drop k (take n cs)) ≡ both ok (heldSound marks slots count (k + 1) (markedAll m (itemsOf row)) (drop (k + 1) (take n cs)))
   unfolding heldSound
   next =
-      rw (part-step cs k n noChannel h (omega arith))
-      (ap (λ (l : InList). both (both (leb (l .len) 12) (passes (inPasses marks slots count true k) m (inItems l))) (heldSound marks slots count (k + 1) (markedAll m (inItems l)) (drop (k + 1) (take n cs)))) is
-      ∙ ap (λ (b : Bool). both b (heldSound marks slots count (k + 1) (markedAll m (itemsOf row)) (drop (k + 1) (take n cs)))) (sym (w .is)))
+      rw (part-step cs k n noChannel (t .here) (omega (arith, t .long, t .here)))
+      (ap (λ (l : InList). both (both (leb (l .len) 12) (passes (inPasses marks slots count true k) m (inItems l))) (heldSound marks slots count (k + 1) (markedAll m (inItems l)) (drop (k + 1) (take n cs)))) (t .is)
+      ∙ ap (λ (b : Bool). both b (heldSound marks slots count (k + 1) (markedAll m (itemsOf row)) (drop (k + 1) (take n cs)))) (sym (t .walk .is)))
 
   pub held-stop : ok ≡ false → heldSound marks slots count k m (drop k (take n cs)) ≡ false
   held-stop e = next ∙ ap (λ (b : Bool). both b (heldSound marks slots count (k + 1) (markedAll m (itemsOf row)) (drop (k + 1) (take n cs)))) e
@@ -44,17 +50,17 @@ module _ (marks : Marks) (slots : List Incoming) (count : ℕ) (cs : List Channe
   held-turn e =
       next
       ∙ ap (λ (b : Bool). both b (heldSound marks slots count (k + 1) (markedAll m (itemsOf row)) (drop (k + 1) (take n cs)))) e
-      ∙ ap (λ (x : List ℕ). heldSound marks slots count (k + 1) x (drop (k + 1) (take n cs))) (sym (w .marks e))
+      ∙ ap (λ (x : List ℕ). heldSound marks slots count (k + 1) x (drop (k + 1) (take n cs))) (sym (t .walk .marks e))
 
-  pub held-sums : (t u : ℕ) → Sums (lengths slots) listBytes (itemsOf row) t ok u → ok ≡ true
-      → t + lengths slots (held (drop k (take n cs))) ≡ u + lengths slots (held (drop (k + 1) (take n cs)))
-  held-sums t u s e =
-      held-sum slots cs n k noChannel t u long h (s .is e ∙ ap (λ (l : InList). t + lengths slots (inItems l)) (sym is))
+  pub held-sums : (v u : ℕ) → Sums (lengths slots) listBytes (itemsOf row) v ok u → ok ≡ true
+      → v + lengths slots (held (drop k (take n cs))) ≡ u + lengths slots (held (drop (k + 1) (take n cs)))
+  held-sums v u s e =
+      held-sum slots cs n k noChannel v u (t .long) (t .here) (s .is e ∙ ap (λ (l : InList). v + lengths slots (inItems l)) (sym (t .is)))
 
-  pub held-counts : (t u : ℕ) → Sums (blocks slots) incoming (itemsOf row) t ok u → ok ≡ true
-      → t + blocks slots (held (drop k (take n cs))) ≡ u + blocks slots (held (drop (k + 1) (take n cs)))
-  held-counts t u s e =
-      held-blocks slots cs n k noChannel t u long h (s .is e ∙ ap (λ (l : InList). t + blocks slots (inItems l)) (sym is))
+  pub held-counts : (v u : ℕ) → Sums (blocks slots) incoming (itemsOf row) v ok u → ok ≡ true
+      → v + blocks slots (held (drop k (take n cs))) ≡ u + blocks slots (held (drop (k + 1) (take n cs)))
+  held-counts v u s e =
+      held-blocks slots cs n k noChannel v u (t .long) (t .here) (s .is e ∙ ap (λ (l : InList). v + blocks slots (inItems l)) (sym (t .is)))
 
 pub held-end : (marks : Marks) (slots : List Incoming) (count : ℕ) (cs : List Channel) (n k : ℕ) (m : List ℕ) → n ≤ k → heldSound marks slots count k m (drop k (take n cs)) ≡ true
 unfolding heldSound

@@ -7,8 +7,8 @@ use native.Mathlib.Omega.{arith}
 use Rattle.numbers.specs.Pick.{pick}
 use Rattle.gate.specs.CodeHalves.{Sums}
 
-pub sums-stop : (f : List ℕ → ℕ) (most : ℕ) (xs : List ℕ) (from total : ℕ) → Sums f most xs from false total
-sums-stop f most xs from total =
+pub sums-stop : {f : List ℕ → ℕ} {most : ℕ} {xs : List ℕ} {from total : ℕ} → Sums f most xs from false total
+sums-stop =
     record {
       is = λ q. let z : _≡_ {A = ℕ} 0 1 = cc in absurd (omega arith);
       low = λ q. let z : _≡_ {A = ℕ} 0 1 = cc in absurd (omega arith);

@@ -73,46 +73,57 @@ module _ (f : ℕ → Bool) (ws : List ℕ) (at n v : ℕ) (i : Listed ws at n v
     unfolding blocks
     counted-end slots h = ap (blocks slots) (rest-end items k (omega (arith, length-is)))
 
-    -- the slot s at place k
-    module _ (h : k < v) (s : ℕ) (q : s ≡ low (getD ws (at + 1 + k) 0)) where
-      there : k < length items
-      there = omega (arith, length-is)
+-- the walk has come to place k, short of the list's end, and to the slot s there
+pub record Turn (f : ℕ → Bool) (ws : List ℕ) (at n : ℕ) (m₀ m : List ℕ) (k s : ℕ) : Type 0 where
+  pub long : ℕ
+  pub list : Listed ws at n long
+  pub few : long ≤ n
+  pub left : Left f m₀ (itemsOf (rowAt at n ws)) m k
+  pub here : k < long
+  pub is : s ≡ low (getD ws (at + 1 + k) 0)
 
-      slot-is : getD items k 0 ≡ s
-      slot-is = sym (q ∙ item-at ws at n (i .room) k there)
+module _ {f : ℕ → Bool} {ws : List ℕ} {at n : ℕ} {m₀ m : List ℕ} {k s : ℕ} (t : Turn f ws at n m₀ m k s) where
+  abbrev cells : List ℕ
+  cells = itemsOf (rowAt at n ws)
 
-      stop : passes f m (drop k items) ≡ false → Passes f n m₀ row false m
-      stop e =
-          record {
-            is = sym (both-false (leb (lenOf row) n) (passes f m₀ items) (l .is ∙ e));
-            marks = λ q. let z : _≡_ {A = ℕ} 0 1 = cc in absurd (omega arith);
-          }
+  there : k < length cells
+  there = let e = length-is f ws at n (t .long) (t .list) (t .few) m₀ m k (t .left) in omega (arith, e, t .here)
 
-      pub past : length m ≤ s → Passes f n m₀ row false m
-      unfolding passes
-      past p = stop (rw (rest-step items k 0 there, slot-is, le-ltb s (length m) p))
+  slot-is : getD cells k 0 ≡ s
+  slot-is = sym (t .is ∙ item-at ws at n (t .list .room) k there)
 
-      pub twice : s < length m → getD m s 0 ≡ 1 → Passes f n m₀ row false m
-      unfolding passes
-      twice p t = stop (rw (rest-step items k 0 there, slot-is, lt-ltb s (length m) p, t))
+  stop : passes f m (drop k cells) ≡ false → Passes f n m₀ (rowAt at n ws) false m
+  stop e =
+      record {
+        is = sym (both-false (leb (lenOf (rowAt at n ws)) n) (passes f m₀ cells) (t .left .is ∙ e));
+        marks = λ q. let z : _≡_ {A = ℕ} 0 1 = cc in absurd (omega arith);
+      }
 
-      module _ (p : s < length m) (t : getD m s 0 ≡ 1 → ⊥) where
-        pub unfit : f s ≡ false → Passes f n m₀ row false m
-        unfolding passes
-        unfit e = stop (rw (rest-step items k 0 there, slot-is, lt-ltb s (length m) p, ne-eqb (getD m s 0) 1 t, e))
+  pub past : length m ≤ s → Passes f n m₀ (rowAt at n ws) false m
+  unfolding passes
+  past p = stop (rw (rest-step cells k 0 there, slot-is, le-ltb s (length m) p))
 
-        pub turn : f s ≡ true → Left f m₀ items (set m s 1) (k + 1)
-        unfolding passes markedAll
-        turn e =
-            record {
-              is = l .is ∙ rw (rest-step items k 0 there, slot-is, lt-ltb s (length m) p, ne-eqb (getD m s 0) 1 t, e);
-              marks = l .marks ∙ rw (rest-step items k 0 there, slot-is);
-            }
+  pub twice : s < length m → getD m s 0 ≡ 1 → Passes f n m₀ (rowAt at n ws) false m
+  unfolding passes
+  twice p y = stop (rw (rest-step cells k 0 there, slot-is, lt-ltb s (length m) p, y))
 
-      pub summed : (slots : List Incoming) → lengths slots (drop k items) ≡ getD slots s noIncoming .length + lengths slots (drop (k + 1) items)
-      unfolding lengths
-      summed slots = rw (rest-step items k 0 there, slot-is)
+  module _ (p : s < length m) (new : getD m s 0 ≡ 1 → ⊥) where
+    pub unfit : f s ≡ false → Passes f n m₀ (rowAt at n ws) false m
+    unfolding passes
+    unfit e = stop (rw (rest-step cells k 0 there, slot-is, lt-ltb s (length m) p, ne-eqb (getD m s 0) 1 new, e))
 
-      pub counted : (slots : List Incoming) → blocks slots (drop k items) ≡ pick (isBlock (getD slots s noIncoming)) 1 0 + blocks slots (drop (k + 1) items)
-      unfolding blocks
-      counted slots = rw (rest-step items k 0 there, slot-is)
+    pub turn : f s ≡ true → Left f m₀ cells (set m s 1) (k + 1)
+    unfolding passes markedAll
+    turn e =
+        record {
+          is = t .left .is ∙ rw (rest-step cells k 0 there, slot-is, lt-ltb s (length m) p, ne-eqb (getD m s 0) 1 new, e);
+          marks = t .left .marks ∙ rw (rest-step cells k 0 there, slot-is);
+        }
+
+  pub summed : (slots : List Incoming) → lengths slots (drop k cells) ≡ getD slots s noIncoming .length + lengths slots (drop (k + 1) cells)
+  unfolding lengths
+  summed slots = rw (rest-step cells k 0 there, slot-is)
+
+  pub counted : (slots : List Incoming) → blocks slots (drop k cells) ≡ pick (isBlock (getD slots s noIncoming)) 1 0 + blocks slots (drop (k + 1) cells)
+  unfolding blocks
+  counted slots = rw (rest-step cells k 0 there, slot-is)

@@ -2,18 +2,19 @@
 -- (`fragment-adds`); the rest stays (`fragment-inbound`, `fragment-window`); its bytes go to its offset (`bytes-written`), and one less remains (`first-remaining`,
 -- `later-remaining`). The argument: each fate in turn; to open, to mark and to dispatch each leave what they do not name, and a dispatch only adds.
 use Prim.Native.Nat.{ℕ, _+_, _≤_, _<_}
-use mathlib.Core.Path.{_≡_, refl, ap, sym, _∙_}
+use mathlib.Core.Path.{_≡_, refl, ap, sym, subst, _∙_}
 use mathlib.Core.Bool.{Bool, true, false}
 use mathlib.Core.List.{List, [], _∷_, _++_}
 use native.Mathlib.Omega.{arith}
 use lib.Dec.{ltb, eqb, leb}
 use lib.ListN.{length, take, drop, getD, set, length-drop, length-replicate}
-use lib.Seq.{paste, getD-set-same, getD-set-other, set-out, length-take-le, take-take}
+use lib.Seq.{paste, getD-set-same, getD-set-other, set-getD, set-out, length-take-le, take-take}
 use borrow.Author.Tests.{eqb-true, eqb-false, ltb-true, ltb-false, leb-true}
 use Rattle.numbers.specs.Pick.{pick, both}
 use Rattle.numbers.specs.Modulo.{minus}
 use Rattle.numbers.proofs.BoolLaws.{both-left, both-right}
 use Rattle.record.specs.Lists.{incoming, inItems}
+use Rattle.record.specs.Updates.{withDispatched, withFlags}
 use Rattle.record.specs.Fresh.{noChannel, noIncoming}
 use Rattle.record.specs.Sizes.{cell, secondLength}
 use Rattle.record.specs.Damage.{below, kindFit, inFit, usedIn}
@@ -21,6 +22,7 @@ use Rattle.record.specs.Marks.{mostPieces, markedCount, withPiece}
 use Rattle.record.specs.Blocks.{mostBytes, isBlock, blockFit}
 use Rattle.record.proofs.Keeps.{times, exist-below}
 use Rattle.record.specs.declared.groups.Lists.{Lists}
+use Rattle.record.specs.declared.incoming.InList.{InList}
 use Rattle.record.specs.declared.groups.Channel.{Channel}
 use Rattle.record.specs.declared.groups.Incoming.{Incoming}
 use Rattle.record.specs.declared.groups.Marks.{Marks}
@@ -30,13 +32,13 @@ use Rattle.blocks.specs.Writing.{written}
 use Rattle.peer.specs.Damage.{sound}
 use Rattle.peer.specs.Outcome.{State, Outcome}
 use Rattle.peer.specs.Sounds.{Whole}
+use Rattle.peer.specs.Updates.{withArrival, withMarks}
 use Rattle.peer.specs.declared.settings.Settings.{Settings}
 use Rattle.peer.specs.declared.Peer.{Peer}
 use Rattle.peer.proofs.Clauses.{all-at}
 use Rattle.peer.proofs.InClauses.{incoming-clauses, total-low}
 use Rattle.arrival.proofs.Cells.{laid-is, laid-length}
 use Rattle.arrival.proofs.Admitted.{not-passed, not-refused}
-use Rattle.dispatch.specs.Calls.{withDispatch}
 use Rattle.dispatch.proofs.Calling.{chosen, ready, gone, dispatched-has}
 use Rattle.dispatch.proofs.Moving.{dispatch-order}
 use Rattle.arrive_fragment.specs.Calls.{openedOn, piecedOn, finishedOn, pieceOn, withBytes, cleared, fragmentAfter, arrivesFragment}
@@ -75,30 +77,45 @@ channel-part {A} part cs i d e c = go (ltb i (length cs)) refl (eqb i c) refl
         ∙ ap (λ (j : ℕ). part (getD cs j noChannel)) is
     go true b false u = ap part (getD-set-other cs i c d noChannel (λ z. eqb-false i c u (sym z)))
 
+-- an arrival changes nothing else where the channel that it stores keeps its outgoing numbers, or where it stores none
+module _ (channel : ℕ) (p : Peer) (dispatched : InList) (flags : ℕ) (waiting : Waiting) (incoming : List Incoming) (marks : Marks) where
+  abbrev arrived : List Channel → Peer
+  arrived channels =
+      withMarks (withArrival p (withDispatched (p .lists) dispatched) (withFlags (p .unsequenced) flags) waiting channels incoming) marks
+
+  inbound-by : (d : Channel) → d .«outgoing_reliable» ≡ getD (p .channels) channel noChannel .«outgoing_reliable»
+      → d .«outgoing_unreliable» ≡ getD (p .channels) channel noChannel .«outgoing_unreliable» → Inbound channel p (arrived (set (p .channels) channel d))
+  inbound-by d reliable unreliable =
+      record {
+        ids = refl;
+        standing = refl;
+        bandwidth = refl;
+        totals = refl;
+        times = refl;
+        loss = refl;
+        throttling = refl;
+        limits = refl;
+        trips = refl;
+        flow = refl;
+        outgoing = refl;
+        sent = refl;
+        sendReliable = refl;
+        waits = refl;
+        base = refl;
+        group = refl;
+        words = refl;
+        given = channel-part (λ (c : Channel). c .«outgoing_reliable») (p .channels) channel d reliable;
+        givenUnreliable = channel-part (λ (c : Channel). c .«outgoing_unreliable») (p .channels) channel d unreliable;
+        others = λ c n. getD-set-other (p .channels) channel c d noChannel n;
+      }
+
+  inbound-still : Inbound channel p (arrived (p .channels))
+  inbound-still =
+      subst (λ (cs : List Channel). Inbound channel p (arrived cs)) (set-getD (p .channels) channel noChannel)
+      (inbound-by (getD (p .channels) channel noChannel) refl refl)
+
 pub inbound-refl : (channel : ℕ) (p : Peer) → Inbound channel p p
-inbound-refl channel p =
-    record {
-      ids = refl;
-      standing = refl;
-      bandwidth = refl;
-      totals = refl;
-      times = refl;
-      loss = refl;
-      throttling = refl;
-      limits = refl;
-      trips = refl;
-      flow = refl;
-      outgoing = refl;
-      sent = refl;
-      sendReliable = refl;
-      waits = refl;
-      base = refl;
-      group = refl;
-      words = refl;
-      given = λ c. refl;
-      givenUnreliable = λ c. refl;
-      others = λ c n. refl;
-    }
+inbound-refl channel p = inbound-still channel p (p .lists .dispatched) (p .unsequenced .flags) (p .waiting) (p .incoming) (p .marks)
 
 pub inbound-trans : (channel : ℕ) (p q r : Peer) → Inbound channel p q → Inbound channel q r → Inbound channel p r
 inbound-trans channel p q r f g =
@@ -127,84 +144,18 @@ inbound-trans channel p q r f g =
 
 module _ (n : ℕ) (a : Piece) (p : Peer) where
   pub opened-inbound : Inbound (a .channel) p (openedOn n a p)
-  opened-inbound =
-      record {
-        ids = refl;
-        standing = refl;
-        bandwidth = refl;
-        totals = refl;
-        times = refl;
-        loss = refl;
-        throttling = refl;
-        limits = refl;
-        trips = refl;
-        flow = refl;
-        outgoing = refl;
-        sent = refl;
-        sendReliable = refl;
-        waits = refl;
-        base = refl;
-        group = refl;
-        words = refl;
-        given = channel-part (λ (c : Channel). c .«outgoing_reliable») (p .channels) (a .channel) _ refl;
-        givenUnreliable = channel-part (λ (c : Channel). c .«outgoing_unreliable») (p .channels) (a .channel) _ refl;
-        others = λ c n. getD-set-other (p .channels) (a .channel) c _ noChannel n;
-      }
+  opened-inbound = inbound-by (a .channel) p (p .lists .dispatched) (p .unsequenced .flags) _ _ (p .marks) _ refl refl
 
   pub pieced-inbound : Inbound (a .channel) p (piecedOn n a p)
-  pieced-inbound =
-      record {
-        ids = refl;
-        standing = refl;
-        bandwidth = refl;
-        totals = refl;
-        times = refl;
-        loss = refl;
-        throttling = refl;
-        limits = refl;
-        trips = refl;
-        flow = refl;
-        outgoing = refl;
-        sent = refl;
-        sendReliable = refl;
-        waits = refl;
-        base = refl;
-        group = refl;
-        words = refl;
-        given = λ c. refl;
-        givenUnreliable = λ c. refl;
-        others = λ c n. refl;
-      }
+  pieced-inbound = inbound-still (a .channel) p (p .lists .dispatched) (p .unsequenced .flags) (p .waiting) _ _
 
   pub finished-inbound : Inbound (a .channel) p (finishedOn n a p)
   finished-inbound =
       finished-has n a p (Inbound (a .channel) p)
-      (λ e. dispatched-has (a .channel) p (Inbound (a .channel) p) (λ none. inbound-refl (a .channel) p) moved) (λ e. inbound-refl (a .channel) p)
-    where
-      moved : Inbound (a .channel) p (withDispatch (a .channel) (gone (a .channel) p) p)
-      moved =
-          record {
-            ids = refl;
-            standing = refl;
-            bandwidth = refl;
-            totals = refl;
-            times = refl;
-            loss = refl;
-            throttling = refl;
-            limits = refl;
-            trips = refl;
-            flow = refl;
-            outgoing = refl;
-            sent = refl;
-            sendReliable = refl;
-            waits = refl;
-            base = refl;
-            group = refl;
-            words = refl;
-            given = channel-part (λ (c : Channel). c .«outgoing_reliable») (p .channels) (a .channel) (gone (a .channel) p .channel) refl;
-            givenUnreliable = channel-part (λ (c : Channel). c .«outgoing_unreliable») (p .channels) (a .channel) (gone (a .channel) p .channel) refl;
-            others = λ c n. getD-set-other (p .channels) (a .channel) c (gone (a .channel) p .channel) noChannel n;
-          }
+      (λ e.
+      dispatched-has (a .channel) p (Inbound (a .channel) p) (λ none. inbound-refl (a .channel) p)
+      (inbound-by (a .channel) p _ _ (p .waiting) (p .incoming) (p .marks) (gone (a .channel) p .channel) refl refl))
+      (λ e. inbound-refl (a .channel) p)
 
 pub piece-inbound : (n : ℕ) (a : Piece) (p : Peer) → Inbound (a .channel) p (pieceOn n a p)
 piece-inbound n a p =

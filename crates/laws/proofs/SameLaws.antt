@@ -335,60 +335,32 @@ module _ (p q : Peer) (k : Like p q) (w : Within p q) where
   adds-in : (s : ℕ) → times (named p) s ≡ times (inItems (p .lists .dispatched)) s + times (held counted) s
   adds-in s = times-append (inItems (p .lists .dispatched)) (held counted) s
 
-  agrees : Agrees p q
-  agrees =
-      record {
-        ids = k .ids;
-        standing = k .standing;
-        bandwidth = k .bandwidth;
-        totals = k .totals;
-        times = k .times;
-        loss = k .loss;
-        throttling = k .throttling;
-        limits = k .limits;
-        trips = k .trips;
-        flow = k .flow;
-        unsequenced = k .unsequenced;
-        waiting = k .waiting;
-        marks = k .marks;
-        sent =
-            out-put (p .outgoing) (q .outgoing) (usedOut (p .lists)) (p .lists .sent) (q .lists .sent) (k .outs) (λ s n. omega (arith, n, adds s)) (k .lists .sent);
-        sendReliable =
-            out-put (p .outgoing) (q .outgoing) (usedOut (p .lists)) (p .lists .«send_reliable») (q .lists .«send_reliable») (k .outs) (λ s n. omega (arith, n, adds s))
-            (k .lists .sendReliable);
-        outgoing =
-            out-put (p .outgoing) (q .outgoing) (usedOut (p .lists)) (p .lists .outgoing) (q .lists .outgoing) (k .outs) (λ s n. omega (arith, n, adds s))
-            (k .lists .outgoing);
-        dispatched =
-            in-put (p .incoming) (q .incoming) (named p) (p .lists .dispatched) w (λ s n. omega (arith, n, adds-in s))
-            ∙ ap (inFilled (q .incoming)) (k .lists .dispatched);
-        channels =
-            channels-put (p .incoming) (q .incoming) (named p) counted w (λ s n. omega (arith, n, adds-in s))
-            ∙ channels-filled [] (q .incoming) counted
-            ∙ ap (map (channelFilled (q .incoming))) (k .channels)
-            ∙ sym (channels-filled [] (q .incoming) (below (q .channels) (q .standing .channels)));
-      }
-
   pub like-same : Same p q
   unfolding view
   like-same =
       rw (
-        agrees .channels,
-        agrees .sent,
-        agrees .sendReliable,
-        agrees .outgoing,
-        agrees .dispatched,
-        agrees .ids,
-        agrees .standing,
-        agrees .bandwidth,
-        agrees .totals,
-        agrees .times,
-        agrees .loss,
-        agrees .throttling,
-        agrees .limits,
-        agrees .trips,
-        agrees .flow,
-        agrees .unsequenced,
-        agrees .waiting,
-        agrees .marks,
+        channels-put (p .incoming) (q .incoming) (named p) counted w (λ s n. omega (arith, n, adds-in s))
+            ∙ channels-filled [] (q .incoming) counted
+            ∙ ap (map (channelFilled (q .incoming))) (k .channels)
+            ∙ sym (channels-filled [] (q .incoming) (below (q .channels) (q .standing .channels))),
+        out-put (p .outgoing) (q .outgoing) (usedOut (p .lists)) (p .lists .sent) (q .lists .sent) (k .outs) (λ s n. omega (arith, n, adds s)) (k .lists .sent),
+        out-put (p .outgoing) (q .outgoing) (usedOut (p .lists)) (p .lists .«send_reliable») (q .lists .«send_reliable») (k .outs) (λ s n. omega (arith, n, adds s))
+            (k .lists .sendReliable),
+        out-put (p .outgoing) (q .outgoing) (usedOut (p .lists)) (p .lists .outgoing) (q .lists .outgoing) (k .outs) (λ s n. omega (arith, n, adds s))
+            (k .lists .outgoing),
+        in-put (p .incoming) (q .incoming) (named p) (p .lists .dispatched) w (λ s n. omega (arith, n, adds-in s))
+            ∙ ap (inFilled (q .incoming)) (k .lists .dispatched),
+        k .ids,
+        k .standing,
+        k .bandwidth,
+        k .totals,
+        k .times,
+        k .loss,
+        k .throttling,
+        k .limits,
+        k .trips,
+        k .flow,
+        k .unsequenced,
+        k .waiting,
+        k .marks,
       )

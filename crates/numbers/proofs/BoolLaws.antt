@@ -1,6 +1,9 @@
--- `both` holds where its two sides do, and may be grouped either way. By cases.
+-- `both` holds where its two sides do, and may be grouped either way; two tests say the same where each equation gives the other. By cases.
+use Prim.Native.Nat.{ℕ}
 use mathlib.Core.Path.{_≡_, refl}
 use mathlib.Core.Bool.{Bool, true, false}
+use lib.Dec.{eqb}
+use borrow.Author.Tests.{eqb-true, eqb-false, eq-eqb, ne-eqb}
 use Rattle.numbers.specs.Pick.{both}
 
 pub both-left : (a b : Bool) → both a b ≡ true → a ≡ true
@@ -28,3 +31,10 @@ both-with-true false = refl
 
 pub both-with-false : (a : Bool) → both a false ≡ false
 both-with-false a = both-false a false refl
+
+pub same-test : (a b c d : ℕ) → (a ≡ b → c ≡ d) → (c ≡ d → a ≡ b) → eqb a b ≡ eqb c d
+same-test a b c d f g = go (eqb c d) refl
+  where
+    go : (t : Bool) → eqb c d ≡ t → eqb a b ≡ t
+    go true t = eq-eqb a b (g (eqb-true c d t))
+    go false t = ne-eqb a b (λ e. eqb-false c d t (f e))

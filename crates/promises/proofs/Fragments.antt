@@ -9,9 +9,9 @@ use native.Mathlib.Omega.{arith}
 use lib.Dec.{eqb, leb, ltb}
 use lib.ListN.{length, take, drop, replicate, length-take, length-append, length-replicate}
 use lib.Seq.{getD-take}
-use borrow.Author.Tests.{eqb-true, eqb-false, eq-eqb, ne-eqb}
+use borrow.Author.Tests.{eqb-true, ne-eqb}
 use Rattle.numbers.specs.Pick.{pick, both}
-use Rattle.numbers.proofs.BoolLaws.{both-left}
+use Rattle.numbers.proofs.BoolLaws.{both-left, same-test}
 use Rattle.record.specs.Lists.{inItems}
 use Rattle.record.proofs.Keeps.{times, times-append, once-at-most}
 use Rattle.cells.specs.declared.First.{First}
@@ -142,13 +142,6 @@ pub record Pieced (B : Building → OfBlock) (a : Piece) (datagram : List ℕ) (
 packet-is : {c d y z m n f g : ℕ} {bs cs : List ℕ} → c ≡ d → y ≡ z → m ≡ n → f ≡ g → bs ≡ cs
     → _≡_ {A = Packet} (record { channel = c; byte = y; number = m; fragments = f; bytes = bs }) (record { channel = d; byte = z; number = n; fragments = g; bytes = cs })
 packet-is h i j k l = cc
-
-pub same-test : (a b c d : ℕ) → (a ≡ b → c ≡ d) → (c ≡ d → a ≡ b) → eqb a b ≡ eqb c d
-same-test a b c d f g = go (eqb c d) refl
-  where
-    go : (t : Bool) → eqb c d ≡ t → eqb a b ≡ t
-    go true t = eq-eqb a b (g (eqb-true c d t))
-    go false t = ne-eqb a b (λ e. eqb-false c d t (f e))
 
 module _ (B : Building → OfBlock) (blocked : (b : Building) (m : Marks) (second : List ℕ) (i : Incoming) → B b m second i → Blocked b m second i)
     (a : Piece) (datagram : List ℕ) (x : State) (b : Building) (u : First) where

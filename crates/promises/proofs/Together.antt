@@ -10,7 +10,7 @@ use lib.Dec.{eqb, leb}
 use lib.ListN.{length, take, length-replicate}
 use borrow.Author.Tests.{eqb-true, eq-eqb, leb-true}
 use Rattle.numbers.specs.Pick.{pick, both}
-use Rattle.numbers.proofs.BoolLaws.{both-left, both-right, both-true, both-false}
+use Rattle.numbers.proofs.BoolLaws.{both-left, both-right, both-true, both-false, same-test}
 use Rattle.cells.specs.Runs.{has}
 use Rattle.record.proofs.Keeps.{has-append}
 use Rattle.record.specs.Sizes.{secondLength}
@@ -45,7 +45,7 @@ use Rattle.promises.specs.Blocks.{IsPieceOf, OnlyPieces, AllOnly, isBloc
 use Rattle.promises.proofs.Sounding.{fresh-whole, call-sounds}
 use Rattle.promises.proofs.Presence.{count-append, count-none}
 use Rattle.promises.proofs.Building.{Stock}
-use Rattle.promises.proofs.Fragments.{zeros, Blocked, blocked-grows, Grows, built, Complete, same-test, fragment-pieced}
+use Rattle.promises.proofs.Fragments.{zeros, Blocked, blocked-grows, Grows, built, Complete, fragment-pieced}
 use Rattle.promises.proofs.Stocks.{fresh-stock, GrowsBy, call-stock}
 use Rattle.promises.proofs.Sorts.{put-none}
 use Rattle.promises.proofs.Comings.{joined-stored}

@@ -14,7 +14,7 @@ use Rattle.places.proofs.ChannelLaws.{held-is}
 use Rattle.gate.specs.CodeHalves.{heldSound}
 use Rattle.gate.proofs.Groups.{total-is}
 use Rattle.places.proofs.Sized.{sized}
-use Rattle.gate.proofs.Held.{held-stop, held-turn, held-sums, held-counts, held-end}
+use Rattle.gate.proofs.Held.{HeldTurn, held-stop, held-turn, held-sums, held-counts, held-end}
 use Rattle.gate.proofs.incoming.held_sound.Statement.{statement}
 use Rattle.gate.proofs.incoming.held_sound.Tie as tie
 
@@ -29,6 +29,30 @@ Inv-loop words count marks₀ from before total₀ blocks₀ k₀ marks total fo
 
 abbrev μ-loop : tie.MeasureT-loop
 μ-loop words count marks₀ from before total₀ blocks₀ k₀ marks total found k = count - k
+
+-- the places before `list-sound`
+abbrev to-loop : tie.After-list-sound Inv-loop μ-loop → tie.At-loop Inv-loop μ-loop
+to-loop c = c .before .before .before
+
+abbrev to-start : tie.After-list-sound Inv-loop μ-loop → tie.Start Inv-loop μ-loop
+to-start c = to-loop c .before .before .before
+
+-- the turn there
+turned : (c : tie.After-list-sound Inv-loop μ-loop) →
+    let a = to-start c .args in
+    let p = whole (a .words .now) in
+    let m = to-loop c .loop in
+    let w = c .list-sound in
+    HeldTurn (p .marks) (p .incoming) (a .count) (p .channels) (a .count) (m .k) (rowAt (194 + m .k * 17 + 4) 12 (a .words .now)) (m .marks) (w .result .ok) (w .last .1 .1 .1 .1 .1 .0)
+turned c =
+    let b = to-start c in
+    let ws = b .args .words .now in
+    record {
+      long = omega (arith, sized ws .channels, b .pre .1 .0);
+      here = omega arith;
+      is = held-is ws (to-loop c .loop .k) (omega (arith, b .pre .1 .0)) (b .pre .0);
+      walk = c .list-sound .ensures .0;
+    }
 
 loop-holds : tie.Need-loop-holds Inv-loop μ-loop
 loop-holds c = (search needs, search needs, refl, refl, search needs, refl, search needs)
@@ -54,18 +78,7 @@ same-length c = search needs
 returns : tie.Need-returns Inv-loop μ-loop
 returns c =
     let at-list-sound = c .before .before .before .before in
-    let at-loop = at-list-sound .before .before .before in
-    let b = at-loop .before .before .before in
-    let a = b .args in
-    let ws = a .words .now in
-    let slots = whole ws .incoming in
-    let cs = whole ws .channels in
-    let m = at-loop .loop in
-    let w = at-list-sound .list-sound in
-    let long : a .count ≤ length cs = omega (arith, sized ws .channels, b .pre .1 .0) in
-    let row = rowAt (194 + m .k * 17 + 4) 12 ws in
-    let is = held-is ws (m .k) (omega (arith, b .pre .1 .0)) (b .pre .0) in
-    rw (m .inv .2, held-stop (whole ws .marks) slots (a .count) cs (a .count) (m .k) long (omega arith) row (m .marks) is (w .result .ok) (w .last .1 .1 .1 .1 .1 .0) (w .ensures .0) (not-true (w .result .ok) (c .if1 .taken)))
+    rw (to-loop at-list-sound .loop .inv .2, held-stop (turned at-list-sound) (not-true _ (c .if1 .taken)))
 
 add-k : tie.Need-add-k Inv-loop μ-loop
 add-k c = search needs
@@ -76,24 +89,16 @@ loop-less c = search needs
 loop-again : tie.Need-loop-again Inv-loop μ-loop
 loop-again c =
     let at-list-sound = c .before .before .before .before in
-    let at-loop = at-list-sound .before .before .before in
-    let b = at-loop .before .before .before in
-    let a = b .args in
-    let ws = a .words .now in
-    let slots = whole ws .incoming in
-    let cs = whole ws .channels in
-    let m = at-loop .loop in
+    let m = to-loop at-list-sound .loop in
     let w = at-list-sound .list-sound in
-    let long : a .count ≤ length cs = omega (arith, sized ws .channels, b .pre .1 .0) in
-    let row = rowAt (194 + m .k * 17 + 4) 12 ws in
-    let is = held-is ws (m .k) (omega (arith, b .pre .1 .0)) (b .pre .0) in
+    let t = turned at-list-sound in
     let ok = not-false (w .result .ok) (c .if1 .left) in (
       omega arith,
       search needs,
-      m .inv .2 ∙ held-turn (whole ws .marks) slots (a .count) cs (a .count) (m .k) long (omega arith) row (m .marks) is (w .result .ok) (w .last .1 .1 .1 .1 .1 .0) (w .ensures .0) ok,
-      m .inv .3 ∙ held-sums (whole ws .marks) slots (a .count) cs (a .count) (m .k) long (omega arith) row (m .marks) is (w .result .ok) (w .last .1 .1 .1 .1 .1 .0) (w .ensures .0) (m .total) (w .result .total) (w .ensures .1 .0) ok,
+      m .inv .2 ∙ held-turn t ok,
+      m .inv .3 ∙ held-sums t (m .total) (w .result .total) (w .ensures .1 .0) ok,
       omega (arith, w .ensures .1 .0 .low ok),
-      m .inv .5 ∙ held-counts (whole ws .marks) slots (a .count) cs (a .count) (m .k) long (omega arith) row (m .marks) is (w .result .ok) (w .last .1 .1 .1 .1 .1 .0) (w .ensures .0) (m .blocks) (w .result .blocks) (w .ensures .1 .1) ok,
+      m .inv .5 ∙ held-counts t (m .blocks) (w .result .blocks) (w .ensures .1 .1) ok,
       omega (arith, w .ensures .1 .1 .low ok),
     )
 

@@ -1,8 +1,7 @@
 -- A turn of the walk at a time, as of an outgoing list, with the lengths summed and the blocks counted on the way.
 use Prim.Native.Nat.{ℕ, _+_, _*_, _-_, _≤_}
 use mathlib.Core.Path.{_≡_, refl}
-use mathlib.Core.Bool.{true, false}
-use mathlib.Core.List.{List}
+use mathlib.Core.Bool.{Bool, true, false}
 use native.Mathlib.Omega.{arith}
 use lib.ListN.{length, getD, drop, length-set}
 use borrow.Author.Needs.{needs}
@@ -10,13 +9,11 @@ use borrow.Author.Tests.{not-true, not-false}
 use Rattle.lists.specs.Rows.{rowAt, itemsOf}
 use Rattle.record.specs.Fresh.{noIncoming}
 use Rattle.record.specs.Blocks.{isBlock}
-use Rattle.record.specs.declared.groups.Incoming.{Incoming}
 use Rattle.record.specs.Damage.{lengths, blocks}
 use Rattle.damage.specs.CodeInWalks.{inPasses}
 use Rattle.damage.proofs.SumLaws.{pass-short}
-use Rattle.gate.specs.CodeHalves.{Sums, listBytes}
 use Rattle.places.specs.Whole.{whole}
-use Rattle.gate.proofs.Turns.{Listed, Left, left-all, long, end, past, twice, unfit, turn, summed, summed-end, counted, counted-end}
+use Rattle.gate.proofs.Turns.{Listed, Left, left-all, long, end, Turn, past, twice, unfit, turn, summed, summed-end, counted, counted-end}
 use Rattle.gate.proofs.Stops.{says}
 use Rattle.gate.proofs.Sums.{sums-stop, at-most-one}
 use Rattle.gate.proofs.incoming.list_sound.Statement.{statement}
@@ -34,11 +31,6 @@ Inv-loop words at count own k marks₀ from before total₀ blocks₀ n first j�
 abbrev μ-loop : tie.MeasureT-loop
 μ-loop words at count own k marks₀ from before total₀ blocks₀ n first j₀ marks total blocks′ j = n - j
 
--- a walk that stopped says nothing of its sums
-stops : (slots : List Incoming) (xs : List ℕ) (from total before found : ℕ)
-    → Sums (lengths slots) listBytes xs from false total × Sums (blocks slots) 12 xs before false found
-stops slots xs from total before found = (sums-stop (lengths slots) listBytes xs from total, sums-stop (blocks slots) 12 xs before found)
-
 -- the places before `narrow2`
 abbrev to-loop : tie.After-narrow2 Inv-loop μ-loop → tie.At-loop Inv-loop μ-loop
 to-loop c = c .before .before .before
@@ -48,6 +40,43 @@ to-narrow c = to-loop c .before .before
 
 abbrev to-start : tie.After-narrow2 Inv-loop μ-loop → tie.Start Inv-loop μ-loop
 to-start c = to-narrow c .before .before .before .before
+
+-- how the slots pass
+abbrev passing : tie.Start Inv-loop μ-loop → ℕ → Bool
+passing b =
+    let p = whole (b .args .words .now) in
+    inPasses (p .marks) (p .incoming) (b .args .count) (b .args .own) (b .args .k)
+
+-- the turn there
+turned : (c : tie.After-narrow2 Inv-loop μ-loop)
+    → Turn (passing (to-start c)) (to-start c .args .words .now) (to-start c .args .at) 12 (to-start c .args .marks .now) (to-loop c .loop .marks) (to-loop c .loop .j) (c .narrow2 .result)
+turned c =
+    let b = to-start c in
+    let v = to-narrow c .narrow in
+    record {
+      long = v .result;
+      list = record { room = omega (arith, b .pre .0, b .pre .1 .0); is = v .ensures };
+      few = omega arith;
+      left = to-loop c .loop .inv .2;
+      here = omega arith;
+      is = c .narrow2 .ensures;
+    }
+
+-- and from `in-passes` back to it
+abbrev to-turn : tie.After-in-passes Inv-loop μ-loop → tie.After-narrow2 Inv-loop μ-loop
+to-turn c = c .before .before .before .before
+
+-- what the test says of the slot
+tested : (c : tie.After-in-passes Inv-loop μ-loop) (b : Bool) → c .in-passes .result ≡ b → passing (to-start (to-turn c)) (to-turn c .narrow2 .result) ≡ b
+tested c b e = says (c .in-passes .result) (passing (to-start (to-turn c)) (to-turn c .narrow2 .result)) b (c .in-passes .ensures) e
+
+-- a slot that passes is short
+short : (c : tie.After-in-passes Inv-loop μ-loop) → c .in-passes .result ≡ true
+    → getD (whole (to-start (to-turn c) .args .words .now) .incoming) (to-turn c .narrow2 .result) noIncoming .length ≤ 32768
+short c e =
+    let a = to-start (to-turn c) .args in
+    let p = whole (a .words .now) in
+    pass-short (p .marks) (a .count) (a .own) (a .k) (getD (p .incoming) (to-turn c .narrow2 .result) noIncoming) (tested c true e)
 
 mul-narrow : tie.Need-mul-narrow Inv-loop μ-loop
 mul-narrow c = search needs
@@ -64,10 +93,9 @@ returns c =
     let a = at-start .args in
     let ws = a .words .now in
     let v = c .before .narrow in
-    let slots = whole ws .incoming in
-    let f = inPasses (whole ws .marks) slots (a .count) (a .own) (a .k) in
+    let f = passing at-start in
     let i : Listed ws (a .at) 12 (v .result) = record { room = omega (arith, at-start .pre .0, at-start .pre .1 .0); is = v .ensures } in
-    (long f ws (a .at) 12 (v .result) i (a .marks .now) (a .marks .now) (c .if1 .taken), stops slots (itemsOf (rowAt (a .at) 12 ws)) (a .from) (a .from) (a .before) (a .before))
+    (long f ws (a .at) 12 (v .result) i (a .marks .now) (a .marks .now) (c .if1 .taken), (sums-stop, sums-stop))
 
 add-first : tie.Need-add-first Inv-loop μ-loop
 add-first c = search needs
@@ -91,18 +119,7 @@ same-length : tie.Need-same-length Inv-loop μ-loop
 same-length c = search needs
 
 returns-2 : tie.Need-returns-2 Inv-loop μ-loop
-returns-2 c =
-    let at-narrow2 = c .before in
-    let b = to-start at-narrow2 in
-    let a = b .args in
-    let ws = a .words .now in
-    let v = to-narrow at-narrow2 .narrow in
-    let slots = whole ws .incoming in
-    let f = inPasses (whole ws .marks) slots (a .count) (a .own) (a .k) in
-    let i : Listed ws (a .at) 12 (v .result) = record { room = omega (arith, b .pre .0, b .pre .1 .0); is = v .ensures } in
-    let m = to-loop at-narrow2 .loop in
-    let s = at-narrow2 .narrow2 in
-    (past f ws (a .at) 12 (v .result) i (omega arith) (a .marks .now) (m .marks) (m .j) (m .inv .2) (omega arith) (s .result) (s .ensures) (omega arith), stops slots (itemsOf (rowAt (a .at) 12 ws)) (a .from) (m .total) (a .before) (m .blocks))
+returns-2 c = (past (turned (c .before)) (omega arith), (sums-stop, sums-stop))
 
 slice-read-if3 : tie.Need-slice-read-if3 Inv-loop μ-loop
 slice-read-if3 c = search needs
@@ -111,18 +128,7 @@ same-length-2 : tie.Need-same-length-2 Inv-loop μ-loop
 same-length-2 c = search needs
 
 returns-3 : tie.Need-returns-3 Inv-loop μ-loop
-returns-3 c =
-    let at-narrow2 = c .before .before .before in
-    let b = to-start at-narrow2 in
-    let a = b .args in
-    let ws = a .words .now in
-    let v = to-narrow at-narrow2 .narrow in
-    let slots = whole ws .incoming in
-    let f = inPasses (whole ws .marks) slots (a .count) (a .own) (a .k) in
-    let i : Listed ws (a .at) 12 (v .result) = record { room = omega (arith, b .pre .0, b .pre .1 .0); is = v .ensures } in
-    let m = to-loop at-narrow2 .loop in
-    let s = at-narrow2 .narrow2 in
-    (twice f ws (a .at) 12 (v .result) i (omega arith) (a .marks .now) (m .marks) (m .j) (m .inv .2) (omega arith) (s .result) (s .ensures) (omega arith) (c .if3 .taken), stops slots (itemsOf (rowAt (a .at) 12 ws)) (a .from) (m .total) (a .before) (m .blocks))
+returns-3 c = (twice (turned (c .before .before .before)) (omega arith) (c .if3 .taken), (sums-stop, sums-stop))
 
 in-passes-requires : tie.Need-in-passes-requires Inv-loop μ-loop
 in-passes-requires c κs = search needs
@@ -132,39 +138,14 @@ same-length-3 c = search needs
 
 returns-4 : tie.Need-returns-4 Inv-loop μ-loop
 returns-4 c =
-    let at-if3 = c .before .before in
-    let at-narrow2 = at-if3 .before .before .before in
-    let b = to-start at-narrow2 in
-    let a = b .args in
-    let ws = a .words .now in
-    let v = to-narrow at-narrow2 .narrow in
-    let slots = whole ws .incoming in
-    let f = inPasses (whole ws .marks) slots (a .count) (a .own) (a .k) in
-    let i : Listed ws (a .at) 12 (v .result) = record { room = omega (arith, b .pre .0, b .pre .1 .0); is = v .ensures } in
-    let m = to-loop at-narrow2 .loop in
-    let s = at-narrow2 .narrow2 in
-    let bad : f (s .result) ≡ false = says (c .before .in-passes .result) (f (s .result)) false (c .before .in-passes .ensures) (not-true _ (c .if4 .taken)) in
-    (unfit f ws (a .at) 12 (v .result) i (omega arith) (a .marks .now) (m .marks) (m .j) (m .inv .2) (omega arith) (s .result) (s .ensures) (omega arith) (at-if3 .if3 .left) bad, stops slots (itemsOf (rowAt (a .at) 12 ws)) (a .from) (m .total) (a .before) (m .blocks))
+    let at-in-passes = c .before in
+    (unfit (turned (to-turn at-in-passes)) (omega arith) (at-in-passes .before .if3 .left) (tested at-in-passes false (not-true _ (c .if4 .taken))), (sums-stop, sums-stop))
 
 length-at-requires : tie.Need-length-at-requires Inv-loop μ-loop
 length-at-requires c κs = search needs
 
 add-total : tie.Need-add-total Inv-loop μ-loop
-add-total c =
-    let at-in-passes = c .before .before in
-    let at-narrow2 = at-in-passes .before .before .before .before in
-    let b = to-start at-narrow2 in
-    let a = b .args in
-    let ws = a .words .now in
-    let v = to-narrow at-narrow2 .narrow in
-    let slots = whole ws .incoming in
-    let f = inPasses (whole ws .marks) slots (a .count) (a .own) (a .k) in
-    let i : Listed ws (a .at) 12 (v .result) = record { room = omega (arith, b .pre .0, b .pre .1 .0); is = v .ensures } in
-    let m = to-loop at-narrow2 .loop in
-    let s = at-narrow2 .narrow2 in
-    let good : f (s .result) ≡ true = says (at-in-passes .in-passes .result) (f (s .result)) true (at-in-passes .in-passes .ensures) (not-false _ (c .before .if4 .left)) in
-    let short = pass-short (whole ws .marks) (a .count) (a .own) (a .k) (getD slots (s .result) noIncoming) good in
-    omega (arith, c .length-at .ensures)
+add-total c = omega (arith, c .length-at .ensures, short (c .before .before) (not-false _ (c .before .if4 .left)))
 
 block-at-requires : tie.Need-block-at-requires Inv-loop μ-loop
 block-at-requires c κs = search needs
@@ -188,28 +169,19 @@ loop-less c = search needs
 loop-again : tie.Need-loop-again Inv-loop μ-loop
 loop-again c =
     let at-in-passes = c .before .before .before in
-    let at-narrow2 = at-in-passes .before .before .before .before in
-    let at-loop = at-narrow2 .before .before .before in
-    let at-narrow = at-loop .before .before in
-    let at-start = at-narrow .before .before .before .before in
-    let a = at-start .args in
-    let ws = a .words .now in
-    let v = at-narrow .narrow in
-    let slots = whole ws .incoming in
-    let f = inPasses (whole ws .marks) slots (a .count) (a .own) (a .k) in
-    let i : Listed ws (a .at) 12 (v .result) = record { room = omega (arith, at-start .pre .0, at-start .pre .1 .0); is = v .ensures } in
-    let m = at-loop .loop in
-    let s = at-narrow2 .narrow2 in
-    let good : f (s .result) ≡ true = says (at-in-passes .in-passes .result) (f (s .result)) true (at-in-passes .in-passes .ensures) (not-false _ (c .before .before .if4 .left)) in
-    let short = pass-short (whole ws .marks) (a .count) (a .own) (a .k) (getD slots (s .result) noIncoming) good in
-    let sum = summed f ws (a .at) 12 (v .result) i (omega arith) (a .marks .now) (m .marks) (m .j) (m .inv .2) (omega arith) (s .result) (s .ensures) slots in
-    let count = counted f ws (a .at) 12 (v .result) i (omega arith) (a .marks .now) (m .marks) (m .j) (m .inv .2) (omega arith) (s .result) (s .ensures) slots in
-    let few = at-most-one (isBlock (getD slots (s .result) noIncoming)) in
+    let at-narrow2 = to-turn at-in-passes in
+    let slots = whole (to-start at-narrow2 .args .words .now) .incoming in
+    let m = to-loop at-narrow2 .loop in
+    let passed = not-false _ (c .before .before .if4 .left) in
+    let low = short at-in-passes passed in
+    let sum = summed (turned at-narrow2) slots in
+    let count = counted (turned at-narrow2) slots in
+    let few = at-most-one (isBlock (getD slots (at-narrow2 .narrow2 .result) noIncoming)) in
     let block-is = c .block-at .ensures in
     let length-is = c .before .length-at .ensures in (
       omega arith,
       simp length-set (m .inv .1),
-      turn f ws (a .at) 12 (v .result) i (omega arith) (a .marks .now) (m .marks) (m .j) (m .inv .2) (omega arith) (s .result) (s .ensures) (omega arith) (at-in-passes .before .if3 .left) good,
+      turn (turned at-narrow2) (omega arith) (at-in-passes .before .if3 .left) (tested at-in-passes true passed),
       omega arith,
       omega arith,
       omega arith,
@@ -227,7 +199,7 @@ returns-5 c =
     let ws = a .words .now in
     let v = at-narrow .narrow in
     let slots = whole ws .incoming in
-    let f = inPasses (whole ws .marks) slots (a .count) (a .own) (a .k) in
+    let f = passing at-start in
     let i : Listed ws (a .at) 12 (v .result) = record { room = omega (arith, at-start .pre .0, at-start .pre .1 .0); is = v .ensures } in
     let m = c .before .loop in
     let sum = summed-end f ws (a .at) 12 (v .result) i (omega arith) (a .marks .now) (m .marks) (m .j) (m .inv .2) slots (omega arith) in

@@ -1,7 +1,7 @@
 -- A turn of the walk at a time: each return is where the list, the cell or the slot says so.
 use Prim.Native.Nat.{ℕ, _-_, _≤_}
 use mathlib.Core.Path.{_≡_, sym, ap, _∙_}
-use mathlib.Core.Bool.{true, false}
+use mathlib.Core.Bool.{Bool}
 use mathlib.Core.List.{List, map}
 use native.Mathlib.Omega.{arith}
 use lib.ListN.{length, length-set}
@@ -11,7 +11,7 @@ use Rattle.lists.specs.Rows.{rowAt, itemsOf}
 use Rattle.damage.specs.CodeOutWalks.{slotGrade, gradePasses, enough}
 use Rattle.record.specs.declared.groups.Outgoing.{Outgoing}
 use Rattle.places.specs.Whole.{whole}
-use Rattle.gate.proofs.Turns.{Listed, Left, long, end, past, twice, unfit, turn}
+use Rattle.gate.proofs.Turns.{Listed, Left, long, end, Turn, past, twice, unfit, turn}
 use Rattle.places.proofs.PoolLaws.{pool-is}
 use Rattle.gate.proofs.outgoing.list_sound.Statement.{statement}
 use Rattle.gate.proofs.outgoing.list_sound.Tie as tie
@@ -33,6 +33,37 @@ to-narrow c = to-loop c .before .before
 abbrev to-start : tie.After-narrow2 Inv-loop μ-loop → tie.Start Inv-loop μ-loop
 to-start c = to-narrow c .before .before .before .before
 
+-- how the slots pass
+abbrev passing : tie.Start Inv-loop μ-loop → ℕ → Bool
+passing b = gradePasses (map (slotGrade (b .args .count)) (whole (b .args .words .now) .outgoing)) (b .args .sent)
+
+-- the turn there
+turned : (c : tie.After-narrow2 Inv-loop μ-loop)
+    → Turn (passing (to-start c)) (to-start c .args .words .now) (to-start c .args .at) 32 (to-start c .args .marks .now) (to-loop c .loop .marks) (to-loop c .loop .j) (c .narrow2 .result)
+turned c =
+    let b = to-start c in
+    let v = to-narrow c .narrow in
+    record {
+      long = v .result;
+      list = record { room = omega (arith, b .pre .0, b .pre .1 .0); is = v .ensures };
+      few = omega arith;
+      left = to-loop c .loop .inv .2;
+      here = omega arith;
+      is = c .narrow2 .ensures;
+    }
+
+-- and from `enough` back to it
+abbrev to-turn : tie.After-enough Inv-loop μ-loop → tie.After-narrow2 Inv-loop μ-loop
+to-turn c = c .before .before .before .before .before .before
+
+-- what the test says of the slot
+tested : (c : tie.After-enough Inv-loop μ-loop) → passing (to-start (to-turn c)) (to-turn c .narrow2 .result) ≡ c .enough .result
+tested c =
+    let a = to-start (to-turn c) .args in
+    ap (λ (o : List Outgoing). gradePasses (map (slotGrade (a .count)) o) (a .sent) (to-turn c .narrow2 .result)) (pool-is (a .words .now))
+    ∙ ap (λ (w : ℕ). enough w (a .sent)) (sym (c .before .grade-at .ensures))
+    ∙ sym (c .enough .ensures)
+
 mul-narrow : tie.Need-mul-narrow Inv-loop μ-loop
 mul-narrow c = search needs
 
@@ -48,7 +79,7 @@ returns c =
     let a = at-start .args in
     let ws = a .words .now in
     let v = c .before .narrow in
-    let f = gradePasses (map (slotGrade (a .count)) (whole ws .outgoing)) (a .sent) in
+    let f = passing at-start in
     let i : Listed ws (a .at) 32 (v .result) = record { room = omega (arith, at-start .pre .0, at-start .pre .1 .0); is = v .ensures } in
     long f ws (a .at) 32 (v .result) i (a .marks .now) (a .marks .now) (c .if1 .taken)
 
@@ -74,17 +105,7 @@ same-length : tie.Need-same-length Inv-loop μ-loop
 same-length c = search needs
 
 returns-2 : tie.Need-returns-2 Inv-loop μ-loop
-returns-2 c =
-    let at-narrow2 = c .before in
-    let b = to-start at-narrow2 in
-    let a = b .args in
-    let ws = a .words .now in
-    let v = to-narrow at-narrow2 .narrow in
-    let f = gradePasses (map (slotGrade (a .count)) (whole ws .outgoing)) (a .sent) in
-    let i : Listed ws (a .at) 32 (v .result) = record { room = omega (arith, b .pre .0, b .pre .1 .0); is = v .ensures } in
-    let m = to-loop at-narrow2 .loop in
-    let s = at-narrow2 .narrow2 in
-    past f ws (a .at) 32 (v .result) i (omega arith) (a .marks .now) (m .marks) (m .j) (m .inv .2) (omega arith) (s .result) (s .ensures) (omega arith)
+returns-2 c = past (turned (c .before)) (omega arith)
 
 slice-read-if3 : tie.Need-slice-read-if3 Inv-loop μ-loop
 slice-read-if3 c = search needs
@@ -93,17 +114,7 @@ same-length-2 : tie.Need-same-length-2 Inv-loop μ-loop
 same-length-2 c = search needs
 
 returns-3 : tie.Need-returns-3 Inv-loop μ-loop
-returns-3 c =
-    let at-narrow2 = c .before .before .before in
-    let b = to-start at-narrow2 in
-    let a = b .args in
-    let ws = a .words .now in
-    let v = to-narrow at-narrow2 .narrow in
-    let f = gradePasses (map (slotGrade (a .count)) (whole ws .outgoing)) (a .sent) in
-    let i : Listed ws (a .at) 32 (v .result) = record { room = omega (arith, b .pre .0, b .pre .1 .0); is = v .ensures } in
-    let m = to-loop at-narrow2 .loop in
-    let s = at-narrow2 .narrow2 in
-    twice f ws (a .at) 32 (v .result) i (omega arith) (a .marks .now) (m .marks) (m .j) (m .inv .2) (omega arith) (s .result) (s .ensures) (omega arith) (c .if3 .taken)
+returns-3 c = twice (turned (c .before .before .before)) (omega arith) (c .if3 .taken)
 
 sub-grade-at : tie.Need-sub-grade-at Inv-loop μ-loop
 sub-grade-at c = search needs
@@ -125,19 +136,8 @@ same-length-3 c = search needs
 
 returns-4 : tie.Need-returns-4 Inv-loop μ-loop
 returns-4 c =
-    let at-grade-at = c .before .before in
-    let at-if3 = at-grade-at .before .before in
-    let at-narrow2 = at-if3 .before .before .before in
-    let b = to-start at-narrow2 in
-    let a = b .args in
-    let ws = a .words .now in
-    let v = to-narrow at-narrow2 .narrow in
-    let f = gradePasses (map (slotGrade (a .count)) (whole ws .outgoing)) (a .sent) in
-    let i : Listed ws (a .at) 32 (v .result) = record { room = omega (arith, b .pre .0, b .pre .1 .0); is = v .ensures } in
-    let m = to-loop at-narrow2 .loop in
-    let s = at-narrow2 .narrow2 in
-    let bad : f (s .result) ≡ false = ap (λ (o : List Outgoing). gradePasses (map (slotGrade (a .count)) o) (a .sent) (s .result)) (pool-is ws) ∙ ap (λ (w : ℕ). enough w (a .sent)) (sym (at-grade-at .grade-at .ensures)) ∙ sym (c .before .enough .ensures) ∙ not-true (c .before .enough .result) (c .if4 .taken) in
-    unfit f ws (a .at) 32 (v .result) i (omega arith) (a .marks .now) (m .marks) (m .j) (m .inv .2) (omega arith) (s .result) (s .ensures) (omega arith) (at-if3 .if3 .left) bad
+    let at-enough = c .before in
+    unfit (turned (to-turn at-enough)) (omega arith) (at-enough .before .before .before .if3 .left) (tested at-enough ∙ not-true _ (c .if4 .taken))
 
 slice-write-marks : tie.Need-slice-write-marks Inv-loop μ-loop
 slice-write-marks c = search needs
@@ -150,21 +150,10 @@ loop-less c = search needs
 
 loop-again : tie.Need-loop-again Inv-loop μ-loop
 loop-again c =
-    let at-grade-at = c .before .before in
-    let at-if3 = at-grade-at .before .before in
-    let at-narrow2 = at-if3 .before .before .before in
-    let at-loop = at-narrow2 .before .before .before in
-    let at-narrow = at-loop .before .before in
-    let at-start = at-narrow .before .before .before .before in
-    let a = at-start .args in
-    let ws = a .words .now in
-    let v = at-narrow .narrow in
-    let f = gradePasses (map (slotGrade (a .count)) (whole ws .outgoing)) (a .sent) in
-    let i : Listed ws (a .at) 32 (v .result) = record { room = omega (arith, at-start .pre .0, at-start .pre .1 .0); is = v .ensures } in
-    let m = at-loop .loop in
-    let s = at-narrow2 .narrow2 in
-    let good : f (s .result) ≡ true = ap (λ (o : List Outgoing). gradePasses (map (slotGrade (a .count)) o) (a .sent) (s .result)) (pool-is ws) ∙ ap (λ (w : ℕ). enough w (a .sent)) (sym (at-grade-at .grade-at .ensures)) ∙ sym (c .before .enough .ensures) ∙ not-false (c .before .enough .result) (c .if4 .left) in
-    (omega arith, simp length-set (m .inv .1), turn f ws (a .at) 32 (v .result) i (omega arith) (a .marks .now) (m .marks) (m .j) (m .inv .2) (omega arith) (s .result) (s .ensures) (omega arith) (at-if3 .if3 .left) good)
+    let at-enough = c .before in
+    let at-narrow2 = to-turn at-enough in
+    let good = tested at-enough ∙ not-false _ (c .if4 .left) in
+    (omega arith, simp length-set (to-loop at-narrow2 .loop .inv .1), turn (turned at-narrow2) (omega arith) (at-enough .before .before .before .if3 .left) good)
 
 same-length-4 : tie.Need-same-length-4 Inv-loop μ-loop
 same-length-4 c = search needs
@@ -176,7 +165,7 @@ returns-5 c =
     let a = at-start .args in
     let ws = a .words .now in
     let v = at-narrow .narrow in
-    let f = gradePasses (map (slotGrade (a .count)) (whole ws .outgoing)) (a .sent) in
+    let f = passing at-start in
     let i : Listed ws (a .at) 32 (v .result) = record { room = omega (arith, at-start .pre .0, at-start .pre .1 .0); is = v .ensures } in
     let m = c .before .loop in
     end f ws (a .at) 32 (v .result) i (omega arith) (a .marks .now) (m .marks) (m .j) (m .inv .2) (omega arith)
