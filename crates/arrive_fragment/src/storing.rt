@@ -10,18 +10,6 @@ use crate::Piece;
 use places::groups;
 use places::pools;
 
-// "sets that store to 0"
-fn clear(second: &mut [u8])
-    ensures { λ _. ⌜ now (second .exit) ≡ cleared (now (second .entry)) ⌝ }
-{
-    let n = second.len();
-    let mut i: usize = 0;
-    while i < n {
-        second[i] = 0;
-        i = i + 1;
-    }
-}
-
 // The block's slot s, in the channel's list by its start, its total awaited.
 fn open(words: &mut [u32], a: Piece, s: u16)
     requires { ⌜ length (now words) ≡ recordLength ⌝ }
@@ -80,7 +68,7 @@ pub fn begin(words: &mut [u32], second: &mut [u8], datagram: &[u8], a: Piece, s:
     ensures { λ _. ⌜ whole (now (words .exit)) ≡ pieceOn s a (openedOn s a (whole (now (words .entry)))) ⌝ }
     ensures { λ _. ⌜ now (second .exit) ≡ withBytes a (now (datagram .entry)) (cleared (now (second .entry))) ⌝ }
 {
-    clear(second);
+    pool::clear(second);
     open(words, a, s);
     add(words, second, datagram, a, s);
 }

@@ -31,7 +31,7 @@ fn narrow(x: u32) -> usize
     low16(x) as usize
 }
 
-fn is_fit(settings: Settings, lent: Lent) -> bool
+pub fn is_fit(settings: Settings, lent: Lent) -> bool
     ensures { λ r. ⌜ r ≡ fits settings lent ⌝ }
 {
     let fit = settings.is_fit();

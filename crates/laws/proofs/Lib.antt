@@ -24,3 +24,5 @@ pub mod Steady
 pub mod Loads
 pub mod Carrying
 pub mod Assembling
+pub mod Snapshots
+pub mod Tables

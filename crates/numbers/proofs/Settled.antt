@@ -10,7 +10,7 @@ use Rattle.numbers.specs.Clock.{answerOf, sampled}
 use Rattle.numbers.specs.declared.clock.Trip.{Trip}
 use Rattle.numbers.specs.declared.clock.Trip.the-variants.{PassedOver, Taken}
 use Rattle.numbers.specs.declared.refusals.Refusal.{Refusal}
-use Rattle.numbers.specs.declared.refusals.Refusal.the-variants.{NotConnected, InvalidChannel, PacketTooLarge, FragmentsExceeded, FailedToQueue, NotReceiving, LengthTooLarge, NotStored, BadCommand, NotRemoved, OutOfRange, Damaged, BadFragment}
+use Rattle.numbers.specs.declared.refusals.Refusal.the-variants.{NotConnected, InvalidChannel, PacketTooLarge, FragmentsExceeded, FailedToQueue, NotReceiving, LengthTooLarge, NotStored, BadCommand, NotRemoved, OutOfRange, NoRoom, Damaged, BadFragment, Unreadable}
 
 -- ---- refusals
 table : List Refusal
@@ -27,9 +27,10 @@ table =
     ∷ BadCommand
     ∷ NotRemoved
     ∷ OutOfRange
-    ∷ Damaged
+    ∷ NoRoom
     ∷ Damaged
     ∷ BadFragment
+    ∷ Unreadable
     ∷ []
 
 abbrev at : ℕ → Refusal
@@ -48,8 +49,10 @@ at-number NotStored = refl
 at-number BadCommand = refl
 at-number NotRemoved = refl
 at-number OutOfRange = refl
+at-number NoRoom = refl
 at-number Damaged = refl
 at-number BadFragment = refl
+at-number Unreadable = refl
 
 pub numbers-apart : (a b : Refusal) → numberOf a ≡ numberOf b → a ≡ b
 numbers-apart a b e = sym (at-number a) ∙ ap at e ∙ at-number b
@@ -70,8 +73,10 @@ refused-not-done NotStored e = omega (arith, e)
 refused-not-done BadCommand e = omega (arith, e)
 refused-not-done NotRemoved e = omega (arith, e)
 refused-not-done OutOfRange e = omega (arith, e)
+refused-not-done NoRoom e = omega (arith, e)
 refused-not-done Damaged e = omega (arith, e)
 refused-not-done BadFragment e = omega (arith, e)
+refused-not-done Unreadable e = omega (arith, e)
 
 -- ---- what is done: the counting numbers that an answer is made of are found again
 pub numbers-of-done : (xs : List ℕ) → numbersOf (done xs) ≡ xs

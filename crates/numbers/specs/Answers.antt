@@ -3,9 +3,10 @@ use Prim.Native.Nat.{ℕ}
 use mathlib.Core.List.{List, [], map}
 use lib.IntN.{ℤ, pos, negsuc}
 use Rattle.numbers.specs.declared.refusals.Refusal.{Refusal}
-use Rattle.numbers.specs.declared.refusals.Refusal.the-variants.{NotConnected, InvalidChannel, PacketTooLarge, FragmentsExceeded, FailedToQueue, NotReceiving, LengthTooLarge, NotStored, BadCommand, NotRemoved, OutOfRange, Damaged, BadFragment}
+use Rattle.numbers.specs.declared.refusals.Refusal.the-variants.{NotConnected, InvalidChannel, PacketTooLarge, FragmentsExceeded, FailedToQueue, NotReceiving, LengthTooLarge, NotStored, BadCommand, NotRemoved, OutOfRange, NoRoom, Damaged, BadFragment, Unreadable}
 
--- the table: 6, 7 and 8 are an arrival's, 10 an acknowledgement's; C-11: 14, fields out of range or unlike the first piece's
+-- the table: 6, 7 and 8 are an arrival's, 10 an acknowledgement's; C-11: 14, fields out of range or unlike the first piece's; C-12: 12, no room,
+-- and 15, a snapshot that cannot be read
 abbrev pub numberOf : Refusal → ℕ
 numberOf NotConnected = 1
 numberOf InvalidChannel = 2
@@ -18,8 +19,10 @@ numberOf NotStored = 8
 numberOf BadCommand = 9
 numberOf NotRemoved = 10
 numberOf OutOfRange = 11
+numberOf NoRoom = 12
 numberOf Damaged = 13
 numberOf BadFragment = 14
+numberOf Unreadable = 15
 
 pub record Answer : Type 0 where
   pub number : ℕ

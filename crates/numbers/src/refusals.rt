@@ -1,4 +1,4 @@
-// Document 01's table of what a call refuses, a case for each of its numbers; 14 is C-11's.
+// Document 01's table of what a call refuses, a case for each of its numbers; 14 is C-11's, 12 and 15 are C-12's.
 ghost use mathlib.Core.Path.{_≡_};
 ghost use Rattle.numbers.specs.Answers.{numberOf};
 
@@ -14,8 +14,10 @@ pub enum Refusal {
     BadCommand,
     NotRemoved,
     OutOfRange,
+    NoRoom,
     Damaged,
     BadFragment,
+    Unreadable,
 }
 
 impl Refusal {
@@ -34,8 +36,10 @@ impl Refusal {
             Refusal::BadCommand => 9,
             Refusal::NotRemoved => 10,
             Refusal::OutOfRange => 11,
+            Refusal::NoRoom => 12,
             Refusal::Damaged => 13,
             Refusal::BadFragment => 14,
+            Refusal::Unreadable => 15,
         }
     }
 }

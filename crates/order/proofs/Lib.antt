@@ -4,3 +4,10 @@ pub mod CutLaws
 pub mod PartLaws
 pub mod SlotLaws
 pub mod WholeLaws
+pub mod EntryLaws
+pub mod Determined
+pub mod Agreement
+pub mod Restored
+pub mod Retold
+pub mod RowLaws
+pub mod WholeTables

@@ -2,7 +2,7 @@
 // sets the record's numbers walks over this table.
 mod kinds;
 mod parts;
-mod used;
+pub mod used;
 
 ghost use mathlib.Core.Path.{_≡_};
 ghost use Prim.Native.Nat.{_<_};

@@ -2,7 +2,7 @@
 ghost use mathlib.Core.Path.{_≡_};
 ghost use mathlib.Core.List.{map};
 ghost use Prim.Native.Nat.{_+_, _≤_, _<_};
-ghost use lib.ListN.{length, drop, getD, set};
+ghost use lib.ListN.{length, drop, getD, set, replicate};
 ghost use lib.Seq.{paste};
 ghost use Rattle.record.specs.Lists.{outgoing};
 ghost use Rattle.record.specs.Fresh.{noOutgoing, noIncoming};
@@ -41,6 +41,18 @@ pub fn copy(to: &mut [u32], at: usize, from: &[u32], place: usize, count: usize)
     let mut i: usize = 0;
     while i < count {
         to[at + i] = from[place + i];
+        i = i + 1;
+    }
+}
+
+// All bytes to 0.
+pub fn clear(bytes: &mut [u8])
+    ensures { λ _. ⌜ now (bytes .exit) ≡ replicate (length (now (bytes .entry))) 0 ⌝ }
+{
+    let n = bytes.len();
+    let mut i: usize = 0;
+    while i < n {
+        bytes[i] = 0;
         i = i + 1;
     }
 }

@@ -11,6 +11,7 @@ use lib.Pow.{pow-mono, shr-lt, shr-mono, shl-shr}
 use lib.Seq.{sets, sets-eq, paste, take-all}
 use borrow.Author.Tests.{lt-ltb, ltb-true, ltb-false, eq-eqb, ne-eqb}
 use Rattle.numbers.specs.Pick.{pick, both}
+use Rattle.command.proofs.ByteLaws.{sets-append}
 use Rattle.peer.specs.declared.Peer.{Peer}
 use Rattle.script.specs.Frames.{numberAt}
 use Rattle.script_set.specs.Setting.{fitsAt, allFit, numbersFrom}
@@ -83,12 +84,6 @@ module _ (p : Peer) (input : List ℕ) (i k n : ℕ) where
       rw (a, b, d)
 
 -- sixteen numbers copied, and one behind them
-sets-append : (xs ys l : List ℕ) (i : ℕ) → sets l i (xs ++ ys) ≡ sets (sets l i xs) (i + length xs) ys
-sets-append [] ys l i = let e : i + 0 ≡ i = omega arith in rw e
-sets-append (x ∷ xs) ys l i =
-    let e : suc i + length xs ≡ i + suc (length xs) = omega arith in
-    sets-append xs ys (set l i x) (suc i) ∙ ap (λ (m : ℕ). sets (sets (set l i x) (suc i) xs) m ys) e
-
 pub command-put : (ws row xs out : List ℕ) (i kind : ℕ) → i + 16 ≤ length ws → length row ≡ 16 → row ≡ xs → out ≡ paste ws i (drop 0 row) 16
     → set out (i + 16) kind ≡ sets ws i (xs ++ (kind ∷ []))
 command-put ws row xs out i kind h l e f =

@@ -98,6 +98,17 @@ number-few (suc n) (b ∷ bs) = go (ltb b 128) (number-few n bs)
     go true l = omega arith
     go false l = below-few b n (numberIn n bs) l
 
+-- its groups lie inside the bytes
+pub number-there : (n : ℕ) (bs : List ℕ) → groupsOf (numberIn n bs) ≤ length bs
+unfolding numberIn
+number-there zero bs = omega arith
+number-there (suc n) [] = omega arith
+number-there (suc n) (b ∷ bs) = go (ltb b 128) (number-there n bs)
+  where
+    go : (t : Bool) → groupsOf (numberIn n bs) ≤ length bs → groupsOf (pick t (Number b 1) (below b (numberIn n bs))) ≤ suc (length bs)
+    go true l = omega arith
+    go false l = below-few b (length bs) (numberIn n bs) l
+
 pub number-fits : (bs : List ℕ) (at n : ℕ) → ((j : ℕ) → getD bs j 0 < 256) → n ≤ 4 → valueOf (numberIn n (drop at bs)) < 2 ^ 28
 number-fits bs at n all l =
     omega (

@@ -1,0 +1,4 @@
+pub mod Row
+pub mod Stored
+pub mod CodeRow
+pub mod CodeStored
