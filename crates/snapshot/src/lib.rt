@@ -8,8 +8,11 @@ ghost use lib.Seq.{sets};
 ghost use Rattle.record.specs.Sizes.{storeLength, secondLength};
 ghost use Rattle.places.specs.Whole.{whole, recordLength};
 ghost use Rattle.order.specs.Table.{usedIncoming};
+ghost use Rattle.sevens.specs.Groups.{read};
 ghost use Rattle.snapshot_parts.specs.Row.{resultOf};
+ghost use Rattle.snapshot_parts.specs.CodeRow.{endOf};
 ghost use Rattle.snapshot_parts.specs.Stored.{storedTotal};
+ghost use Rattle.snapshot.specs.CodeEdition.{begun};
 ghost use Rattle.snapshot.specs.Calls.{answerOf, snapshotOf, writesSnapshot, readSnapshot, stateFrom, restores};
 use numbers::refusals::Refusal;
 use peer::calls::Reply;
@@ -74,7 +77,10 @@ pub fn write(
 }
 
 // Where the edition ends, if it is there.
-fn begin(bytes: &[u8]) -> Parsing {
+fn begin(bytes: &[u8]) -> Parsing
+    ensures edition { λ r. ⌜ r ≡ begun (read (now (bytes .entry))) ⌝ }
+    ensures inside { λ r. ⌜ endOf r ≤ length (now (bytes .entry)) ⌝ }
+{
     match sevens::read(bytes, 0) {
         Grouped::Number { value, groups } => {
             if value != EDITION as u64 {
@@ -88,8 +94,10 @@ fn begin(bytes: &[u8]) -> Parsing {
 
 // The numbers of a snapshot, into zeros; where its stored bytes begin.
 fn parse(bytes: &[u8], words: &mut [u32]) -> Parsing
+    requires { ⌜ length (now words) ≡ recordLength ⌝ }
     requires { ⌜ now words ≡ replicate recordLength 0 ⌝ }
-    ensures { λ r. ⌜ resultOf r (now (words .exit)) (now (bytes .entry)) ≡ readSnapshot (now (bytes .entry)) ⌝ }
+    ensures snapshot { λ r. ⌜ resultOf r (now (words .exit)) (now (bytes .entry)) ≡ readSnapshot (now (bytes .entry)) ⌝ }
+    ensures inside { λ r. ⌜ endOf r ≤ length (now (bytes .entry)) ⌝ }
 {
     let at = match begin(bytes) {
         Parsing::Read { end } => end,

@@ -1,6 +1,6 @@
 -- The walk over the table of the record's places: a turn of `size`, `put` and `read`, and the end. The argument: the groups of the whole table are those of the places
 -- that are left behind those that are done; what the numbers are read as is what the first place is, and the rest with it.
-use Prim.Native.Nat.{ℕ, _+_, _*_, _≤_, _<_}
+use Prim.Native.Nat.{ℕ, _+_, _*_, _≤_, _<_, suc}
 use mathlib.Core.Path.{_≡_, refl, ap, sym, _∙_}
 use mathlib.Core.Bool.{Bool, true, false}
 use mathlib.Core.List.{List, [], _∷_, _++_}
@@ -36,13 +36,23 @@ part-few e = go (e .«is_written»)
     go true = groups-few 5 (e .number)
     go false = omega arith
 
+-- at most five bytes a place
+pub row-few : (es : List Place) → length (grouped (shown es)) ≤ 5 * length es
+unfolding shown grouped
+row-few [] = omega arith
+row-few (e ∷ es) = go (e .«is_written») (row-few es)
+  where
+    go : (b : Bool) → length (grouped (shown es)) ≤ 5 * length es → length (grouped (pick b (e .number ∷ shown es) (shown es))) ≤ 5 * suc (length es)
+    go true h = rw length-append (omega (arith, groups-few 5 (e .number)))
+    go false h = omega arith
+
 module _ (es : List Place) (k : ℕ) where
-  left-end : length es ≤ k → left es k ≡ []
+  pub left-end : length es ≤ k → left es k ≡ []
   unfolding shown grouped
   left-end h = ap (λ (r : List Place). grouped (shown r)) (rest-end es k h)
 
   module _ (h : k < length es) where
-    left-step : left es k ≡ partOf (getD es k nowhere) ++ left es (k + 1)
+    pub left-step : left es k ≡ partOf (getD es k nowhere) ++ left es (k + 1)
     unfolding shown grouped
     left-step = ap (λ (r : List Place). grouped (shown r)) (rest-step es k nowhere h) ∙ go (getD es k nowhere .«is_written»)
       where

@@ -6,7 +6,7 @@ use mathlib.Core.Bool.{Bool, true, false}
 use mathlib.Core.List.{List, [], _∷_, _++_}
 use native.Mathlib.Nat.{zero-add}
 use native.Mathlib.Omega.{arith}
-use lib.ListN.{length, take, drop, getD, set, length-drop}
+use lib.ListN.{length, take, drop, getD, set, length-drop, length-append}
 use lib.Seq.{sets, drop-drop, getD-drop, length-take-le}
 use Rattle.numbers.specs.Pick.{pick}
 use Rattle.command.proofs.ByteLaws.{sets-append}
@@ -52,6 +52,29 @@ module _ (store second : List ℕ) (l : length store ≡ 49152) (m : length seco
       go : (b : Bool) → isBlock i ≡ b → length (take (storedLength i) (pick b second (drop (s * 4096) store))) ≡ storedLength i
       go true e = length-take-le (storedLength i) second (omega (arith, block-inside i s e, m))
       go false e = length-take-le (storedLength i) (drop (s * 4096) store) (rw length-drop (omega (arith, cell-inside i s e h, l)))
+
+  -- and all slots' bytes are as many as they say
+  pub stored-length : (used : ℕ → Bool) (s : ℕ) (is : List Incoming) → s + length is ≤ 12 → length (storedFrom used store second s is) ≡ storedTotal used s is
+  unfolding storedFrom storedTotal
+  stored-length used s [] h = refl
+  stored-length used s (i ∷ is) h =
+      length-append (pick (used s) (storedBytes store second s i) []) (storedFrom used store second (s + 1) is)
+      ∙ ap (λ (n : ℕ). length (pick (used s) (storedBytes store second s i) []) + n) (stored-length used (s + 1) is (omega arith))
+      ∙ ap (λ (n : ℕ). n + storedTotal used (s + 1) is) (go (used s))
+    where
+      go : (b : Bool) → length (pick b (storedBytes store second s i) []) ≡ pick b (storedLength i) 0
+      go true = slot-length i s (omega arith)
+      go false = refl
+
+-- at most a store's a slot
+pub total-few : (used : ℕ → Bool) (s : ℕ) (is : List Incoming) → storedTotal used s is ≤ 32768 * length is
+unfolding storedTotal
+total-few used s [] = omega arith
+total-few used s (i ∷ is) = omega (arith, go (used s), total-few used (s + 1) is)
+  where
+    go : (b : Bool) → pick b (storedLength i) 0 ≤ 32768
+    go true = length-most i
+    go false = omega arith
 
 -- the cases of the code: a block, or a cell
 module _ (i : Incoming) (n s at : ℕ) (is : n ≡ storedLength i) where

@@ -129,7 +129,8 @@ fn read_at(bytes: &[u8], at: usize, words: &mut [u32], i: usize) -> Parsing
 pub fn read(bytes: &[u8], at: usize, words: &mut [u32]) -> Parsing
     requires { ⌜ length (now words) ≡ recordLength ⌝ }
     requires { ⌜ at ≤ length (now bytes) ⌝ }
-    ensures { λ r. ⌜ resultOf r (now (words .exit)) (now (bytes .entry)) ≡ numbersFrom recordLength 0 (now (words .entry)) (drop at (now (bytes .entry))) ⌝ }
+    ensures numbers { λ r. ⌜ resultOf r (now (words .exit)) (now (bytes .entry)) ≡ numbersFrom recordLength 0 (now (words .entry)) (drop at (now (bytes .entry))) ⌝ }
+    ensures inside { λ r. ⌜ endOf r ≤ length (now (bytes .entry)) ⌝ }
 {
     let mut end = at;
     let mut i: usize = 0;

@@ -48,8 +48,11 @@ returns c =
     let at-read = c .before .before .before .before in
     let l = to-loop at-read .loop in
     let a = to-start (to-loop at-read) .args in
-    read-none (a .bytes .now) (a .at) (a .words .now) (l .words) (l .end) (l .i) (l .inv .1) (at-read .before .before .loop-test .taken)
-    (at-read .read-at .result) _ (at-read .read-at .ensures .0) (c .enum-told .given .1)
+    let none =
+        read-none (a .bytes .now) (a .at) (a .words .now) (l .words) (l .end) (l .i) (l .inv .1) (at-read .before .before .loop-test .taken)
+        (at-read .read-at .result) _ (at-read .read-at .ensures .0) (c .enum-told .given .1)
+    in
+    (none, omega arith)
 
 add-i : tie.Need-add-i Inv-loop μ-loop
 add-i c = search needs
@@ -77,7 +80,7 @@ returns-2 : tie.Need-returns-2 Inv-loop μ-loop
 returns-2 c =
     let l = c .before .loop in
     let a = to-start (c .before) .args in
-    read-end (a .bytes .now) (a .at) (a .words .now) (l .words) (l .end) (l .i) (l .inv .1) (c .loop-test .left)
+    (read-end (a .bytes .now) (a .at) (a .words .now) (l .words) (l .end) (l .i) (l .inv .1) (c .loop-test .left), l .inv .1 .inside)
 
 pub read-spec : {M : Type 1} → statement M
 read-spec =
