@@ -17,8 +17,7 @@ use Rattle.command.specs.Layout.{known, widthOf}
 use Rattle.lists.specs.Rows.{low, rowAt, lenOf}
 use Rattle.lists.proofs.Placed.{row-is}
 use Rattle.record.specs.Fresh.{noChannel}
-use Rattle.record.specs.Lists.{outgoing, incoming}
-use Rattle.record.specs.Damage.{below, heldFit, listsFit}
+use Rattle.record.specs.Damage.{heldFit, listsFit}
 use Rattle.record.specs.declared.groups.Channel.{Channel}
 use Rattle.record.specs.declared.groups.Standing.{Standing}
 use Rattle.record.specs.declared.incoming.InList.{InList}
@@ -26,17 +25,16 @@ use Rattle.pool.specs.Slots.{kindFrom}
 use Rattle.peer.specs.Damage.{sound}
 use Rattle.peer.proofs.Clauses.{sound-clauses}
 use Rattle.places.specs.Whole.{sizes, numbers, parts, made, whole}
-use Rattle.places.specs.Updates.{channelAt}
 use Rattle.places.proofs.Sized.{sized}
 use Rattle.places.proofs.GroupLaws.{standing-is}
 use Rattle.places.proofs.ChannelLaws.{held-is}
-use Rattle.order.specs.Table.{plain, lengthOf, asCommand, unwritten, nowhere, ownBits, groupBits, slotBits, inSlotBits, usedOutgoing, usedIncoming, table}
+use Rattle.order.specs.Table.{plain, lengthOf, asCommand, unwritten, nowhere, ownBits, groupBits, slotBits, inSlotBits, usedOutgoing, usedIncoming}
 use Rattle.order.specs.CodeCuts.{cut, cutPlace, fieldFrom, commandPlace}
 use Rattle.order.specs.declared.Place.{Place}
 use Rattle.order.proofs.TableLaws.{shownIf}
 use Rattle.order.proofs.PartLaws.{listAt}
 use Rattle.order.proofs.EntryLaws.{entryAt, own-entry, group-entry, mark-entry, list-entry, dispatched-entry, number-entry, held-entry, slot-number-entry, slot-command-entry, slot-kind-entry, in-slot-entry, length-of-list, cell-of-list, Regions, below-or, by-region}
-use Rattle.order.proofs.Determined.{Named, sound-named, byte-place, kind-named}
+use Rattle.order.proofs.Determined.{sound-named, byte-place, kind-named}
 use Rattle.snapshot_parts.specs.Row.{fits}
 
 never : {A : Type 0} → false ≡ true → A
@@ -152,11 +150,12 @@ held-fit-at (d ∷ cs) (suc n) (suc c) e a b = held-fit-at cs n c (both-right (l
 lens-fit : (a b c d : ℕ) → both (leb a 32) (both (leb b 32) (both (leb c 32) (leb d 12))) ≡ true → (a ≤ 32) × (b ≤ 32) × (c ≤ 32) × (d ≤ 12)
 lens-fit a b c d e =
     let f = both-right (leb a 32) (both (leb b 32) (both (leb c 32) (leb d 12))) e in
-    let g = both-right (leb b 32) (both (leb c 32) (leb d 12)) f in
-    (leb-true a 32 (both-left (leb a 32) (both (leb b 32) (both (leb c 32) (leb d 12))) e),
+    let g = both-right (leb b 32) (both (leb c 32) (leb d 12)) f in (
+      leb-true a 32 (both-left (leb a 32) (both (leb b 32) (both (leb c 32) (leb d 12))) e),
       leb-true b 32 (both-left (leb b 32) (both (leb c 32) (leb d 12)) f),
       leb-true c 32 (both-left (leb c 32) (leb d 12) g),
-      leb-true d 12 (both-right (leb c 32) (leb d 12) g))
+      leb-true d 12 (both-right (leb c 32) (leb d 12) g),
+    )
 
 lists-fit-are : (ws : List ℕ) → listsFit (whole ws .lists)
     ≡ both (leb (lenOf (rowAt 43 32 ws)) 32) (both (leb (lenOf (rowAt 76 32 ws)) 32) (both (leb (lenOf (rowAt 109 32 ws)) 32) (leb (lenOf (rowAt 142 12 ws)) 12)))

@@ -11,8 +11,8 @@ use lib.Dec.{leb, ltb, eqb}
 use lib.ListN.{length, getD, set, take, drop, length-set}
 use lib.Pow.{pow-pos}
 use lib.Seq.{getD-set-same, getD-set-other}
-use borrow.Author.Tests.{le-leb, lt-leb, eq-eqb, leb-true, leb-false, eqb-true}
-use Rattle.numbers.specs.Pick.{pick, both}
+use borrow.Author.Tests.{eq-eqb, leb-true, leb-false, eqb-true}
+use Rattle.numbers.specs.Pick.{pick}
 use Rattle.numbers.proofs.BoolLaws.{both-right}
 use Rattle.command.specs.Layout.{known, widthOf}
 use Rattle.command.specs.Rows.{namesFields}
@@ -20,12 +20,12 @@ use Rattle.lists.specs.Rows.{low}
 use Rattle.pool.specs.Slots.{kindFrom}
 use Rattle.pool.proofs.Decoding.{named-by, command-at}
 use Rattle.places.specs.Whole.{whole}
-use Rattle.order.specs.Table.{plain, lengthOf, asCommand, unwritten, nowhere, ownBits, groupBits, slotBits, inSlotBits, usedOutgoing, usedIncoming, table}
+use Rattle.order.specs.Table.{plain, lengthOf, asCommand, unwritten, nowhere, ownBits, groupBits, slotBits, inSlotBits, usedOutgoing, usedIncoming}
 use Rattle.order.specs.CodeCuts.{cut, cutPlace, fieldFrom, commandPlace}
 use Rattle.order.specs.declared.Place.{Place}
 use Rattle.order.proofs.TableLaws.{shownIf}
 use Rattle.order.proofs.PartLaws.{listAt}
-use Rattle.order.proofs.EntryLaws.{entryAt, cellAt, own-entry, group-entry, mark-entry, list-entry, dispatched-entry, number-entry, held-entry, slot-number-entry, slot-command-entry, slot-kind-entry, in-slot-entry, length-of-list, cell-of-list, Regions, below-or, by-region}
+use Rattle.order.proofs.EntryLaws.{entryAt, own-entry, group-entry, mark-entry, list-entry, dispatched-entry, number-entry, held-entry, slot-number-entry, slot-command-entry, slot-kind-entry, in-slot-entry, length-of-list, cell-of-list, Regions, below-or, by-region}
 use Rattle.order.proofs.Determined.{shape, seen, Named, Before, byte-place, slotWords, words-at, command-is, used-out-same, next-seen, next-written}
 use Rattle.order.proofs.Agreement.{Known, number-at, Agrees, Kinds, entry-agrees}
 use Rattle.snapshot_parts.specs.Row.{fits, putAt}

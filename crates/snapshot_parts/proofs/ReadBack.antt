@@ -1,13 +1,12 @@
 -- Read, then written: bytes that were read as numbers begin with the groups of the record's row, as the record of these numbers has it, and what was left is behind them.
 -- The argument, from the last place to the first: the numbers read agree with those that stood before a place, so the entry at the place is the one that the reader had when it
 -- had put its number there; that one is written as the reader saw it, and has the number read, whose groups are the bytes it was read of, for a number has one form.
-use Prim.Native.Nat.{ℕ, zero, suc, _+_, _*_, _%_, _≤_, _<_}
+use Prim.Native.Nat.{ℕ, zero, suc, _+_, _*_, _<_}
 use mathlib.Core.Path.{_≡_, refl, ap, sym, subst, _∙_}
 use mathlib.Core.Bool.{Bool, true, false}
 use mathlib.Core.List.{List, [], _++_, append-assoc}
-use native.Mathlib.Numerals.{add-one}
 use native.Mathlib.Omega.{arith}
-use lib.ListN.{length, getD, take, drop, replicate, take-append-drop, length-replicate}
+use lib.ListN.{length, getD, drop, replicate, take-append-drop, length-replicate}
 use lib.Seq.{getD-drop}
 use Rattle.numbers.specs.Pick.{pick}
 use Rattle.sevens.specs.Groups.{written, read}
@@ -16,7 +15,7 @@ use Rattle.sevens.specs.declared.Grouped.{Grouped}
 use Rattle.sevens.specs.declared.Grouped.the-variants.{Number, Unread}
 use Rattle.sevens.proofs.GroupLaws.{written-read}
 use Rattle.places.specs.Whole.{whole}
-use Rattle.order.specs.Table.{table, rowOf, nowhere}
+use Rattle.order.specs.Table.{table, rowOf}
 use Rattle.order.specs.declared.Place.{Place}
 use Rattle.order.proofs.WholeLaws.{table-length}
 use Rattle.order.proofs.EntryLaws.{entryAt}

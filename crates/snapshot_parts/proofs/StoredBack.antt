@@ -1,23 +1,23 @@
 -- Stored bytes laid back: the bytes of the used slots are then those that were laid, slot by slot; so what was stored and is laid back is stored as before.
 -- The argument: a slot's bytes lie in its cell, or a block's in the second store; what is laid after it goes into later cells, and into the second store only for another
 -- block, which a sound record has not.
-use Prim.Native.Nat.{ℕ, zero, suc, _+_, _*_, _-_, _≤_, _<_, min}
+use Prim.Native.Nat.{ℕ, zero, suc, _+_, _*_, _≤_, _<_, min}
 use mathlib.Core.Path.{_≡_, refl, ap, sym, subst, _∙_}
 use mathlib.Core.Bool.{Bool, true, false}
 use mathlib.Core.List.{List, [], _∷_, _++_, append-assoc}
 use native.Mathlib.Nat.{zero-add}
 use native.Mathlib.Omega.{arith}
-use lib.Dec.{leb, ltb, eqb}
-use lib.ListN.{length, getD, take, drop, set, length-append, length-drop, length-take}
+use lib.Dec.{eqb}
+use lib.ListN.{length, getD, take, drop, set, length-append, length-drop}
 use lib.Seq.{sets, sets-eq, length-sets, take-set-le, take-take, take-add, take-nil, take-at, drop-at, length-take-le}
-use borrow.Author.Tests.{eqb-true, eqb-false, ne-eqb}
+use borrow.Author.Tests.{eqb-true, eqb-false}
 use Rattle.numbers.specs.Pick.{pick, both}
-use Rattle.numbers.proofs.BoolLaws.{both-left, both-right}
+use Rattle.numbers.proofs.BoolLaws.{both-right}
 use Rattle.cells.specs.Free.{exist, once}
 use Rattle.record.specs.Blocks.{isBlock}
 use Rattle.record.specs.Fresh.{noIncoming}
 use Rattle.record.specs.Lists.{incoming}
-use Rattle.record.specs.Damage.{below, usedIn, all, inFit, own, lengths, blocks, oneBlock, inSound}
+use Rattle.record.specs.Damage.{below, usedIn, all, inFit, own, lengths, blocks, oneBlock}
 use Rattle.record.specs.declared.groups.Incoming.{Incoming}
 use Rattle.record.specs.declared.groups.Marks.{Marks}
 use Rattle.record.proofs.Keeps.{times, times-some}
@@ -274,8 +274,8 @@ one-most m n e = go (eqb n 0) refl e
     go true z q = omega (arith, eqb-true n 0 z)
     go false z q = omega (arith, eqb-true n 1 q)
 
-in-one : (m : Marks) (a b c d f g : Bool) → both (both a b) (both c (both d (both f g))) ≡ true → g ≡ true
-in-one m a b c d f g e =
+in-one : (a b c d f g : Bool) → both (both a b) (both c (both d (both f g))) ≡ true → g ≡ true
+in-one a b c d f g e =
     both-right f g (both-right d (both f g) (both-right c (both d (both f g)) (both-right (both a b) (both c (both d (both f g))) e)))
 
 pub sound-single : (p : Peer) → sound p ≡ true → Single (usedIncoming p) 0 (p .incoming)
@@ -284,7 +284,7 @@ sound-single p e a b h k u v c d =
     let xs = usedIn (p .lists) now in
     let few : blocks (p .incoming) xs ≤ 1 =
     one-most (p .marks) (blocks (p .incoming) xs)
-    (in-one (p .marks) (exist incoming xs) (once xs) (all (inFit (p .marks) (p .incoming) (p .standing .channels)) xs) (own (p .incoming) 0 now) (eqb (p .waiting .total) (lengths (p .incoming) xs)) (oneBlock (p .marks) (blocks (p .incoming) xs))
+    (in-one (exist incoming xs) (once xs) (all (inFit (p .marks) (p .incoming) (p .standing .channels)) xs) (own (p .incoming) 0 now) (eqb (p .waiting .total) (lengths (p .incoming) xs)) (oneBlock (p .marks) (blocks (p .incoming) xs))
     (sound-clauses p e .arrived))
     in
     let s : usedIncoming p a ≡ true = subst (λ (n : ℕ). usedIncoming p n ≡ true) (zero-add a) u in
@@ -310,3 +310,43 @@ module _ (used : ℕ → Bool) (is : List Incoming) (y : Stores) (l : length is 
       let xs = storedFrom used store second 0 is in
       let e : length xs ≡ storedTotal used 0 is = stored-length used store second 0 is (omega arith) (omega arith) in
       laid-stored (xs ++ more) (omega (arith, e, length-append xs more)) ∙ take-at xs more (storedTotal used 0 is) e
+
+-- ---- slot by slot: the same bytes of all used slots are the same bytes of each
+module _ (used : ℕ → Bool) (a b c d : List ℕ) (k : 32768 ≤ length b) (n : 32768 ≤ length d) where
+  -- two lists in two parts, the first of one length
+  parts-same : (xs ys us vs : List ℕ) (m : ℕ) → length xs ≡ m → length ys ≡ m → xs ++ us ≡ ys ++ vs → (xs ≡ ys) × (us ≡ vs)
+  parts-same xs ys us vs m p q e =
+      (sym (take-at xs us m p) ∙ ap (take m) e ∙ take-at ys vs m q, sym (drop-at xs us m p) ∙ ap (drop m) e ∙ drop-at ys vs m q)
+
+  pub each-slot : (s : ℕ) (is : List Incoming) → (s + length is) * 4096 ≤ length a → (s + length is) * 4096 ≤ length c
+      → storedFrom used a b s is ≡ storedFrom used c d s is → (j : ℕ) → j < length is → used (s + j) ≡ true
+      → storedBytes a b (s + j) (getD is j noIncoming) ≡ storedBytes c d (s + j) (getD is j noIncoming)
+  unfolding storedFrom
+  each-slot s [] h m e j q u = absurd (omega arith)
+  each-slot s (i ∷ is) h m e j q u = go (used s) refl e j q u (λ f t r v. each-slot (s + 1) is (omega arith) (omega arith) f t r v)
+    where
+      go : (t : Bool) → used s ≡ t
+          → pick t (storedBytes a b s i) [] ++ storedFrom used a b (s + 1) is ≡ pick t (storedBytes c d s i) [] ++ storedFrom used c d (s + 1) is
+          → (j : ℕ) → j < length (i ∷ is) → used (s + j) ≡ true
+          → (storedFrom used a b (s + 1) is ≡ storedFrom used c d (s + 1) is → (r : ℕ) → r < length is → used (s + 1 + r) ≡ true
+          → storedBytes a b (s + 1 + r) (getD is r noIncoming) ≡ storedBytes c d (s + 1 + r) (getD is r noIncoming))
+          → storedBytes a b (s + j) (getD (i ∷ is) j noIncoming) ≡ storedBytes c d (s + j) (getD (i ∷ is) j noIncoming)
+      go false w f zero r v more =
+          let z : s + 0 ≡ s = omega arith in
+          let y : false ≡ true = sym w ∙ ap used (sym z) ∙ v in
+          absurd (let x : _≡_ {A = ℕ} 0 1 = cc in omega arith)
+      go false w f (suc t) r v more =
+          let z : s + 1 + t ≡ s + suc t = omega arith in
+          subst (λ (x : ℕ). storedBytes a b x (getD is t noIncoming) ≡ storedBytes c d x (getD is t noIncoming)) z (more f t (omega arith) (ap used z ∙ v))
+      go true w f zero r v more =
+          let z : s ≡ s + 0 = omega arith in
+          let p = bytes-length a b s i (omega arith) k in
+          let y = bytes-length c d s i (omega arith) n in
+          subst (λ (x : ℕ). storedBytes a b x i ≡ storedBytes c d x i) z
+          (parts-same (storedBytes a b s i) (storedBytes c d s i) (storedFrom used a b (s + 1) is) (storedFrom used c d (s + 1) is) (storedLength i) p y f .0)
+      go true w f (suc t) r v more =
+          let z : s + 1 + t ≡ s + suc t = omega arith in
+          let p = bytes-length a b s i (omega arith) k in
+          let y = bytes-length c d s i (omega arith) n in
+          let g = parts-same (storedBytes a b s i) (storedBytes c d s i) (storedFrom used a b (s + 1) is) (storedFrom used c d (s + 1) is) (storedLength i) p y f .1 in
+          subst (λ (x : ℕ). storedBytes a b x (getD is t noIncoming) ≡ storedBytes c d x (getD is t noIncoming)) z (more g t (omega arith) (ap used z ∙ v))

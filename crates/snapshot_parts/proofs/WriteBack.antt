@@ -2,7 +2,7 @@
 -- are left. And cut anywhere, they are not read at all.
 -- The argument, from the first place to the last: the entries before a place are the same, so the reader sees the place written exactly where it was; there it finds the number's
 -- groups, reads the number, which fits, and puts it where it was. A cut falls inside a number's groups, and those are not read.
-use Prim.Native.Nat.{ℕ, zero, suc, _+_, _*_, _-_, _%_, _≤_, _<_}
+use Prim.Native.Nat.{ℕ, zero, suc, _+_, _-_, _≤_, _<_}
 use mathlib.Core.Path.{_≡_, refl, ap, sym, subst, _∙_}
 use mathlib.Core.Bool.{Bool, true, false}
 use mathlib.Core.List.{List, [], _++_, map, append-assoc}
@@ -22,9 +22,8 @@ use Rattle.order.proofs.WholeLaws.{table-length}
 use Rattle.order.proofs.EntryLaws.{entryAt, below-or}
 use Rattle.order.proofs.Determined.{shape, seen, Before, sound-named, next-seen, next-written}
 use Rattle.snapshot_parts.specs.Row.{grouped, fits, putAt, Parsed, parsed, unread, withNumber, numbersFrom}
-use Rattle.snapshot_parts.specs.CodeRow.{partOf}
 use Rattle.snapshot_parts.proofs.RowLaws.{left, left-end, left-step}
-use Rattle.snapshot_parts.proofs.PutLaws.{Kinded, kinded-none, kinded-named, kinded-pass, seen-is, put-length, put-before, put-written, put-shape, put-number, kinded-put}
+use Rattle.snapshot_parts.proofs.PutLaws.{Kinded, kinded-none, kinded-named, kinded-pass, seen-is, put-length, put-before, put-shape, put-number, kinded-put}
 use Rattle.snapshot_parts.proofs.FitLaws.{good-fits, good-at}
 
 -- ---- a place by what it is like and its number
