@@ -26,3 +26,8 @@ pub mod Carrying
 pub mod Assembling
 pub mod Snapshots
 pub mod Tables
+pub mod ReadThenWritten
+pub mod StoredSame
+pub mod ThereAndBack
+pub mod SnapshotCuts
+pub mod OneSnapshot

@@ -1,2 +1,4 @@
 pub mod WriteLaws
 pub mod RestoreLaws
+pub mod Settled
+pub mod Sound

@@ -97,8 +97,7 @@ stored-few ws = omega (arith, total-few (usedIncoming (whole ws)) 0 (whole ws .i
 -- ---- the stores' lengths
 pub lengths-fit : (s : Settings) (x : State) → fits s (lentBoth x) ≡ true → (length (x .store) ≡ 49152) × (length (x .second) ≡ 32768)
 lengths-fit s x f =
-    let both-are = both-right (fitSettings s) _ f in
-    (
+    let both-are = both-right (fitSettings s) _ f in (
       eqb-true (length (x .store)) 49152 (both-left (eqb (length (x .store)) 49152) _ both-are),
       eqb-true (length (x .second)) 32768 (both-right (eqb (length (x .store)) 49152) _ both-are),
     )

@@ -150,6 +150,27 @@ stay-second used (i ∷ is) s bs y h = go (used s) refl (λ cs z. stay-second us
             let z : s ≡ s + 0 = omega arith in
             absurd (h 0 (omega arith) (subst (λ (n : ℕ). used n ≡ true) z w) e)
 
+-- ---- both stores keep their lengths
+pub laid-store-length : (used : ℕ → Bool) (s : ℕ) (is : List Incoming) (bs : List ℕ) (y : Stores) → length (laidFrom used s is bs y .store) ≡ length (y .store)
+unfolding laidFrom
+laid-store-length used s [] bs y = refl
+laid-store-length used s (i ∷ is) bs y = go (used s) (λ cs z. laid-store-length used (s + 1) is cs z)
+  where
+    go : (b : Bool) → ((cs : List ℕ) (z : Stores) → length (laidFrom used (s + 1) is cs z .store) ≡ length (z .store))
+        → length (pick b (laidFrom used (s + 1) is (drop (storedLength i) bs) (laidOne s i (take (storedLength i) bs) y)) (laidFrom used (s + 1) is bs y) .store) ≡ length (y .store)
+    go true r = r (drop (storedLength i) bs) (laidOne s i (take (storedLength i) bs) y) ∙ one-store-length s i (take (storedLength i) bs) y
+    go false r = r bs y
+
+pub laid-second-length : (used : ℕ → Bool) (s : ℕ) (is : List Incoming) (bs : List ℕ) (y : Stores) → length (laidFrom used s is bs y .second) ≡ length (y .second)
+unfolding laidFrom
+laid-second-length used s [] bs y = refl
+laid-second-length used s (i ∷ is) bs y = go (used s) (λ cs z. laid-second-length used (s + 1) is cs z)
+  where
+    go : (b : Bool) → ((cs : List ℕ) (z : Stores) → length (laidFrom used (s + 1) is cs z .second) ≡ length (z .second))
+        → length (pick b (laidFrom used (s + 1) is (drop (storedLength i) bs) (laidOne s i (take (storedLength i) bs) y)) (laidFrom used (s + 1) is bs y) .second) ≡ length (y .second)
+    go true r = r (drop (storedLength i) bs) (laidOne s i (take (storedLength i) bs) y) ∙ one-second-length s i (take (storedLength i) bs) y
+    go false r = r bs y
+
 -- ---- how many bytes
 cell-most : (i : Incoming) → isBlock i ≡ false → storedLength i ≤ 4096
 cell-most i e =

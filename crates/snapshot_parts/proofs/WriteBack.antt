@@ -20,7 +20,7 @@ use Rattle.order.specs.Table.{table, rowOf, nowhere}
 use Rattle.order.specs.declared.Place.{Place}
 use Rattle.order.proofs.WholeLaws.{table-length}
 use Rattle.order.proofs.EntryLaws.{entryAt, below-or}
-use Rattle.order.proofs.Determined.{shape, seen, Before, sound-named, next-seen, next-written}
+use Rattle.order.proofs.Determined.{shape, seen, Named, Before, sound-named, next-seen, next-written}
 use Rattle.snapshot_parts.specs.Row.{grouped, fits, putAt, Parsed, parsed, unread, withNumber, numbersFrom}
 use Rattle.snapshot_parts.proofs.RowLaws.{left, left-end, left-step}
 use Rattle.snapshot_parts.proofs.PutLaws.{Kinded, kinded-none, kinded-named, kinded-pass, seen-is, put-length, put-before, put-shape, put-number, kinded-put}
@@ -234,6 +234,7 @@ pub record BackOver (zs ws rest : List ℕ) : Type 0 where
   pub is : numbersFrom 1236 0 zs (grouped (rowOf (whole ws)) ++ rest) ≡ parsed numbers rest
   pub long : length numbers ≡ 1236
   pub same : map seen (table (whole numbers)) ≡ map seen (table (whole ws))
+  pub named : Named numbers 1236
 
 abbrev pub Back : List ℕ → List ℕ → Type 0
 Back ws rest = BackOver (replicate 1236 0) ws rest
@@ -242,7 +243,7 @@ module _ (ws : List ℕ) (l : length ws ≡ 1236) (e : sound (whole ws) ≡ true
   pub written-read-over : (zs rest : List ℕ) → length zs ≡ 1236 → BackOver zs ws rest
   written-read-over zs rest m =
       let r = reached ws l e small rest 1236 0 zs refl (begun ws l e small zs m) in
-      record { numbers = r .numbers; is = r .is; long = r .along .long; same = same-seen ws l e small (r .numbers) (r .along) }
+      record { numbers = r .numbers; is = r .is; long = r .along .long; same = same-seen ws l e small (r .numbers) (r .along); named = kinded-named (r .numbers) 1236 (r .along .kinded) }
 
   pub written-read : (rest : List ℕ) → Back ws rest
   written-read rest = written-read-over (replicate 1236 0) rest (length-replicate {A = ℕ} 1236 0)

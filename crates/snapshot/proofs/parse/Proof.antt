@@ -89,9 +89,8 @@ returns-3 c =
     let start = to-start (to-begin at-read) in
     let bs = start .args .bytes .now in
     let r = at-read .read in
-    let numbers = r .ensures .0 ∙ ap (λ ws. numbersFrom 1236 0 ws (drop (e .0 .0) bs)) (start .pre .1) in
-    (
-      bytes-other bs (b .result) (b .ensures .0) (e .0 .0) (e .1) (r .result) _ numbers (f .0 .0) (f .1) (λ h. c .if1 .taken (h ∙ sym (at-size .size .ensures))),
+    let numbers = r .ensures .0 ∙ ap (λ ws. numbersFrom 1236 0 ws (drop (e .0 .0) bs)) (start .pre .1) in (
+      bytes-other bs (b .result) (b .ensures .0) (e .0 .0) (e .1) (r .result) _ numbers (f .0 .0) (f .1) (λ h. omega (arith, c .if1 .taken, at-size .size .ensures)),
       omega arith,
     )
 
@@ -108,9 +107,8 @@ returns-4 c =
     let start = to-start (to-begin at-read) in
     let bs = start .args .bytes .now in
     let r = at-read .read in
-    let numbers = r .ensures .0 ∙ ap (λ ws. numbersFrom 1236 0 ws (drop (e .0 .0) bs)) (start .pre .1) in
-    (
-      bytes-all bs (b .result) (b .ensures .0) (e .0 .0) (e .1) (r .result) _ numbers (f .0 .0) (f .1) (c .if1 .left ∙ at-size .size .ensures),
+    let numbers = r .ensures .0 ∙ ap (λ ws. numbersFrom 1236 0 ws (drop (e .0 .0) bs)) (start .pre .1) in (
+      bytes-all bs (b .result) (b .ensures .0) (e .0 .0) (e .1) (r .result) _ numbers (f .0 .0) (f .1) (omega (arith, c .if1 .left, at-size .size .ensures)),
       omega (arith, ap endOf (f .1), r .ensures .1),
     )
 

@@ -29,13 +29,15 @@ put-requires c κs = omega (arith, edition-one, room (to-start c))
 
 put-requires-2 : tie.Need-put-requires-2
 put-requires-2 c κs =
-    let start = to-start (c .before .before .before .before) in
+    let at-first = c .before .before .before in
+    let start = to-start (at-first .before) in
     (search needs, omega (arith, room start))
 
 put-requires-3 : tie.Need-put-requires-3
 put-requires-3 c κs =
     let at-second = c .before .before .before in
-    let start = to-start (at-second .before .before .before .before .before) in
+    let at-first = at-second .before .before .before .before in
+    let start = to-start (at-first .before) in
     (search needs, (search needs, omega (arith, at-second .put2 .ensures .1, room start)))
 
 same-length : tie.Need-same-length

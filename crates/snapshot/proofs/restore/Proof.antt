@@ -38,7 +38,6 @@ state c = record { peer = whole (c .args .words .now); store = c .args .store .n
 is-well : (c : tie.Else1) → fits (to-start (c .before) .args .settings) (lentBoth (state (to-start (c .before)))) ≡ true
 is-well c = sym (c .before .is-fit .ensures) ∙ not-false (c .before .is-fit .result) (c .if1 .left)
 
-
 is-fit-requires : tie.Need-is-fit-requires
 is-fit-requires c κs = search needs
 

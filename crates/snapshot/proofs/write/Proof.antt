@@ -32,7 +32,6 @@ state c = record { peer = whole (c .args .words .now); store = c .args .store .n
 abbrev asked : (c : tie.After-ask) → AtGate (to-start c .args .settings) (lentBoth (state (to-start c))) (state (to-start c) .peer)
 asked c = record { gate = c .ask .result; is = c .ask .ensures }
 
-
 -- the edition's test
 abbrev to-if1 : tie.After-size2 → tie.Else1
 to-if1 c = c .before .before .before .before
@@ -103,8 +102,7 @@ put-requires c κs =
     let at-ask = to-ask at-told in
     let start = to-start at-ask in
     let a = start .args in
-    let o = at-told .enum-told .given .1 in
-    (
+    let o = at-told .enum-told .given .1 in (
       search needs,
       (
         stores-fit (a .settings) (a .edition) (state start) (a .buffer .now) (asked at-ask) o,

@@ -49,8 +49,8 @@ returns c =
     let l = to-loop at-read .loop in
     let a = to-start (to-loop at-read) .args in
     let none =
-        read-none (a .bytes .now) (a .at) (a .words .now) (l .words) (l .end) (l .i) (l .inv .1) (at-read .before .before .loop-test .taken)
-        (at-read .read-at .result) _ (at-read .read-at .ensures .0) (c .enum-told .given .1)
+    read-none (a .bytes .now) (a .at) (a .words .now) (l .words) (l .end) (l .i) (l .inv .1) (at-read .before .before .loop-test .taken)
+    (at-read .read-at .result) _ (at-read .read-at .ensures .0) (c .enum-told .given .1)
     in
     (none, omega arith)
 
