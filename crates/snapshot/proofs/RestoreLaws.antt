@@ -26,7 +26,6 @@ use Rattle.places.specs.Whole.{whole}
 use Rattle.order.specs.Table.{usedIncoming}
 use Rattle.snapshot_parts.specs.Row.{Parsed, parsed, unread, numbersFrom, resultOf}
 use Rattle.snapshot_parts.specs.Stored.{storedTotal, Stores, stores, laidFrom}
-use Rattle.snapshot_parts.specs.CodeRow.{endOf}
 use Rattle.snapshot_parts.specs.declared.row.Parsing.{Parsing}
 use Rattle.snapshot_parts.specs.declared.row.Parsing.the-variants as vr
 use Rattle.snapshot.specs.Calls.{lentBoth, complete, withEdition, readSnapshot, stateFrom, replaced, restores}

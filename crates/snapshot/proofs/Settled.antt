@@ -1,7 +1,7 @@
 -- The contracts of both calls settle their results: two results that one input allows are the same, the reply and what the call may change.
 -- The argument: what is left is the rule's, and a reply is made again of its answer's values.
 use Prim.Native.Nat.{ℕ}
-use mathlib.Core.Path.{_≡_, refl, ap, sym}
+use mathlib.Core.Path.{_≡_, ap, sym}
 use mathlib.Core.List.{List}
 use lib.ListN.{getD}
 use Rattle.numbers.specs.Answers.{Answer, numbersOf}

@@ -1,11 +1,11 @@
 -- What `put` and `write` lean on: a snapshot is its edition's byte, its numbers and its stored bytes, one behind the other; how long it is; and the call by its cases.
 -- The argument: the edition is one group; bytes that are set one behind the other are set together; the gate is open only for stores of their lengths.
-use Prim.Native.Nat.{ℕ, _+_, _*_, _≤_, _<_}
+use Prim.Native.Nat.{ℕ, _+_, _≤_, _<_}
 use mathlib.Core.Path.{_≡_, refl, ap, sym, _∙_}
 use mathlib.Core.Bool.{Bool, true, false}
-use mathlib.Core.List.{List, [], _∷_, _++_}
+use mathlib.Core.List.{List, _++_}
 use native.Mathlib.Omega.{arith}
-use lib.Dec.{leb, eqb}
+use lib.Dec.{eqb}
 use lib.ListN.{length, length-append}
 use lib.Seq.{sets}
 use borrow.Author.Tests.{eqb-true, eq-eqb, ne-eqb, le-leb, lt-leb}
@@ -20,7 +20,6 @@ use Rattle.peer.specs.Gate.{fits, gateOf}
 use Rattle.peer.specs.Settings.{fitSettings}
 use Rattle.peer.specs.Outcome.{State, Outcome, Came, unchanged}
 use Rattle.peer.specs.declared.settings.Settings.{Settings}
-use Rattle.peer.specs.declared.gate.Gate.{Gate}
 use Rattle.peer.specs.declared.gate.Gate.the-variants.{Open, Shut}
 use Rattle.peer.proofs.Gates.{AtGate, came-shut, came-open, openness}
 use Rattle.places.specs.Whole.{whole}
@@ -32,7 +31,6 @@ use Rattle.snapshot_parts.specs.Stored.{storedTotal, storedFrom}
 use Rattle.snapshot_parts.proofs.RowLaws.{row-few}
 use Rattle.snapshot_parts.proofs.StoredLaws.{stored-length, total-few}
 use Rattle.snapshot.specs.Calls.{snapshotOf, lentBoth, writtenInto, writesSnapshot, answerOf}
-use Rattle.snapshot.specs.declared.Written.{Written}
 use Rattle.snapshot.specs.declared.Written.the-variants as vr
 
 -- ---- the bytes

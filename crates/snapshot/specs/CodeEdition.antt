@@ -1,5 +1,4 @@
 -- For functions inside the house alone: the step in which the code reads the edition. Nothing here need be believed: the contract of `parse` is the rule's own.
-use Prim.Native.Nat.{ℕ}
 use lib.Dec.{eqb}
 use Rattle.numbers.specs.Pick.{pick}
 use Rattle.sevens.specs.declared.Grouped.{Grouped}

@@ -1,5 +1,4 @@
 -- `begin` meets its contract: its returns are the cases of the edition.
-use mathlib.Core.Path.{_≡_}
 use native.Mathlib.Omega.{arith}
 use borrow.Author.Needs.{needs}
 use Rattle.snapshot.proofs.RestoreLaws.{begin-none, begin-unknown, begin-read, begin-inside}

@@ -1,10 +1,9 @@
 -- `parse` meets its contract: edition, numbers and stored bytes are read one behind the other, each by the rule's case.
-use Prim.Native.Nat.{_≤_}
-use mathlib.Core.Path.{_≡_, ap, sym, _∙_}
+use mathlib.Core.Path.{ap, _∙_}
 use native.Mathlib.Omega.{arith}
-use lib.ListN.{length, drop}
+use lib.ListN.{drop}
 use borrow.Author.Needs.{needs}
-use Rattle.snapshot_parts.specs.Row.{numbersFrom, resultOf}
+use Rattle.snapshot_parts.specs.Row.{numbersFrom}
 use Rattle.snapshot_parts.specs.CodeRow.{endOf}
 use Rattle.snapshot.proofs.RestoreLaws.{edition-none, numbers-none, bytes-other, bytes-all}
 use Rattle.snapshot.proofs.parse.Statement.{statement}

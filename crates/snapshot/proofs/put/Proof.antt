@@ -1,6 +1,5 @@
 -- `put` meets its contract: edition, numbers and stored bytes are set one behind the other; the buffer has room for all of them.
 use Prim.Native.Nat.{_+_, _≤_}
-use mathlib.Core.Path.{_≡_, _∙_}
 use native.Mathlib.Omega.{arith}
 use lib.ListN.{length}
 use borrow.Author.Needs.{needs}
