@@ -1,9 +1,11 @@
 -- `parse` meets its contract: edition, numbers and stored bytes are read one behind the other, each by the rule's case.
-use mathlib.Core.Path.{ap, _∙_}
+use Prim.Native.Nat.{ℕ}
+use mathlib.Core.Path.{_≡_, ap, _∙_}
+use mathlib.Core.List.{List}
 use native.Mathlib.Omega.{arith}
-use lib.ListN.{drop}
+use lib.ListN.{drop, replicate}
 use borrow.Author.Needs.{needs}
-use Rattle.snapshot_parts.specs.Row.{numbersFrom}
+use Rattle.snapshot_parts.specs.Row.{numbersFrom, resultOf}
 use Rattle.snapshot_parts.specs.CodeRow.{endOf}
 use Rattle.snapshot.proofs.RestoreLaws.{edition-none, numbers-none, bytes-other, bytes-all}
 use Rattle.snapshot.proofs.parse.Statement.{statement}
@@ -26,6 +28,16 @@ to-begin c = to-end c .before .before
 -- the place before `begin`
 abbrev to-start : tie.After-begin → tie.Start
 to-start c = c .before .before .before
+
+-- the bytes, and what was read of them behind the edition, from zeros
+abbrev bytesOf : tie.After-read → List ℕ
+bytesOf c = to-start (to-begin c) .args .bytes .now
+
+abbrev placeOf : tie.After-read → ℕ
+placeOf c = to-end c .end .given .0 .0
+
+numbers : (c : tie.After-read) → resultOf (c .read .result) (c .read .last .1 .1 .0) (bytesOf c) ≡ numbersFrom 1236 0 (replicate 1236 0) (drop (placeOf c) (bytesOf c))
+numbers c = c .read .ensures .0 ∙ ap (λ ws. numbersFrom 1236 0 ws (drop (placeOf c) (bytesOf c))) (to-start (to-begin c) .pre .1)
 
 begin-requires : tie.Need-begin-requires
 begin-requires c κs = search needs
@@ -59,13 +71,8 @@ same-length c = search needs
 returns-2 : tie.Need-returns-2
 returns-2 c =
     let at-read = c .before .before .before .before in
-    let e = to-end at-read .end .given in
     let b = to-begin at-read .begin in
-    let start = to-start (to-begin at-read) in
-    let bs = start .args .bytes .now in
-    let r = at-read .read in
-    let numbers = r .ensures .0 ∙ ap (λ ws. numbersFrom 1236 0 ws (drop (e .0 .0) bs)) (start .pre .1) in
-    (numbers-none bs (b .result) (b .ensures .0) (e .0 .0) (e .1) (r .result) _ numbers (c .enum-told2 .given .1), omega arith)
+    (numbers-none (bytesOf at-read) (b .result) (b .ensures .0) (placeOf at-read) (to-end at-read .end .given .1) (at-read .read .result) _ (numbers at-read) (c .enum-told2 .given .1), omega arith)
 
 sub-if1 : tie.Need-sub-if1
 sub-if1 c =
@@ -83,13 +90,8 @@ returns-3 c =
     let at-size = c .before in
     let at-read = to-read at-size in
     let f = to-end2 at-size .end2 .given in
-    let e = to-end at-read .end .given in
-    let b = to-begin at-read .begin in
-    let start = to-start (to-begin at-read) in
-    let bs = start .args .bytes .now in
-    let r = at-read .read in
-    let numbers = r .ensures .0 ∙ ap (λ ws. numbersFrom 1236 0 ws (drop (e .0 .0) bs)) (start .pre .1) in (
-      bytes-other bs (b .result) (b .ensures .0) (e .0 .0) (e .1) (r .result) _ numbers (f .0 .0) (f .1) (λ h. omega (arith, c .if1 .taken, at-size .size .ensures)),
+    let b = to-begin at-read .begin in (
+      bytes-other (bytesOf at-read) (b .result) (b .ensures .0) (placeOf at-read) (to-end at-read .end .given .1) (at-read .read .result) _ (numbers at-read) (f .0 .0) (f .1) (λ h. omega (arith, c .if1 .taken, at-size .size .ensures)),
       omega arith,
     )
 
@@ -101,14 +103,9 @@ returns-4 c =
     let at-size = c .before in
     let at-read = to-read at-size in
     let f = to-end2 at-size .end2 .given in
-    let e = to-end at-read .end .given in
-    let b = to-begin at-read .begin in
-    let start = to-start (to-begin at-read) in
-    let bs = start .args .bytes .now in
-    let r = at-read .read in
-    let numbers = r .ensures .0 ∙ ap (λ ws. numbersFrom 1236 0 ws (drop (e .0 .0) bs)) (start .pre .1) in (
-      bytes-all bs (b .result) (b .ensures .0) (e .0 .0) (e .1) (r .result) _ numbers (f .0 .0) (f .1) (omega (arith, c .if1 .left, at-size .size .ensures)),
-      omega (arith, ap endOf (f .1), r .ensures .1),
+    let b = to-begin at-read .begin in (
+      bytes-all (bytesOf at-read) (b .result) (b .ensures .0) (placeOf at-read) (to-end at-read .end .given .1) (at-read .read .result) _ (numbers at-read) (f .0 .0) (f .1) (omega (arith, c .if1 .left, at-size .size .ensures)),
+      omega (arith, ap endOf (f .1), at-read .read .ensures .1),
     )
 
 pub parse-spec : {M : Type 1} → statement M
