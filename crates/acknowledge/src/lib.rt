@@ -1,4 +1,6 @@
 // The acknowledgement: a sample for the round trips, and the command that it names leaves its list.
+#![tactic(auto)]
+
 pub mod removal;
 
 ghost use Rattle.std.specs.Prelude.{◌≡◌, length};
@@ -25,7 +27,7 @@ use places::{RECORD, groups};
 use queues::{Out, outgoing};
 use record::groups::Times;
 
-#[derive(Drop)]
+#[derive(Clone, Copy)]
 pub enum Reply {
     Passed,
     Done,

@@ -18,7 +18,7 @@ use record::OUTGOING;
 use record::groups::{Flow, Times};
 
 // Where the command stands: in which list, and at which place.
-#[derive(Drop)]
+#[derive(Clone, Copy)]
 pub enum Spot {
     Sent(usize),
     Outgoing(usize),

@@ -1,4 +1,6 @@
 // What both arrivals share, and the unsequenced window on the record's groups.
+#![tactic(auto)]
+
 pub mod storing;
 
 ghost use Rattle.std.specs.Prelude.{◌≡◌};
@@ -19,7 +21,7 @@ use record::groups::{CELL, Incoming, Standing, Unsequenced, Waiting};
 use window::Verdict;
 
 // A command that brings a whole packet, and where its payload begins in the datagram.
-#[derive(Drop)]
+#[derive(Clone, Copy)]
 pub struct Arrival {
     pub byte: u8,
     pub channel: u8,
@@ -28,7 +30,7 @@ pub struct Arrival {
     pub place: u32,
 }
 
-#[derive(Drop)]
+#[derive(Clone, Copy)]
 pub enum Reply {
     Passed,
     Stored,
@@ -36,7 +38,7 @@ pub enum Reply {
 }
 
 // What becomes of an arrival that nothing refuses before 8.
-#[derive(Drop)]
+#[derive(Clone, Copy)]
 pub enum Fate {
     Passed,
     NoRoom,
@@ -44,14 +46,14 @@ pub enum Fate {
 }
 
 // The groups as an unsequenced arrival leaves them, and its fate.
-#[derive(Drop)]
+#[derive(Clone, Copy)]
 pub struct Judged {
     pub unsequenced: Unsequenced,
     pub fate: Fate,
 }
 
 // What a stored packet leaves beside the lists: its slot, and the waiting total with its length.
-#[derive(Drop)]
+#[derive(Clone, Copy)]
 pub struct Stored {
     pub slot: Incoming,
     pub waiting: Waiting,

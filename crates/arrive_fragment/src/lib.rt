@@ -1,4 +1,6 @@
 // The arrival of a piece of a block, C-11.
+#![tactic(auto)]
+
 pub mod searching;
 pub mod storing;
 
@@ -23,7 +25,7 @@ use peer::settings::Settings;
 use places::{RECORD, groups, pools};
 
 // A command that brings a piece, and where its payload begins in the datagram. Its own number is not read.
-#[derive(Drop)]
+#[derive(Clone, Copy)]
 pub struct Piece {
     pub byte: u8,
     pub channel: u8,
@@ -34,7 +36,7 @@ pub struct Piece {
 }
 
 // What becomes of a piece that nothing refuses before 14: a first one goes to a free slot, a later one to its block's.
-#[derive(Drop)]
+#[derive(Clone, Copy)]
 pub enum Fate {
     Passed,
     Unfit,

@@ -1,4 +1,6 @@
 // The arrival of a whole reliable packet, added by the port.
+#![tactic(auto)]
+
 pub mod holding;
 
 ghost use Rattle.std.specs.Prelude.{◌≡◌, ℕ, ◌<◌, List, length};

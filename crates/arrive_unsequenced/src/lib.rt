@@ -1,4 +1,6 @@
 // The unsequenced arrival.
+#![tactic(auto)]
+
 ghost use Rattle.std.specs.Prelude.{◌≡◌, List, ℕ, length, set};
 ghost use Rattle.peer.specs.Outcome.{Came};
 ghost use Rattle.peer.specs.Updates.{with_unsequenced, with_arrival};

@@ -1,4 +1,6 @@
 // Blocks that come in pieces, C-11: the marks of the pieces that are stored, what a piece's fields may be, the slot of a block. On two words and a slot.
+#![tactic(auto)]
+
 ghost use Rattle.std.specs.Prelude.{◌≡◌, ◌-◌, ◌==◌};
 ghost use Rattle.record.specs.Marks.{most_pieces, piece_marked, with_piece, marked_from, marked_count};
 ghost use Rattle.record.specs.Blocks.{is_block, block_fit};

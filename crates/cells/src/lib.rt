@@ -1,4 +1,6 @@
 // Runs of cells of any length that the caller lends, altered there: what the lists of both pools are made of.
+#![tactic(auto)]
+
 pub mod marks;
 pub mod narrow;
 
@@ -124,21 +126,21 @@ pub fn cut(cells: &mut [u32], n: usize, k: usize) -> usize
 }
 
 // Where a slot stands in a list.
-#[derive(Drop)]
+#[derive(Clone, Copy)]
 pub enum Found {
     At(usize),
     Nowhere,
 }
 
 // The slot at a list's head.
-#[derive(Drop)]
+#[derive(Clone, Copy)]
 pub enum First {
     Slot(u16),
     Empty,
 }
 
 // The lowest slot that is free.
-#[derive(Drop)]
+#[derive(Clone, Copy)]
 pub enum Free {
     Lowest(u16),
     Full,

@@ -1,7 +1,7 @@
 // A command, with the packed structs' fields in their order. The union of the source is an enum.
 use numbers::counters::{Group, Reliable, Unreliable};
 
-#[derive(Drop)]
+#[derive(Clone, Copy)]
 pub struct Connect {
     pub peer: u16,
     pub incoming_session: u8,
@@ -17,7 +17,7 @@ pub struct Connect {
     pub id: u32,
 }
 
-#[derive(Drop)]
+#[derive(Clone, Copy)]
 pub struct Fragment {
     pub length: u16,
     pub count: u32,
@@ -26,7 +26,7 @@ pub struct Fragment {
     pub offset: u32,
 }
 
-#[derive(Drop)]
+#[derive(Clone, Copy)]
 pub enum Fields {
     Acknowledge {
         number: Reliable,
@@ -74,7 +74,7 @@ pub enum Fields {
 }
 
 // The whole command byte is kept: its low four bits are the command's number, 64 and 128 its flags.
-#[derive(Drop)]
+#[derive(Clone, Copy)]
 pub struct Command {
     pub byte: u8,
     pub channel: u8,

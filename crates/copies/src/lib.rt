@@ -1,4 +1,6 @@
 // A record by value as the numbers that mean it, and back: what the link by value stands on.
+#![tactic(auto)]
+
 pub mod reading;
 pub mod writing;
 

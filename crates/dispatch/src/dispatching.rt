@@ -17,7 +17,7 @@ use record::flags::flag_set;
 use record::groups::Incoming;
 
 // How many of a list may go, and the number that is then the last.
-#[derive(Drop)]
+#[derive(Clone, Copy)]
 struct Prefix {
     pub count: usize,
     pub last: Reliable,

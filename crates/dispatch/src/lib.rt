@@ -1,4 +1,6 @@
 // Dispatch: what of a channel's list is ready joins dispatched.
+#![tactic(auto)]
+
 pub mod dispatching;
 
 ghost use Rattle.std.specs.Prelude.{◌≡◌};

@@ -1,4 +1,6 @@
 // The window, the throttle and the reader for a host in Rust or C: numbers, byte slices, and the numbers of a throttle that is lent.
+#![tactic(auto)]
+
 ghost use Rattle.std.specs.Prelude.{◌≡◌, ◌∷◌, ◌+◌, ◌*◌, ◌≤◌, ◌<◌, length, replicate};
 ghost use Rattle.command.specs.Bytes.{number_at, put_number, put_row, pad};
 ghost use Rattle.command.specs.Rows.{kind_of, row_of};

@@ -24,7 +24,7 @@ const FRAGMENTS: usize = 3;
 const LENGTH: usize = 5;
 
 // Where a walk stands: whether every slot passed, the lengths and the blocks so far.
-#[derive(Drop)]
+#[derive(Clone, Copy)]
 struct Walk {
     pub ok: bool,
     pub total: u32,

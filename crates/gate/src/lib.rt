@@ -1,4 +1,6 @@
 // The gate of every call on the lent record: settings and store (11), then the record (13). Nothing is copied: a slot is asked where a list names it.
+#![tactic(auto)]
+
 mod incoming;
 mod outgoing;
 

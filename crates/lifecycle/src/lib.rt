@@ -1,4 +1,6 @@
 // Reset, begin, set state.
+#![tactic(auto)]
+
 ghost use Rattle.std.specs.Prelude.{◌≡◌, ◌+◌, ◌≤◌, length, replicate};
 ghost use Rattle.lifecycle.specs.Calls.{begin_fits, resets, begins, sets_state, kept};
 ghost use Rattle.std.proofs.Math.Seq.{paste};

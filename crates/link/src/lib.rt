@@ -1,4 +1,6 @@
 // The link: one function that makes every call of document 01, on the record that the caller lends (`lent`) and on a record by value.
+#![tactic(auto)]
+
 pub mod calls;
 pub mod lent;
 
@@ -11,7 +13,7 @@ use peer::Peer;
 use peer::settings::Settings;
 use places::RECORD;
 
-#[derive(Drop)]
+#[derive(Clone, Copy)]
 pub struct Linked {
     pub peer: Peer,
     pub reply: Reply,

@@ -3,7 +3,7 @@ use arrival::Arrival;
 use arrive_fragment::Piece;
 use numbers::counters::Group;
 
-#[derive(Drop)]
+#[derive(Clone, Copy)]
 pub enum Call {
     UnsequencedArrival { arrival: Arrival, group: Group },
     ReliableArrival { arrival: Arrival },
@@ -13,7 +13,7 @@ pub enum Call {
 }
 
 // Each call's own reply: the arrivals share one.
-#[derive(Drop)]
+#[derive(Clone, Copy)]
 pub enum Reply {
     Arrived(arrival::Reply),
     Called(peer::calls::Reply),

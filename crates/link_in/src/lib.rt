@@ -1,4 +1,6 @@
 // The calls of the receiving side as data, and one function that makes each of them.
+#![tactic(auto)]
+
 pub mod calls;
 
 ghost use Rattle.std.specs.Prelude.{◌≡◌};

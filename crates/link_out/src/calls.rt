@@ -3,7 +3,7 @@ use numbers::counters::Reliable;
 use outbox::pieces::Piece;
 use send_step::heads::Queue;
 
-#[derive(Drop)]
+#[derive(Clone, Copy)]
 pub enum Call {
     Ping,
     Send {
@@ -33,7 +33,7 @@ pub enum Call {
 }
 
 // Each call's own reply: ping, send and setup share one.
-#[derive(Drop)]
+#[derive(Clone, Copy)]
 pub enum Reply {
     Called(peer::calls::Reply),
     Stepped(send_step::Reply),

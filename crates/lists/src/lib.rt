@@ -1,4 +1,6 @@
 // Lists in the numbers that the caller lends: from a place on a length and `size` cells, altered there. The lists of both pools are such lists.
+#![tactic(auto)]
+
 ghost use Rattle.std.specs.Prelude.{◌≡◌, ◌+◌, ◌≤◌, ◌<◌, map, length, get_or, take, drop};
 ghost use Rattle.cells.specs.Runs.{pushed, inserted, without, prepended, moved_to, first};
 ghost use Rattle.cells.specs.Free.{marked_all};

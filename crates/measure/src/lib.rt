@@ -1,4 +1,6 @@
 // For measuring only: each export makes one call on the record that it is lent, and answers with what the call tells, as one number.
+#![tactic(auto)]
+
 pub mod incoming;
 pub mod linking;
 pub mod outgoing;

@@ -1,4 +1,6 @@
 // By value: the record that the numbers mean, one call of the link on it, and the numbers of what it gives back.
+#![tactic(auto)]
+
 ghost use Rattle.std.specs.Prelude.{◌≡◌};
 ghost use Rattle.places.specs.Whole.{whole};
 ghost use Rattle.link.specs.Steps.{calls};

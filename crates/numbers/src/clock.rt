@@ -31,7 +31,7 @@ pub fn completed(clock: u32, sent: u16) -> u32
     std::num::wrapping_sub_u32(near, 65536)
 }
 
-#[derive(Drop)]
+#[derive(Clone, Copy)]
 pub enum Trip {
     PassedOver,
     Taken(u32),

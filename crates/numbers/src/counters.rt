@@ -2,13 +2,13 @@
 ghost use Rattle.std.specs.Prelude.{◌≡◌};
 ghost use Rattle.numbers.specs.Counters.{step};
 
-#[derive(Drop)]
+#[derive(Clone, Copy)]
 pub struct Reliable(pub u16);
 
-#[derive(Drop)]
+#[derive(Clone, Copy)]
 pub struct Unreliable(pub u16);
 
-#[derive(Drop)]
+#[derive(Clone, Copy)]
 pub struct Group(pub u16);
 
 impl Reliable {

@@ -1,5 +1,7 @@
 // One order of places (C-12): of each number of the lent record how many bits it has, what it may be, and whether it is written. Whatever shows, writes, reads or
 // sets the record's numbers walks over this table.
+#![tactic(auto)]
+
 mod kinds;
 mod parts;
 pub mod used;
@@ -13,7 +15,7 @@ use places::{CHANNEL_WIDTH, CHANNELS, DISPATCHED, IN_POOL, MARKS, POOL, SENT};
 use pool::{IN_WIDTH, WIDTH};
 use record::{INCOMING, OUTGOING};
 
-#[derive(Drop)]
+#[derive(Clone, Copy)]
 pub struct Place {
     // The number that stands there, cut to its bits; 0 where it is not written.
     pub number: u32,

@@ -8,7 +8,7 @@ use numbers::counters::{Group, Reliable, Unreliable};
 use record::groups::ITSELF;
 
 // The counters that setting up may step: the peer's own, a channel's two, the peer's group.
-#[derive(Drop)]
+#[derive(Clone, Copy)]
 pub struct Counters {
     pub own: Reliable,
     pub reliable: Reliable,
@@ -17,7 +17,7 @@ pub struct Counters {
 }
 
 // The counters after a command, and the numbers that it got.
-#[derive(Drop)]
+#[derive(Clone, Copy)]
 pub struct Stamped {
     pub counters: Counters,
     pub reliable: Reliable,

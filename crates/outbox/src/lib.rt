@@ -1,5 +1,7 @@
 // What setting up is made of: the counters that step, the slot that a piece fills, the slots that are free. Lists and slots change in their places, the
 // numbers once at the end.
+#![tactic(auto)]
+
 pub mod counting;
 pub mod pieces;
 
@@ -25,7 +27,7 @@ use record::OUTGOING;
 use record::groups::CHANNELS;
 
 // The data total, the host count, the counters of a channel. Which slots the lists name is marked beside it, a mark a slot.
-#[derive(Drop)]
+#[derive(Clone, Copy)]
 pub struct Outbox {
     pub total: u32,
     pub queued: u32,

@@ -9,7 +9,7 @@ use numbers::counters::{Group, Unreliable};
 use record::groups::Outgoing;
 
 // What setting up is given: a command, whether a packet goes with it, and which part of the packet.
-#[derive(Drop)]
+#[derive(Clone, Copy)]
 pub struct Piece {
     pub command: Command,
     pub packet: bool,

@@ -6,7 +6,7 @@ use numbers::{clock, wrapping};
 use record::groups::Limits;
 
 // What the step needs of a sent command.
-#[derive(Drop)]
+#[derive(Clone, Copy)]
 pub struct Sent {
     pub sent: u32,
     pub timeout: u32,
@@ -16,7 +16,7 @@ pub struct Sent {
 }
 
 // The numbers that the walk carries; whether one was kept in sent, one went back, the peer was given up.
-#[derive(Drop)]
+#[derive(Clone, Copy)]
 pub struct Walk {
     pub earliest: u32,
     pub next: u32,
@@ -28,7 +28,7 @@ pub struct Walk {
 }
 
 // The numbers after one command, its timeout, and the mark of what becomes of it.
-#[derive(Drop)]
+#[derive(Clone, Copy)]
 pub struct After {
     pub walk: Walk,
     pub timeout: u32,

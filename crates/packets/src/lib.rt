@@ -1,4 +1,6 @@
 // Which command a packet goes out as, by the source's tests, and how a long one is cut.
+#![tactic(auto)]
+
 pub mod plans;
 
 ghost use Rattle.std.specs.Prelude.{◌≡◌, not, ◌-◌};
@@ -31,14 +33,14 @@ const OVERHEAD: u32 = 28;
 const CHECKSUM: u32 = 4;
 
 // The number that a cut packet begins with, of the kind that its pieces count by.
-#[derive(Drop)]
+#[derive(Clone, Copy)]
 pub enum Start {
     Reliable(Reliable),
     Unreliable(Unreliable),
 }
 
 // A packet that is cut: its channel, its length, the fragment length, how many pieces, the start number.
-#[derive(Drop)]
+#[derive(Clone, Copy)]
 pub struct Cut {
     pub channel: u8,
     pub length: u32,

@@ -16,7 +16,7 @@ use peer::settings::Settings;
 use record::groups::Standing;
 
 // A packet as it goes out: in one command, or cut.
-#[derive(Drop)]
+#[derive(Clone, Copy)]
 pub enum Packet {
     One(Piece),
     Pieces(Cut),

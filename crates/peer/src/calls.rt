@@ -1,7 +1,7 @@
 // The reply of the calls that have nothing to tell but whether they were done.
 use numbers::refusals::Refusal;
 
-#[derive(Drop)]
+#[derive(Clone, Copy)]
 pub enum Reply {
     Done,
     Refused(Refusal),

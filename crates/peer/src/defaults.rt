@@ -12,7 +12,7 @@ use record::groups::{
 use record::{INCOMING, OUTGOING, fresh};
 
 // What a reset keeps of the record.
-#[derive(Drop)]
+#[derive(Clone, Copy)]
 pub struct Kept {
     pub incoming_peer: u16,
     pub outgoing_session: u8,

@@ -11,7 +11,7 @@ use numbers::counters::{Reliable, Unreliable};
 use numbers::widths::{low16, wide16};
 
 // A channel without its list.
-#[derive(Drop)]
+#[derive(Clone, Copy)]
 pub struct Numbers {
     pub outgoing_reliable: Reliable,
     pub outgoing_unreliable: Unreliable,

@@ -1,4 +1,6 @@
 // The record in the numbers that the caller lends: where each part of it stands, and what reads and writes it there.
+#![tactic(auto)]
+
 pub mod channels;
 pub mod groups;
 pub mod pools;

@@ -1,4 +1,6 @@
 // The pools as numbers that the caller lends. An outgoing slot has 26: nine of its own, its command's row of 16, its fields' kind. An incoming slot has six.
+#![tactic(auto)]
+
 ghost use Rattle.std.specs.Prelude.{◌≡◌, map, ◌+◌, ◌≤◌, ◌<◌, length, drop, get_or, set, replicate};
 ghost use Rattle.std.proofs.Math.Seq.{paste};
 ghost use Rattle.record.specs.Lists.{outgoing};
@@ -174,7 +176,7 @@ pub fn put(pool: &mut [u32], i: usize, slot: Outgoing)
 }
 
 // What searches and walks ask of a slot, without its command's fields.
-#[derive(Drop)]
+#[derive(Clone, Copy)]
 pub struct Brief {
     pub reliable: Reliable,
     pub byte: u8,

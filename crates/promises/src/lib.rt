@@ -1,1 +1,2 @@
 // The promises about runs of calls: theorems alone.
+#![tactic(auto)]

@@ -1,4 +1,6 @@
 // Receive: the next packet that was dispatched, by its cell of the store; C-11: or the block, which stands in the second store.
+#![tactic(auto)]
+
 ghost use Rattle.std.specs.Prelude.{◌≡◌};
 ghost use Rattle.receive.specs.Calls.{lowered, cleared_by, reply_of, answer_of, receives};
 ghost use Rattle.peer.specs.Outcome.{Came};
@@ -13,7 +15,7 @@ use queues::dispatched;
 use record::fresh::NO_MARKS;
 use record::groups::{Incoming, Marks, Waiting};
 
-#[derive(Drop)]
+#[derive(Clone, Copy)]
 pub enum Reply {
     Nothing,
     Packet { channel: u8, cell: u16, length: u32 },

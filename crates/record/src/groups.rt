@@ -19,7 +19,7 @@ pub const STORE: usize = 49152;
 // C-11: the bytes of the second store, in which a block is put together.
 pub const SECOND: usize = 32768;
 
-#[derive(Drop)]
+#[derive(Clone, Copy)]
 pub struct Ids {
     // outgoing_peer_id: ours at the other side
     pub outgoing_peer: u16,
@@ -33,7 +33,7 @@ pub struct Ids {
     pub incoming_session: u8,
 }
 
-#[derive(Drop)]
+#[derive(Clone, Copy)]
 pub struct Standing {
     // state: one of the ten
     pub state: u32,
@@ -41,7 +41,7 @@ pub struct Standing {
     pub channels: u32,
 }
 
-#[derive(Drop)]
+#[derive(Clone, Copy)]
 pub struct Bandwidth {
     // incoming_bandwidth: what the other side can take, bytes a second
     pub incoming: u32,
@@ -53,7 +53,7 @@ pub struct Bandwidth {
     pub outgoing_epoch: u32,
 }
 
-#[derive(Drop)]
+#[derive(Clone, Copy)]
 pub struct Totals {
     // incoming_data_total: bytes
     pub incoming: u32,
@@ -61,7 +61,7 @@ pub struct Totals {
     pub outgoing: u32,
 }
 
-#[derive(Drop)]
+#[derive(Clone, Copy)]
 pub struct Times {
     // last_send_time: when a datagram last went out; no call reads it
     pub last_send: u32,
@@ -73,7 +73,7 @@ pub struct Times {
     pub earliest_timeout: u32,
 }
 
-#[derive(Drop)]
+#[derive(Clone, Copy)]
 pub struct Loss {
     // packet_loss_epoch: since when they are counted
     pub epoch: u32,
@@ -87,7 +87,7 @@ pub struct Loss {
     pub variance: u32,
 }
 
-#[derive(Drop)]
+#[derive(Clone, Copy)]
 pub struct Throttling {
     // packet_throttle: of 32, how many packets go
     pub value: u32,
@@ -106,7 +106,7 @@ pub struct Throttling {
 }
 
 #[repr(C)]
-#[derive(Drop)]
+#[derive(Clone, Copy)]
 pub struct Limits {
     // ping_interval: no call reads it
     pub ping: u32,
@@ -118,7 +118,7 @@ pub struct Limits {
     pub maximum: u32,
 }
 
-#[derive(Drop)]
+#[derive(Clone, Copy)]
 pub struct Trips {
     // last_round_trip_time: of the interval before
     pub last: u32,
@@ -134,7 +134,7 @@ pub struct Trips {
     pub variance: u32,
 }
 
-#[derive(Drop)]
+#[derive(Clone, Copy)]
 pub struct Flow {
     // mtu: the bytes of the longest datagram
     pub mtu: u32,
@@ -146,7 +146,7 @@ pub struct Flow {
     pub own_number: Reliable,
 }
 
-#[derive(Drop)]
+#[derive(Clone, Copy)]
 pub struct Lists {
     // sent_reliable_commands: sent, not acknowledged
     pub sent: OutList,
@@ -158,7 +158,7 @@ pub struct Lists {
     pub dispatched: InList,
 }
 
-#[derive(Drop)]
+#[derive(Clone, Copy)]
 pub struct Unsequenced {
     // flags: bit 1, something is to be received
     pub flags: u16,
@@ -172,7 +172,7 @@ pub struct Unsequenced {
     pub words: [u32; UNSEQUENCED_WORDS],
 }
 
-#[derive(Drop)]
+#[derive(Clone, Copy)]
 pub struct Waiting {
     // event_data: of the connect; no call reads it
     pub event: u32,
@@ -182,7 +182,7 @@ pub struct Waiting {
     pub queued: u32,
 }
 
-#[derive(Drop)]
+#[derive(Clone, Copy)]
 pub struct Channel {
     // outgoing_reliable_sequence_number: the last one given
     pub outgoing_reliable: Reliable,
@@ -196,7 +196,7 @@ pub struct Channel {
     pub held: InList,
 }
 
-#[derive(Drop)]
+#[derive(Clone, Copy)]
 pub struct Outgoing {
     // reliable_sequence_number: the one that it got
     pub reliable: Reliable,
@@ -220,7 +220,7 @@ pub struct Outgoing {
     pub command: Command,
 }
 
-#[derive(Drop)]
+#[derive(Clone, Copy)]
 pub struct Incoming {
     // command.header.command: the whole byte
     pub byte: u8,
@@ -237,7 +237,7 @@ pub struct Incoming {
 }
 
 // C-11: which pieces of the block are stored. Piece k is bit k of the low word, or bit k - 32 of the high one.
-#[derive(Drop)]
+#[derive(Clone, Copy)]
 pub struct Marks {
     // fragments: of pieces 0 to 31
     pub low: u32,

@@ -6,7 +6,7 @@ ghost use Rattle.record.specs.Lists.{in_items};
 use crate::INCOMING;
 use cells::{Found, narrow};
 
-#[derive(Drop)]
+#[derive(Clone, Copy)]
 pub struct InList {
     pub len: u16,
     pub slots: [u16; INCOMING],

@@ -1,4 +1,6 @@
 // The parts of a peer's record: its groups, and the lists of slot numbers, one type for each pool (the linked lists of the source).
+#![tactic(auto)]
+
 pub mod channels;
 pub mod flags;
 pub mod fresh;

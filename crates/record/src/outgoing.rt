@@ -6,7 +6,7 @@ ghost use Rattle.record.specs.Lists.{out_items};
 use crate::OUTGOING;
 use cells::{Found, narrow};
 
-#[derive(Drop)]
+#[derive(Clone, Copy)]
 pub struct OutList {
     pub len: u16,
     pub slots: [u16; OUTGOING],

@@ -1,4 +1,6 @@
 // Reads a script of frames and writes one line for each, as SCRIPT.md says.
+#![tactic(auto)]
+
 mod calls;
 mod fits;
 mod replies;

@@ -9,7 +9,7 @@ pub const STORE: u32 = 49152;
 pub const SECOND: u32 = 32768;
 
 // What the calls of a script share beside the record.
-#[derive(Drop)]
+#[derive(Clone, Copy)]
 pub struct Bench {
     pub settings: Settings,
     // How much of the store ops 10, 11 and 18 are lent.

@@ -8,13 +8,13 @@ use numbers::clock;
 use record::groups::{Throttling, Trips};
 use throttle::{Throttle, Turn};
 
-#[derive(Drop)]
+#[derive(Clone, Copy)]
 pub struct Measured {
     pub throttling: Throttling,
     pub trips: Trips,
 }
 
-#[derive(Drop)]
+#[derive(Clone, Copy)]
 pub struct Throttled {
     pub throttling: Throttling,
     pub turn: Turn,

@@ -1,4 +1,6 @@
 // The throttle as a call, on the record's own numbers; the averages that it follows.
+#![tactic(auto)]
+
 pub mod averages;
 
 ghost use Rattle.std.specs.Prelude.{◌≡◌};
@@ -12,7 +14,7 @@ use peer::settings::Settings;
 use places::{RECORD, groups};
 use throttle::Turn;
 
-#[derive(Drop)]
+#[derive(Clone, Copy)]
 pub enum Reply {
     Held,
     Raised,

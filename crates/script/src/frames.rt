@@ -5,7 +5,7 @@ ghost use Rattle.script.specs.Frames.{byte_at, pair_at, number_at, length_place,
 use libc::{STDIN_FILENO, STDOUT_FILENO};
 
 // The op and the first ten numbers; further ones are a command's.
-#[derive(Drop)]
+#[derive(Clone, Copy)]
 pub struct Frame {
     pub op: u32,
     pub n0: u32,

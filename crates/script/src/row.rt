@@ -4,7 +4,7 @@ ghost use Rattle.script.specs.Row.{mixed as mix, told};
 
 use crate::line;
 
-#[derive(Drop)]
+#[derive(Clone, Copy)]
 pub struct Row {
     pub hash: u32,
     pub is_shown: bool,

@@ -1,4 +1,6 @@
 // Ops 1 to 14 and 18 of a script (SCRIPT.md): the call of the link that a frame asks for. The frame was seen to fit.
+#![tactic(auto)]
+
 ghost use Rattle.std.specs.Prelude.{◌≡◌};
 ghost use Rattle.script_calls.specs.Asking.{arrival_of, piece_of, fragment_of, queue_of, arriving, inward, call_of};
 

@@ -1,4 +1,6 @@
 // Commands in frames, and ops 30 and 31: a command read from bytes, and one written to them, into a line that no contract speaks of.
+#![tactic(auto)]
+
 ghost use Rattle.std.specs.Prelude.{◌≡◌, ◌∷◌, ltb};
 ghost use Rattle.numbers.specs.Pick.{pick};
 ghost use Rattle.numbers.specs.Answers.{done};

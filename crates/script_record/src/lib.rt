@@ -1,4 +1,6 @@
 // The record's row of numbers, by the table of its places, in document 01's order; a slot's row and a command's, which replies tell.
+#![tactic(auto)]
+
 ghost use Rattle.std.specs.Prelude.{◌≡◌, [], ◌∷◌, take, length};
 ghost use Rattle.numbers.specs.Pick.{pick};
 ghost use Rattle.command.specs.Layout.{layout as widths};

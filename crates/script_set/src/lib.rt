@@ -1,4 +1,6 @@
 // Ops 20 to 24, the bench's own: whether numbers fit the places that they are for, by the table of the record's places; and the lent record with them in it.
+#![tactic(auto)]
+
 pub mod named;
 
 ghost use Rattle.std.specs.Prelude.{◌≡◌, ◌+◌, ◌≤◌, ◌<◌, length, set};

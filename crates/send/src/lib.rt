@@ -1,4 +1,6 @@
 // Send: a packet becomes commands, one or a piece each.
+#![tactic(auto)]
+
 ghost use Rattle.std.specs.Prelude.{◌≡◌, true, ◌≤◌, length};
 ghost use Rattle.numbers.specs.Limits.{most_mtu};
 ghost use Rattle.record.specs.Lists.{outgoing};

@@ -7,7 +7,7 @@ use numbers::wrapping;
 use record::groups::{Flow, Loss, Outgoing, Trips};
 
 // The two lists that a send step may name.
-#[derive(Drop)]
+#[derive(Clone, Copy)]
 pub enum Queue {
     Outgoing,
     Reliable,

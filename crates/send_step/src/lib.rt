@@ -1,4 +1,6 @@
 // The send step: the head of a list is sent.
+#![tactic(auto)]
+
 pub mod heads;
 
 ghost use Rattle.std.specs.Prelude.{◌≡◌, length, slice_set};
@@ -20,7 +22,7 @@ use places::{RECORD, groups, pools};
 use queues::{Out, outgoing};
 use record::groups::Outgoing;
 
-#[derive(Drop)]
+#[derive(Clone, Copy)]
 pub enum Reply {
     Nothing,
     Head(Outgoing),

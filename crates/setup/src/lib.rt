@@ -1,4 +1,6 @@
 // Setup (a command, whether a packet goes with it, the offset and the piece's length) and ping: each queues one command behind a gate of its own.
+#![tactic(auto)]
+
 ghost use Rattle.std.specs.Prelude.{◌≡◌};
 ghost use Rattle.setup.specs.Pings.{ping_gate, pings};
 ghost use Rattle.peer.specs.Outcome.{Came};

@@ -1,10 +1,12 @@
 // C-12: a number in groups of seven bits, low group first; a group below 128 is the last.
+#![tactic(auto)]
+
 ghost use Rattle.std.specs.Prelude.{◌≡◌, ◌+◌, ◌^◌, ◌≤◌, ◌<◌, length, drop};
 ghost use Rattle.std.proofs.lemmas.List.Edits.{sets};
 ghost use Rattle.sevens.specs.Groups.{written, below, number_in, read, value_of, groups_of};
 
 // A number and in how many groups it was read; or the bytes are short, or its form is over-long.
-#[derive(Drop)]
+#[derive(Clone, Copy)]
 pub enum Grouped {
     Number { value: u64, groups: usize },
     Unread,

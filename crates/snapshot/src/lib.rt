@@ -1,4 +1,6 @@
 // C-12, a snapshot for the bench: the record and its stores written into a buffer, and restored from bytes.
+#![tactic(auto)]
+
 ghost use Rattle.std.specs.Prelude.{◌≡◌, ◌+◌, ◌≤◌, length, drop, replicate};
 ghost use Rattle.peer.specs.Outcome.{Came};
 ghost use Rattle.peer.specs.Calls as plain;
@@ -26,7 +28,7 @@ use snapshot_parts::{row, stored};
 const EDITION: u32 = 1;
 
 // How many bytes were written.
-#[derive(Drop)]
+#[derive(Clone, Copy)]
 pub enum Written {
     Done { length: usize },
     Refused(Refusal),

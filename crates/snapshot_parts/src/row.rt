@@ -83,7 +83,7 @@ fn fits(place: Place, x: u64) -> bool
 }
 
 // Where the bytes of all numbers end; or they cannot be read.
-#[derive(Drop)]
+#[derive(Clone, Copy)]
 pub enum Parsing {
     Read { end: usize },
     Unread,

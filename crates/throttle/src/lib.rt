@@ -1,9 +1,11 @@
 // The throttle: how many of 32 unreliable packets go out, by the last round trips.
+#![tactic(auto)]
+
 ghost use Rattle.throttle.specs.Throttling.{Rolls};
 
 // The numbers that `enet_peer_throttle` reads and the one, `value`, that it alters.
 #[repr(C)]
-#[derive(Drop)]
+#[derive(Clone, Copy)]
 pub struct Throttle {
     pub value: u32,
     pub limit: u32,
@@ -13,14 +15,14 @@ pub struct Throttle {
     pub variance: u32,
 }
 
-#[derive(Drop)]
+#[derive(Clone, Copy)]
 pub enum Turn {
     Held,
     Raised,
     Lowered,
 }
 
-#[derive(Drop)]
+#[derive(Clone, Copy)]
 pub struct Rolled {
     pub throttle: Throttle,
     pub turn: Turn,

@@ -16,7 +16,7 @@ use queues::{Out, outgoing};
 use record::OUTGOING;
 use record::groups::Limits;
 
-#[derive(Drop)]
+#[derive(Clone, Copy)]
 pub struct Passed {
     pub walk: Walk,
     pub mark: u8,

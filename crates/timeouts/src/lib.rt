@@ -1,4 +1,6 @@
 // The timeout check: one walk over the sent list, oldest first.
+#![tactic(auto)]
+
 pub mod back;
 
 ghost use Rattle.std.specs.Prelude.{◌≡◌, length, take, replicate};
@@ -23,7 +25,7 @@ use places::{RECORD, groups};
 use queues::{Out, outgoing};
 use record::OUTGOING;
 
-#[derive(Drop)]
+#[derive(Clone, Copy)]
 pub enum Reply {
     Done,
     Disconnect,

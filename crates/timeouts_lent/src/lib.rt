@@ -1,5 +1,7 @@
 // The sent commands, lent as one run and walked once: the walk of the timeout check for a host that keeps them itself.
 // A host lends numbers alone. A flag is a byte, and any but 0 is true.
+#![tactic(auto)]
+
 ghost use Rattle.std.specs.Prelude.{◌≡◌};
 ghost use Rattle.timeouts_lent.specs.Walking.{read_of, written_of, turn_of, Walks};
 
@@ -9,7 +11,7 @@ use record::groups::Limits;
 
 // A sent command, and the mark of what became of it.
 #[repr(C)]
-#[derive(Drop)]
+#[derive(Clone, Copy)]
 pub struct Awaiting {
     pub sent: u32,
     pub timeout: u32,
@@ -21,7 +23,7 @@ pub struct Awaiting {
 
 // The numbers that the walk carries, with its three flags.
 #[repr(C)]
-#[derive(Drop)]
+#[derive(Clone, Copy)]
 pub struct Numbers {
     pub earliest: u32,
     pub next: u32,
@@ -32,7 +34,7 @@ pub struct Numbers {
     pub over: u8,
 }
 
-#[derive(Drop)]
+#[derive(Clone, Copy)]
 pub struct Turned {
     pub walk: Walk,
     pub awaiting: Awaiting,

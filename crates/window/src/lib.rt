@@ -1,4 +1,6 @@
 // The unsequenced window: which groups were delivered, as a base and the marks of a window of groups from it on.
+#![tactic(auto)]
+
 ghost use Rattle.std.specs.Prelude.{◌≡◌};
 ghost use Rattle.window.specs.Window.{Judges, distant, marked, marking};
 
@@ -16,14 +18,14 @@ const REACH: u32 = PEER_UNSEQUENCED_WINDOW_SIZE * PEER_FREE_UNSEQUENCED_WINDOWS;
 // The groups of a word.
 const BITS: u16 = 32;
 
-#[derive(Drop)]
+#[derive(Clone, Copy)]
 pub enum Verdict {
     Distant,
     Marked,
     Taken,
 }
 
-#[derive(Drop)]
+#[derive(Clone, Copy)]
 pub struct Judged {
     pub base: Group,
     pub words: [u32; UNSEQUENCED_WORDS],

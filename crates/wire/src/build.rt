@@ -10,7 +10,7 @@ use command::layout;
 use numbers::counters::{Group, Reliable, Unreliable};
 use numbers::widths::{low8, low16};
 
-#[derive(Drop)]
+#[derive(Clone, Copy)]
 pub enum Built {
     Done(Command),
     Refused,

@@ -9,7 +9,7 @@ use crate::bytes;
 use command::fields::Command;
 use command::layout;
 
-#[derive(Drop)]
+#[derive(Clone, Copy)]
 pub enum Reading {
     Found { command: Command, next: usize },
     Refused,

@@ -6,7 +6,7 @@ use crate::bytes;
 use command::fields::Command;
 use command::{layout, rows};
 
-#[derive(Drop)]
+#[derive(Clone, Copy)]
 pub enum Writing {
     Done(usize),
     Refused,
