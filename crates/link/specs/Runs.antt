@@ -60,7 +60,6 @@ packets_of (call.Outward c) a x = []
 packets_of call.Reset a x = []
 packets_of (call.Begin mtu channels) a x = []
 packets_of (call.SetState state) a x = []
-packets_of call.Restore a x = []
 
 -- what a run of calls answers, the packets that come out, and the end
 pub record Ran : Type 0 where

@@ -1,11 +1,10 @@
--- What each call of document 01, of C-11 and of C-12 does, on the record and the stores that are lent; a call that is lent none of them leaves it as it is.
+-- What each call of document 01 does, on the record and the stores that are lent; a call that is lent none of them leaves it as it is.
 use Rattle.std.specs.Prelude.{ℕ, ◌+◌, ◌*◌, ◌≡◌, List}
 use Rattle.numbers.specs.Answers.{Answer}
 use Rattle.peer.specs.Calls as plain
 use Rattle.peer.specs.Outcome.{State, Outcome}
 use Rattle.peer.specs.declared.settings.Settings.{Settings}
 use Rattle.lifecycle.specs.Calls.{resets, begins, sets_state}
-use Rattle.snapshot.specs.Calls.{restores}
 use Rattle.link_out.specs.Steps as outward
 use Rattle.link_in.specs.Steps as inward
 use Rattle.link.specs.declared.calls.Call.{Call}
@@ -23,7 +22,6 @@ abbrev pub calls : Settings → Call → List ℕ → State → Outcome State
 calls s call.Reset datagram x = inward.beside x (resets s x.peer)
 calls s (call.Begin mtu channels) datagram x = inward.beside x (begins s mtu channels x.peer)
 calls s (call.SetState state) datagram x = inward.beside x (sets_state s state x.peer)
-calls s call.Restore datagram x = restores s datagram x
 calls s (call.Outward c) datagram x = inward.beside x (outward.calls_out s c x.peer)
 calls s (call.Inward c) datagram x = inward.calls_in s c datagram x
 
@@ -32,7 +30,6 @@ abbrev pub kind_of : Call → ℕ
 kind_of call.Reset = 0
 kind_of (call.Begin mtu channels) = 0
 kind_of (call.SetState state) = 0
-kind_of call.Restore = 0
 kind_of (call.Outward c) = 2 * outward.kind_of c + 1
 kind_of (call.Inward c) = 2 * inward.kind_of c + 2
 

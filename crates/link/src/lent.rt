@@ -8,7 +8,7 @@ use crate::calls::{Call, Reply};
 use peer::settings::Settings;
 use places::RECORD;
 
-// Each call by its own function, those of a side by that side's; only restore (C-12) and the receiving side use the stores and the datagram.
+// Each call by its own function, those of a side by that side's; only the receiving side uses the stores and the datagram.
 pub fn call(
     words: &mut [u32; RECORD],
     settings: Settings,
@@ -31,10 +31,6 @@ pub fn call(
         }
         Call::SetState { state } => {
             let reply = lifecycle::set_state(words, settings, state);
-            return Reply::Called(reply);
-        }
-        Call::Restore => {
-            let reply = snapshot::restore(words, settings, store, second, datagram);
             return Reply::Called(reply);
         }
         Call::Outward(call) => {

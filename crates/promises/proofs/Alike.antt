@@ -121,7 +121,6 @@ respects_same s (call.Begin mtu channels) datagram store second p q whole whole'
     (begin_still s mtu channels q)
 respects_same s (call.SetState state) datagram store second p q whole whole' e =
     twin_alike s datagram store second p q whole whole' e _ _ (state_twin p q (same_like p q e) (same_sound p q e) s state) (state_still s state p) (state_still s state q)
-respects_same s call.Restore datagram store second p q whole whole' e = ?
 respects_same s (call.Outward c) datagram store second p q whole whole' e =
     twin_alike s datagram store second p q whole whole' e (calls_out s c p) (calls_out s c q) (outward_twin s datagram store second p q whole whole' e c) (outward_still s c p)
     (outward_still s c q)

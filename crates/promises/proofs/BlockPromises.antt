@@ -155,7 +155,6 @@ pub second_kept : SecondKept
 second_kept s call.Reset datagram x = inl refl
 second_kept s (call.Begin mtu channels) datagram x = inl refl
 second_kept s (call.SetState state) datagram x = inl refl
-second_kept s call.Restore datagram x = ?
 second_kept s (call.Outward c) datagram x = inl refl
 second_kept s (call.Inward (inw.UnsequencedArrival a g)) datagram x = inl (unsequenced_second s a g datagram x)
 second_kept s (call.Inward (inw.ReliableArrival a)) datagram x = inl (reliable_second s a datagram x)

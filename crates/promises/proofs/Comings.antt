@@ -71,7 +71,6 @@ call_holds : (c : Call) (s : Settings) (datagram : List ℕ) (x : State) (l : Le
 call_holds call.Reset s datagram x l w k h = reset_holds s datagram x l h
 call_holds (call.Begin mtu channels) s datagram x l w k h = passed l l.building h (still_passes x (begins s mtu channels x.peer).after (begin_still s mtu channels x.peer))
 call_holds (call.SetState state) s datagram x l w k h = passed l l.building h (still_passes x (sets_state s state x.peer).after (state_still s state x.peer))
-call_holds call.Restore s datagram x l w k h = ?
 call_holds (call.Outward c) s datagram x l w k h = passed l l.building h (still_passes x (calls_out s c x.peer).after (outward_still s c x.peer))
 call_holds (call.Inward (inw.UnsequencedArrival a group)) s datagram x l w k h = passed l l.building h (unsequenced_passes s a group datagram x w)
 call_holds (call.Inward (inw.ReliableArrival a)) s datagram x l w k h = passed l l.building h (reliable_passes s a datagram x w)
@@ -200,7 +199,6 @@ call_next (call.SetState state) s datagram x l w k v h b =
       sorted = sorted_none l x (record { peer = q; store = x.store; second = x.second }) [] h (λ z. none) (state_before s state x.peer);
       logs = λ channel. none_log channel l.joined _ none;
     }
-call_next call.Restore s datagram x l w k v h b = ?
 call_next (call.Outward c) s datagram x l w k v h b =
     let q = (calls_out s c x.peer).after in
     let none = still_newly x q (outward_still s c x.peer) in
@@ -264,7 +262,6 @@ grows_by : (c : Call) (s : Settings) (datagram : List ℕ) (b : Building) → Gr
 grows_by call.Reset s datagram b = tt
 grows_by (call.Begin mtu channels) s datagram b = tt
 grows_by (call.SetState state) s datagram b = tt
-grows_by call.Restore s datagram b = tt
 grows_by (call.Outward c) s datagram b = tt
 grows_by (call.Inward (inw.UnsequencedArrival a group)) s datagram b = tt
 grows_by (call.Inward (inw.ReliableArrival a)) s datagram b = tt

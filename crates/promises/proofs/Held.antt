@@ -209,7 +209,6 @@ module _ (channel : ℕ) where
   call_orderly (call.Begin mtu count) s datagram x m w k g = begin_orderly s mtu count x.peer k
   call_orderly (call.SetState state) s datagram x m w k g =
       unreported_orderly channel x.peer (sets_state s state x.peer).after (state_unreported channel s state x.peer) k
-  call_orderly call.Restore s datagram x m w k g = ?
   call_orderly (call.Outward a) s datagram x m w k g =
       unreported_orderly channel x.peer (calls_out s a x.peer).after (outward_unreported channel s a x.peer) k
   call_orderly (call.Inward (inw.UnsequencedArrival a group)) s datagram x m w k g = unsequenced_orderly channel s a group datagram x w k

@@ -107,7 +107,6 @@ deals : (s : Settings) (c : Call) (datagram : List ℕ) (x : State) → Deals c 
 deals s call.Reset datagram x = clears refl
 deals s (call.Begin mtu channels) datagram x = leaves refl (begin_steady s mtu channels x.peer).window
 deals s (call.SetState state) datagram x = leaves refl (state_steady s state x.peer).window
-deals s call.Restore datagram x = ?
 deals s (call.Outward c) datagram x = leaves refl (outward_steady s c x.peer).window
 deals s (call.Inward (inw.UnsequencedArrival a g)) datagram x = brings a g refl
 deals s (call.Inward (inw.ReliableArrival a)) datagram x = leaves refl (reliable_window s a datagram x)

@@ -169,7 +169,6 @@ call_books : (c : Call) (s : Settings) (datagram : List ℕ) (x : State) (b : Ou
 call_books call.Reset s datagram x b w k = reset_books s datagram x b k
 call_books (call.Begin mtu many) s datagram x b w k = begin_books s mtu many x.peer b k
 call_books (call.SetState state) s datagram x b w k = aside_books b x.peer (sets_state s state x.peer).after (state_aside s state x.peer) k
-call_books call.Restore s datagram x b w k = ?
 call_books (call.Outward a) s datagram x b w k = outward_books a s x.peer b w k
 call_books (call.Inward (inw.UnsequencedArrival a group)) s datagram x b w k =
     aside_books b x.peer (calls s (call.Inward (inw.UnsequencedArrival a group)) datagram x).after.peer (unsequenced_aside s a datagram x group) k

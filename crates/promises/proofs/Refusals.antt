@@ -335,7 +335,6 @@ step_is_fair : (s : Settings) (k : Call) (datagram : List ℕ) (x : State) → F
 step_is_fair s call.Reset datagram x = beside_fair _ x _ (reset_fair s x.peer)
 step_is_fair s (call.Begin mtu channels) datagram x = beside_fair _ x _ (begin_fair s x.peer mtu channels)
 step_is_fair s (call.SetState state) datagram x = beside_fair _ x _ (state_fair s x.peer state)
-step_is_fair s call.Restore datagram x = ?
 step_is_fair s (call.Outward out.Ping) datagram x = beside_fair _ x _ (ping_fair s x.peer)
 step_is_fair s (call.Outward (out.Send channel size flags)) datagram x = beside_fair _ x _ (send_fair s x.peer channel size flags)
 step_is_fair s (call.Outward (out.Setup piece)) datagram x = beside_fair _ x _ (setup_fair s x.peer piece)
@@ -357,4 +356,4 @@ pub refused_unchanged : RefusedUnchanged
 refused_unchanged s k datagram x = (step_is_fair s k datagram x).kept
 
 pub sound_undamaged : SoundUndamaged
-sound_undamaged s k datagram x n = (step_is_fair s k datagram x).whole
+sound_undamaged s k datagram x = (step_is_fair s k datagram x).whole

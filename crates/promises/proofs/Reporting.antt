@@ -380,7 +380,6 @@ module _ (channel : ℕ) where
   call_counted (call.Begin mtu count) s datagram x log w c = begin_counted s mtu count x.peer log c
   call_counted (call.SetState state) s datagram x log w c =
       unreported_counted x.peer (sets_state s state x.peer).after log (state_unreported channel s state x.peer) c
-  call_counted call.Restore s datagram x log w c = ?
   call_counted (call.Outward a) s datagram x log w c = unreported_counted x.peer (calls_out s a x.peer).after log (outward_unreported channel s a x.peer) c
   call_counted (call.Inward (inw.UnsequencedArrival a group)) s datagram x log w c = unsequenced_counted s a datagram x log w c group
   call_counted (call.Inward (inw.ReliableArrival a)) s datagram x log w c = reliable_counted s a datagram x log w c

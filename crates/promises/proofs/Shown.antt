@@ -121,7 +121,6 @@ eleven : (k : Call) → number (asks_badly k) fresh ≡ 11
 eleven call.Reset = refl
 eleven (call.Begin mtu channels) = refl
 eleven (call.SetState state) = refl
-eleven call.Restore = refl
 eleven (call.Outward out.Ping) = refl
 eleven (call.Outward (out.Send channel length flags)) = refl
 eleven (call.Outward (out.Setup piece)) = refl
@@ -305,7 +304,6 @@ row : (k : Call) → Each k (refusals_of k)
 row call.Reset = more (by_eleven call.Reset) none
 row (call.Begin mtu channels) = last_two (call.Begin mtu channels) (thirteen_begin mtu channels)
 row (call.SetState state) = last_two (call.SetState state) (thirteen_state state)
-row call.Restore = ?
 row (call.Outward out.Ping) =
     more (by (asks (call.Outward out.Ping)) fresh refl ping_one)
     (more (by (asks (call.Outward out.Ping)) pinged refl ping_five) (out_row out.Ping))

@@ -19,7 +19,6 @@ use Rattle.peer.specs.declared.settings.Settings.{Settings}
 use Rattle.peer.specs.declared.Peer.{Peer}
 use Rattle.peer.specs.declared.defaults.Kept.{Kept}
 use Rattle.lifecycle.specs.Calls.{kept}
-use Rattle.snapshot.proofs.Sound.{restore_sounds}
 use Rattle.lifecycle.proofs.Sound.{reset_sounds, begin_sounds, state_sounds}
 use Rattle.laws.proofs.Unsequenced.{unsequenced_sounds}
 use Rattle.laws.proofs.Reliable.{reliable_sounds}
@@ -43,7 +42,6 @@ pub call_sounds : (s : Settings) (c : Call) (datagram store second : List ℕ) �
 call_sounds s call.Reset datagram store second = reset_sounds s
 call_sounds s (call.Begin mtu channels) datagram store second = begin_sounds s mtu channels
 call_sounds s (call.SetState state) datagram store second = state_sounds s state
-call_sounds s call.Restore datagram store second = restore_sounds s datagram store second
 call_sounds s (call.Outward c) datagram store second = outward_sounds s c
 call_sounds s (call.Inward (inw.UnsequencedArrival a group)) datagram store second = unsequenced_sounds s a group datagram store second
 call_sounds s (call.Inward (inw.ReliableArrival a)) datagram store second = reliable_sounds s a datagram store second
@@ -98,7 +96,7 @@ run_undamaged : (calls : List Asked) (x : State) → Standing x → Undamaged (r
 unfolding run
 run_undamaged [] x k = tt
 run_undamaged (a ∷ rest) x k =
-    (?, run_undamaged rest (comes_to a x).after (asked_stands a x k))
+    (sound_undamaged a.settings a.call a.datagram x k.good, run_undamaged rest (comes_to a x).after (asked_stands a x k))
 
 pub never_damaged : NeverDamaged
 never_damaged s k store second calls e = run_undamaged calls (reset_state s.mtu k store second) (reset_stands s k store second e)

@@ -64,7 +64,6 @@ call_does : (c : Call) (s : Settings) (datagram : List ℕ) (x : State) (log : L
 call_does call.Reset s datagram x log i = reset_does s x log
 call_does (call.Begin mtu channels) s datagram x log i = same_does x (calls s (call.Begin mtu channels) datagram x) log (begin_steady s mtu channels x.peer).window
 call_does (call.SetState state) s datagram x log i = same_does x (calls s (call.SetState state) datagram x) log (state_steady s state x.peer).window
-call_does call.Restore s datagram x log i = ?
 call_does (call.Outward c) s datagram x log i = same_does x (calls s (call.Outward c) datagram x) log (outward_steady s c x.peer).window
 call_does (call.Inward (inw.UnsequencedArrival a group)) s datagram x log i = arrival_does s a group datagram x log i
 call_does (call.Inward (inw.ReliableArrival a)) s datagram x log i =

@@ -145,7 +145,6 @@ GrowsBy B s (call.Inward inw.Receive) datagram b = Unit {0}
 GrowsBy B s call.Reset datagram b = Unit {0}
 GrowsBy B s (call.Begin mtu channels) datagram b = Unit {0}
 GrowsBy B s (call.SetState state) datagram b = Unit {0}
-GrowsBy B s call.Restore datagram b = Unit {0}
 GrowsBy B s (call.Outward c) datagram b = Unit {0}
 
 module _ (B : Building → OfBlock) (blocked : (b : Building) (m : Marks) (second : List ℕ) (i : Incoming) → B b m second i → Blocked b m second i) where
@@ -167,7 +166,6 @@ module _ (B : Building → OfBlock) (blocked : (b : Building) (m : Marks) (secon
       still_stock x (begins s mtu channels x.peer).after (begin_still s mtu channels x.peer) (begin_marks s mtu channels x.peer) k
   call_stock (call.SetState state) s datagram x l w g k =
       still_stock x (sets_state s state x.peer).after (state_still s state x.peer) (state_marks s state x.peer) k
-  call_stock call.Restore s datagram x l w g k = ?
   call_stock (call.Outward c) s datagram x l w g k =
       still_stock x (calls_out s c x.peer).after (outward_still s c x.peer) (outward_marks s c x.peer) k
   call_stock (call.Inward (inw.UnsequencedArrival a group)) s datagram x l w g k = unsequenced_stock s a datagram x w k group

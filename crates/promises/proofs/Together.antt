@@ -204,7 +204,6 @@ module _ (channel start : ℕ) (packet : List ℕ) (cut : Cut) (cuts : CutOf pac
   grows_cut call.Reset s datagram b only = tt
   grows_cut (call.Begin mtu channels) s datagram b only = tt
   grows_cut (call.SetState state) s datagram b only = tt
-  grows_cut call.Restore s datagram b only = tt
   grows_cut (call.Outward c) s datagram b only = tt
   grows_cut (call.Inward (inw.UnsequencedArrival a group)) s datagram b only = tt
   grows_cut (call.Inward (inw.ReliableArrival a)) s datagram b only = tt
@@ -217,7 +216,6 @@ module _ (channel start : ℕ) (packet : List ℕ) (cut : Cut) (cuts : CutOf pac
   put_good call.Reset s datagram x b w only k = count_none bad
   put_good (call.Begin mtu channels) s datagram x b w only k = count_none bad
   put_good (call.SetState state) s datagram x b w only k = count_none bad
-  put_good call.Restore s datagram x b w only k = count_none bad
   put_good (call.Outward c) s datagram x b w only k = count_none bad
   put_good (call.Inward (inw.UnsequencedArrival a group)) s datagram x b w only k =
       packet_good (says_one (arrives_unsequenced s a group datagram x).answer) a datagram

@@ -128,7 +128,6 @@ call_carries : (a : Call) (s : Settings) (datagram : List ℕ) (x : State) → S
 call_carries call.Reset s datagram x h c = reset_carries s x.peer c
 call_carries (call.Begin mtu count) s datagram x h c = begin_carries s mtu count x.peer c
 call_carries (call.SetState state) s datagram x h c = state_carries s state x.peer c
-call_carries call.Restore s datagram x h c = ?
 call_carries (call.Outward a) s datagram x h c = outward_carries s a x.peer h c
 call_carries (call.Inward (inw.UnsequencedArrival a group)) s datagram x h c = unsequenced_carries s a datagram x c group
 call_carries (call.Inward (inw.ReliableArrival a)) s datagram x h c = reliable_carries s a datagram x c

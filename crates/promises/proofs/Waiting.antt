@@ -112,7 +112,6 @@ call_holds : (c : Call) (s : Settings) (datagram : List ℕ) (x : State) (t : Ta
 call_holds call.Reset s datagram x t w h = reset_holds s x t h
 call_holds (call.Begin mtu channels) s datagram x t w h = same_holds x.peer (begins s mtu channels x.peer).after t (begin_steady s mtu channels x.peer).total h
 call_holds (call.SetState state) s datagram x t w h = same_holds x.peer (sets_state s state x.peer).after t (state_steady s state x.peer).total h
-call_holds call.Restore s datagram x t w h = ?
 call_holds (call.Outward c) s datagram x t w h = same_holds x.peer (calls_out s c x.peer).after t (outward_steady s c x.peer).total h
 call_holds (call.Inward (inw.UnsequencedArrival a group)) s datagram x t w h =
     arrival_holds a datagram x (arrives_unsequenced s a group datagram x) t (unsequenced_stores s a group datagram x w) (unsequenced_says s a datagram x group) h

@@ -1,5 +1,5 @@
 -- C-11, blocks: whole exactly when all pieces are marked; a marked piece changes nothing; a later piece is never refused with 8; only a piece that is stored changes
--- the second store, or a restore (C-12); and what was cut comes together.
+-- the second store; and what was cut comes together.
 use Rattle.std.specs.Prelude.{ℕ, ◌<◌, ◌≡◌, Bool, true, not, List, [], ◌∷◌, ◌⊎◌, eqb, length, get_or}
 use Rattle.numbers.specs.Pick.{both}
 use Rattle.cells.specs.Runs.{has}
@@ -8,7 +8,7 @@ use Rattle.cells.specs.declared.First.TheVariants.{Slot, Empty}
 use Rattle.record.specs.Fresh.{no_incoming}
 use Rattle.record.specs.Marks.{piece_marked}
 use Rattle.record.specs.Blocks.{is_block}
-use Rattle.record.specs.Damage.{all, below, used_in}
+use Rattle.record.specs.Damage.{below, used_in}
 use Rattle.record.specs.declared.groups.Incoming.{Incoming}
 use Rattle.record.specs.declared.groups.Marks.{Marks}
 use Rattle.peer.specs.Damage.{sound}
@@ -26,11 +26,8 @@ use Rattle.link.specs.Runs.{Asked, says_one, Packet, reset_state}
 use Rattle.link_in.specs.declared.calls.Call.TheVariants as inw
 use Rattle.link.specs.declared.calls.Call.{Call}
 use Rattle.link.specs.declared.calls.Call.TheVariants as call
-use Rattle.snapshot_parts.specs.Row.{parsed}
-use Rattle.snapshot.specs.Calls.{read_snapshot, state_from}
-use Rattle.promises.specs.Restores.{AtRestores}
 use Rattle.promises.specs.Counts.{those}
-use Rattle.promises.specs.Packets.{packet_at, piece_written, ledger, fresh_ledger, AsArrived}
+use Rattle.promises.specs.Packets.{piece_written, ledger, fresh_ledger}
 
 -- every piece of the block is marked
 abbrev pub AllMarked : Marks → Incoming → Type 0
@@ -75,18 +72,10 @@ pub record LaysPiece (k : Call) (datagram : List ℕ) (x : State) (o : Outcome S
   pub stored : says_one o.answer ≡ true
   pub second : o.after.second ≡ piece_laid (unfinished_on piece x.peer) piece datagram x.second
 
--- C-12: or a restore, of a snapshot that has these numbers and these stored bytes
-pub record RestoresIt (k : Call) (datagram : List ℕ) (o : Outcome State) : Type 0 where
-  pub is : k ≡ call.Restore
-  pub numbers : List ℕ
-  pub bytes : List ℕ
-  pub read : read_snapshot datagram ≡ parsed numbers bytes
-  pub after : o.after ≡ state_from numbers bytes
-
 abbrev pub SecondKept : Type 0
 SecondKept =
     (s : Settings) (k : Call) (datagram : List ℕ) (x : State) → let o = calls s k datagram x in
-    (o.after.second ≡ x.second) ⊎ (LaysPiece k datagram x o ⊎ RestoresIt k datagram o)
+    (o.after.second ≡ x.second) ⊎ LaysPiece k datagram x o
 
 -- a piece that is one of those that a packet was cut into
 pub record IsPieceOf (packet : List ℕ) (cut : Cut) (a : Piece) (datagram : List ℕ) : Type 0 where
@@ -105,7 +94,6 @@ OnlyPieces channel start packet cut (call.Inward inw.Receive) datagram = Unit {0
 OnlyPieces channel start packet cut call.Reset datagram = Unit {0}
 OnlyPieces channel start packet cut (call.Begin mtu channels) datagram = Unit {0}
 OnlyPieces channel start packet cut (call.SetState state) datagram = Unit {0}
-OnlyPieces channel start packet cut call.Restore datagram = Unit {0}
 OnlyPieces channel start packet cut (call.Outward c) datagram = Unit {0}
 
 abbrev pub AllOnly : ℕ → ℕ → List ℕ → Cut → List Asked → Type 0
@@ -121,17 +109,10 @@ abbrev pub AllBytes : List ℕ → List Packet → Type 0
 AllBytes packet [] = Unit {0}
 AllBytes packet (k ∷ ks) = (k.bytes ≡ packet) × AllBytes packet ks
 
--- C-12: a restored record, as arrivals leave it, with no such block
-pub record WithNone (channel start : ℕ) (y : State) : Type 0 where
-  pub arrived : AsArrived y
-  pub none : all (λ (s : ℕ). not (is_block_of channel start (packet_at y s))) (used_in y.peer.lists (below y.peer.channels y.peer.standing.channels)) ≡ true
-
 -- What was cut comes together: where every piece that comes on a channel under a start is one of those that a packet was cut into, in any order, with repeats and
 -- whatever else between, each block of that start that joins dispatched there has the packet's bytes.
 abbrev pub CutTogether : Type 0
 CutTogether =
     (mtu : ℕ) (kept : Kept) (store second : List ℕ) (calls : List Asked) (channel start : ℕ) (packet : List ℕ) (cut : Cut) → CutOf packet cut
-    → let x = reset_state mtu kept store second in
-    AllOnly channel start packet cut calls
-    → AtRestores (WithNone channel start) calls x
-    → AllBytes packet (those (is_block_of channel start) (ledger calls x fresh_ledger).joined)
+    → AllOnly channel start packet cut calls
+    → AllBytes packet (those (is_block_of channel start) (ledger calls (reset_state mtu kept store second) fresh_ledger).joined)

@@ -1,7 +1,6 @@
 -- Nothing that is ready stays held: after any run from a reset in which each number is given once, on each channel below the count, nothing that is held is complete
 -- and next, and what is held stands in the order of its distance from the channel's last number, each behind the last number of the one before.
 -- C-11: a sender that uses a number twice can stall a channel, here and in the source; so "each number once" is asked.
--- C-12: a record that is restored may hold anything that is sound; so it is asked that nothing is stuck in it.
 use Rattle.std.specs.Prelude.{ℕ, ◌+◌, ◌-◌, ◌<◌, ◌≡◌, Bool, true, not, List, [], ◌∷◌, eqb, leb, get_or}
 use Rattle.numbers.specs.Pick.{pick}
 use Rattle.numbers.specs.Answers.{Answer}
@@ -21,7 +20,6 @@ use Rattle.link.specs.Runs.{Asked, comes_to, says_one, run, reset_state}
 use Rattle.link_in.specs.declared.calls.Call.TheVariants as inw
 use Rattle.link.specs.declared.calls.Call.{Call}
 use Rattle.link.specs.declared.calls.Call.TheVariants as call
-use Rattle.promises.specs.Restores.{AtRestores}
 
 abbrev pub channel_in : State → ℕ → Channel
 channel_in x channel = get_or x.peer.channels channel no_channel
@@ -59,7 +57,6 @@ Numbered (call.Inward inw.Receive) = Unit {0}
 Numbered call.Reset = Unit {0}
 Numbered (call.Begin mtu channels) = Unit {0}
 Numbered (call.SetState state) = Unit {0}
-Numbered call.Restore = Unit {0}
 Numbered (call.Outward c) = Unit {0}
 
 abbrev pub AllNumbered : List Asked → Type 0
@@ -93,7 +90,6 @@ GivesFree (call.Inward inw.Receive) x w = Unit {0}
 GivesFree call.Reset x w = Unit {0}
 GivesFree (call.Begin mtu channels) x w = Unit {0}
 GivesFree (call.SetState state) x w = Unit {0}
-GivesFree call.Restore x w = Unit {0}
 GivesFree (call.Outward c) x w = Unit {0}
 
 -- each number once
@@ -101,14 +97,10 @@ abbrev pub GivenOnce : List Asked → State → Type 0
 GivenOnce [] x = Unit {0}
 GivenOnce (a ∷ rest) x = let o = comes_to a x in GivesFree a.call x o.answer × GivenOnce rest o.after
 
--- on each channel below the count
-abbrev pub NoneStuck : State → Type 0
-NoneStuck y = (channel : ℕ) → channel < y.peer.standing.channels → NoneReady y channel
-
 abbrev pub NothingStuck : Type 0
 NothingStuck =
-    (mtu : ℕ) (kept : Kept) (store second : List ℕ) (calls : List Asked) → let x = reset_state mtu kept store second in
+    (mtu : ℕ) (kept : Kept) (store second : List ℕ) (calls : List Asked) (channel : ℕ) → let x = reset_state mtu kept store second in
     AllNumbered calls
     → GivenOnce calls x
-    → AtRestores NoneStuck calls x
-    → NoneStuck (run calls x).end
+    → let y = (run calls x).end in
+    channel < y.peer.standing.channels → NoneReady y channel

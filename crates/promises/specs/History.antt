@@ -10,7 +10,7 @@ use Rattle.link.specs.declared.calls.Call.{Call}
 use Rattle.link.specs.declared.calls.Call.TheVariants as call
 
 pub data Event : Type 0 where
-  was_reset : Event  -- a reset was done; or a restore, which "counts as a reset in demand 3" (C-12)
+  was_reset : Event  -- a reset was done
   moved : (windows : ℕ) → Event  -- the base moved forward by so many windows of 1,024 groups
   delivered : (group : ℕ) → Event  -- an unsequenced packet of this group was stored
 
@@ -39,7 +39,6 @@ abbrev pub concern : Call → Concern
 concern call.Reset = resetting
 concern (call.Begin mtu channels) = neither
 concern (call.SetState state) = neither
-concern call.Restore = resetting
 concern (call.Outward c) = neither
 concern (call.Inward (inw.UnsequencedArrival a group)) = arriving group.0
 concern (call.Inward (inw.ReliableArrival a)) = neither

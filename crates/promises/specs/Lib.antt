@@ -1,12 +1,11 @@
-pub mod Restores
 pub mod Refusals
 pub mod History
 pub mod Repeats
 pub mod Standing
 pub mod Counts
-pub mod Held
 pub mod Reports
 pub mod Packets
+pub mod Held
 pub mod Next
 pub mod Marks
 pub mod ReportRepeats

@@ -1,6 +1,6 @@
--- A group is marked exactly if it was delivered, or passed over in state 6, since the base came to its window, or came marked with a restore (C-12). So after an 8 the same arrival is stored
+-- A group is marked exactly if it was delivered, or passed over in state 6, since the base came to its window. So after an 8 the same arrival is stored
 -- once there is room.
-use Rattle.std.specs.Prelude.{ℕ, zero, suc, ◌+◌, ◌≡◌, Bool, true, List, [], ◌∷◌, eqb}
+use Rattle.std.specs.Prelude.{ℕ, ◌≡◌, Bool, true, List, [], ◌∷◌, eqb}
 use Rattle.numbers.specs.Pick.{pick, both}
 use Rattle.numbers.specs.declared.counters.Group.{Group}
 use Rattle.cells.specs.Runs.{has}
@@ -14,7 +14,6 @@ use Rattle.arrival.specs.Arrivals.{stored}
 use Rattle.arrival.specs.declared.Arrival.{Arrival}
 use Rattle.arrive_unsequenced.specs.Calls.{send_unsequenced}
 use Rattle.link.specs.Runs.{Asked, comes_to, says_one, run, reset_state}
-use Rattle.promises.specs.Counts.{those}
 use Rattle.promises.specs.History.{Concern, resetting, arriving, neither, concern, base_of}
 use Rattle.promises.specs.Repeats.{unsequencedly}
 use Rattle.promises.specs.Next.{Fits}
@@ -25,18 +24,9 @@ takes g x o =
     pick (says_one o.answer) true
     (both (eqb o.answer.number 0) (both (eqb x.peer.standing.state disconnect_later) (eqb (first g) (base_of o.after))))
 
--- k groups from g on
-unfoldable pub groups_from : ℕ → ℕ → List ℕ
-groups_from g zero = []
-groups_from g (suc k) = g ∷ groups_from (g + 1) k
-
--- the groups of the base's window that are marked: after a reset none
-abbrev pub marked_in : State → List ℕ
-marked_in y = those (marked y.peer.unsequenced.words) (groups_from (base_of y) 1024)
-
--- the groups taken since the base came to where it is: a move of the base begins anew, and so does a reset or a restore that is done, with those that are marked then
+-- the groups taken since the base came to where it is: a move of the base begins anew, and so does a reset that is done
 abbrev pub took_by : Concern → State → Outcome State → List ℕ → List ℕ
-took_by resetting x o log = pick (eqb o.answer.number 0) (marked_in o.after) log
+took_by resetting x o log = pick (eqb o.answer.number 0) [] log
 took_by (arriving g) x o log =
     let since = pick (eqb (base_of o.after) (base_of x)) log [] in pick (takes g x o) (g ∷ since) since
 took_by neither x o log = log

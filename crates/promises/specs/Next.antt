@@ -24,8 +24,7 @@ use Rattle.promises.specs.History.{base_of}
 use Rattle.promises.specs.Repeats.{unsequencedly}
 use Rattle.promises.specs.Reports.{numbers_joined, series}
 use Rattle.arrive_reliable.specs.Holding.{holds}
-use Rattle.promises.specs.Restores.{AtRestores}
-use Rattle.promises.specs.Held.{last_in, held_in, NoneReady, NoneStuck, AllNumbered, GivenOnce}
+use Rattle.promises.specs.Held.{last_in, held_in, NoneReady, AllNumbered, GivenOnce}
 
 -- nothing of an arrival's own, nor of the room for it, is in its way: settings and store fit, its byte names its command, its channel is there, the
 -- state is 5, its length is in bounds, the waiting total is below the setting and a slot is free
@@ -57,7 +56,6 @@ NextDelivered =
     fit_settings t ≡ true
     → AllNumbered calls
     → GivenOnce calls x
-    → AtRestores NoneStuck calls x
     → let y = (run calls x).end in
     Fits send_reliable s a datagram y
     → a.number.0 ≡ step (last_in y a.channel)

@@ -1,9 +1,7 @@
 -- The outgoing ledger: along a run every command that was queued is in exactly one place: in one of the three lists, removed by an acknowledgement that named
 -- its number and channel, or freed by a send step that needed no answer. On each channel the reliable numbers are 1, 2, 3 and so on, past 65,535 to 0, in the order of queueing.
--- C-12: a restore begins it anew, with what the restored record's lists hold; the numbers follow the last that it gave out.
-use Rattle.std.specs.Prelude.{ℕ, ◌+◌, ◌<◌, ◌≡◌, Bool, true, false, not, List, [], ◌∷◌, ◌++◌, map, eqb, length, get_or, drop}
+use Rattle.std.specs.Prelude.{ℕ, ◌+◌, ◌<◌, ◌≡◌, Bool, true, List, [], ◌∷◌, ◌++◌, map, eqb, length, get_or, drop}
 use Rattle.numbers.specs.Pick.{pick, both}
-use Rattle.numbers.specs.Answers.{Answer}
 use Rattle.record.specs.Lists.{out_items}
 use Rattle.cells.specs.Runs.{has}
 use Rattle.command.specs.declared.fields.Command.{Command}
@@ -20,10 +18,8 @@ use Rattle.link.specs.Runs.{Asked, comes_to, run, reset_state}
 use Rattle.link.specs.declared.calls.Call.{Call}
 use Rattle.link.specs.declared.calls.Call.TheVariants as call
 use Rattle.promises.specs.Counts.{count, those}
-use Rattle.promises.specs.Restores.{is_restored}
 use Rattle.promises.specs.Packets.{is_reset}
 use Rattle.promises.specs.Reports.{series}
-use Rattle.promises.specs.Held.{channel_in}
 
 -- what a command keeps while it waits and is sent: all but its sent time, its timeout and its attempts
 pub record Item : Type 0 where
@@ -82,9 +78,8 @@ heard number channel i = record { item = i; number = number; channel = channel }
 abbrev pub is_named : Removed → Bool
 is_named r = both (eqb r.item.reliable r.number) (eqb r.item.command.channel r.channel)
 
--- since the latest reset or restore, each in its order: those that a restored record's lists held; queued; removed by acknowledgements; freed by send steps
+-- since the latest reset, each in its order: queued; removed by acknowledgements; freed by send steps
 pub record Outbook : Type 0 where
-  pub held : List Item
   pub queued : List Item
   pub removed : List Removed
   pub freed : List Item
@@ -93,22 +88,19 @@ abbrev pub items_of : List Removed → List Item
 items_of rs = map (λ (r : Removed). r.item) rs
 
 abbrev pub fresh_outbook : Outbook
-fresh_outbook = record { held = []; queued = []; removed = []; freed = [] }
-
-abbrev pub restored_outbook : State → Outbook
-restored_outbook y = record { held = waiting y.peer; queued = []; removed = []; freed = [] }
+fresh_outbook = record { queued = []; removed = []; freed = [] }
 
 abbrev pub queues : List Item → Outbook → Outbook
-queues is b = record { held = b.held; queued = b.queued ++ is; removed = b.removed; freed = b.freed }
+queues is b = record { queued = b.queued ++ is; removed = b.removed; freed = b.freed }
 
 -- what a call of the sending side that led from one record to another writes
 abbrev pub enters : Outward → Peer → Peer → Outbook → Outbook
 enters out.Ping p q b = queues (joined_out p q) b
 enters (out.Send channel length flags) p q b = queues (joined_out p q) b
 enters (out.Setup piece) p q b = queues (joined_out p q) b
-enters (out.SendStep queue time) p q b = record { held = b.held; queued = b.queued; removed = b.removed; freed = b.freed ++ gone p q }
+enters (out.SendStep queue time) p q b = record { queued = b.queued; removed = b.removed; freed = b.freed ++ gone p q }
 enters (out.Acknowledgement channel number sent clock) p q b =
-    record { held = b.held; queued = b.queued; removed = b.removed ++ map (heard number.0 channel) (gone p q); freed = b.freed }
+    record { queued = b.queued; removed = b.removed ++ map (heard number.0 channel) (gone p q); freed = b.freed }
 enters (out.TimeoutCheck clock) p q b = b
 enters (out.Throttle sample) p q b = b
 
@@ -118,13 +110,10 @@ booked (call.Inward c) p q b = b
 booked call.Reset p q b = b
 booked (call.Begin mtu channels) p q b = b
 booked (call.SetState state) p q b = b
-booked call.Restore p q b = b
 
 abbrev pub writes_out : Asked → State → Outbook → Outbook
 writes_out a x b =
-    let o = comes_to a x in
-    pick (is_reset a.call o.answer) fresh_outbook
-    (pick (is_restored a.call o.answer) (restored_outbook o.after) (booked a.call x.peer o.after.peer b))
+    let o = comes_to a x in pick (is_reset a.call o.answer) fresh_outbook (booked a.call x.peer o.after.peer b)
 
 unfoldable pub outbook : List Asked → State → Outbook → Outbook
 outbook [] x b = b
@@ -134,41 +123,16 @@ outbook (a ∷ rest) x b = outbook rest (comes_to a x).after (writes_out a x b)
 abbrev pub numbered_on : ℕ → Item → Bool
 numbered_on channel i = both (eqb i.command.channel channel) (pick (eqb channel 255) true (acknowledged i.command.byte))
 
--- the last reliable number that was given out on a channel; on 255, the peer's own
-abbrev pub last_given : State → ℕ → ℕ
-last_given y channel = pick (eqb channel 255) y.peer.flow.own_number.0 (channel_in y channel).outgoing_reliable.0
-
--- a begin that is done makes the channels new
-abbrev pub is_begun : ℕ → Call → Answer → Bool
-is_begun channel (call.Begin mtu channels) w = both (not (eqb channel 255)) (eqb w.number 0)
-is_begun channel call.Reset w = false
-is_begun channel (call.SetState state) w = false
-is_begun channel call.Restore w = false
-is_begun channel (call.Outward c) w = false
-is_begun channel (call.Inward c) w = false
-
--- the number that a channel's queued ones follow: 0; since a restore the last that the restored record gave out (C-12)
-abbrev pub following : ℕ → Asked → State → ℕ → ℕ
-following channel a x n =
-    let o = comes_to a x in
-    pick (is_reset a.call o.answer) 0
-    (pick (is_restored a.call o.answer) (last_given o.after channel) (pick (is_begun channel a.call o.answer) 0 n))
-
-unfoldable pub follows : ℕ → List Asked → State → ℕ → ℕ
-follows channel [] x n = n
-follows channel (a ∷ rest) x n = follows channel rest (comes_to a x).after (following channel a x n)
-
-pub record InOnePlace (first : ℕ → ℕ) (b : Outbook) (p : Peer) : Type 0 where
-  -- whatever is asked of commands: those in the lists, removed and freed are those held and the queued ones, each once
-  pub once : (f : Item → Bool)
-      → count f b.held + count f b.queued ≡ count f (waiting p) + count f (items_of b.removed) + count f b.freed
+pub record InOnePlace (b : Outbook) (p : Peer) : Type 0 where
+  -- whatever is asked of commands: those in the lists, removed and freed are the queued ones, each once
+  pub once : (f : Item → Bool) → count f b.queued ≡ count f (waiting p) + count f (items_of b.removed) + count f b.freed
   -- what an acknowledgement removed bears the number and the channel that it named
   pub named : count is_named b.removed ≡ length b.removed
   -- what a send step freed asked for no answer
   pub plain : count (λ (i : Item). acknowledged i.command.byte) b.freed ≡ 0
-  pub numbers : (channel : ℕ) → let is = those (numbered_on channel) b.queued in map (λ (i : Item). i.reliable) is ≡ series (first channel) (length is)
+  pub numbers : (channel : ℕ) → let is = those (numbered_on channel) b.queued in map (λ (i : Item). i.reliable) is ≡ series 0 (length is)
 
 abbrev pub NoneLost : Type 0
 NoneLost =
     (mtu : ℕ) (kept : Kept) (store second : List ℕ) (calls : List Asked) → let x = reset_state mtu kept store second in
-    InOnePlace (λ (channel : ℕ). follows channel calls x 0) (outbook calls x fresh_outbook) (run calls x).end.peer
+    InOnePlace (outbook calls x fresh_outbook) (run calls x).end.peer

@@ -1,8 +1,7 @@
 -- Document 01's table, "What a call replies": which numbers but 0 a call may answer, and what record and stores then hold. Every call may answer 11,
--- and every one but reset 13, a restore of what it read. That an arrival answers 9 where its byte names another command is our own reading (decision 81).
+-- and every one but reset 13. That an arrival answers 9 where its byte names another command is our own reading (decision 81).
 -- C-11: "Refusals: 14, fields out of range or unlike the first piece's, nothing changed".
--- C-12, a restore: "15, bytes short or left over, ..; then 13 if what was read is damaged", and "Nothing lent changes".
-use Rattle.std.specs.Prelude.{ℕ, ◌≡◌, Bool, true, false, List, [], ◌∷◌, eqb}
+use Rattle.std.specs.Prelude.{ℕ, ◌≡◌, Bool, true, List, [], ◌∷◌, eqb}
 use Rattle.numbers.specs.Pick.{pick}
 use Rattle.numbers.specs.Clock.{trip_of}
 use Rattle.numbers.specs.declared.clock.Trip.TheVariants.{Taken}
@@ -25,13 +24,11 @@ use Rattle.link_out.specs.declared.calls.Call.TheVariants as out
 use Rattle.link_in.specs.declared.calls.Call.TheVariants as inw
 use Rattle.link.specs.declared.calls.Call.{Call}
 use Rattle.link.specs.declared.calls.Call.TheVariants as call
-use Rattle.promises.specs.Restores.{is_restore}
 
 abbrev pub refusals_of : Call → List ℕ
 refusals_of call.Reset = 11 ∷ []
 refusals_of (call.Begin mtu channels) = 11 ∷ 13 ∷ []
 refusals_of (call.SetState state) = 11 ∷ 13 ∷ []
-refusals_of call.Restore = 11 ∷ 13 ∷ 15 ∷ []
 refusals_of (call.Outward out.Ping) = 1 ∷ 5 ∷ 11 ∷ 13 ∷ []
 refusals_of (call.Outward (out.Send channel length flags)) = 1 ∷ 2 ∷ 3 ∷ 4 ∷ 5 ∷ 11 ∷ 13 ∷ []
 refusals_of (call.Outward (out.Setup piece)) = 2 ∷ 5 ∷ 9 ∷ 11 ∷ 13 ∷ []
@@ -60,11 +57,9 @@ RefusedUnchanged =
     (s : Settings) (k : Call) (datagram : List ℕ) (x : State) → let o = calls s k datagram x in
     (o.answer.number ≡ 0 → ⊥) → (o.answer.number ≡ 8 → ⊥) → (o.answer.number ≡ 10 → ⊥) → o.after ≡ x
 
--- a sound record is not answered 13: what a restore answers so is what it read (C-12)
 abbrev pub SoundUndamaged : Type 0
 SoundUndamaged =
-    (s : Settings) (k : Call) (datagram : List ℕ) (x : State) → is_restore k ≡ false → sound x.peer ≡ true
-    → (calls s k datagram x).answer.number ≡ 13 → ⊥
+    (s : Settings) (k : Call) (datagram : List ℕ) (x : State) → sound x.peer ≡ true → (calls s k datagram x).answer.number ≡ 13 → ⊥
 
 -- 8 of a reliable arrival: "unchanged"
 abbrev pub EightLeaves : Type 0
@@ -112,7 +107,6 @@ op_of (call.Inward (inw.FragmentArrival piece)) = 18
 op_of (call.Inward (inw.Dispatch channel)) = 12
 op_of (call.Inward inw.Receive) = 13
 op_of (call.Outward (out.Throttle sample)) = 14
-op_of call.Restore = 34
 
 -- some input makes this call answer so
 pub record Shown (k : Call) (number : ℕ) : Type 0 where

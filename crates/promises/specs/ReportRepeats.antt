@@ -1,5 +1,5 @@
--- Reliable repeats leave no trace: inserting reliable arrivals whose number was taken by what joined dispatched on that channel since begin (or a restore, C-12), at
--- most 32,768 numbers ago, changes no answer, no packet and no record. C-11: nor does inserting pieces that are marked, or whose block's start was so taken.
+-- Reliable repeats leave no trace: inserting reliable arrivals whose number was taken by what joined dispatched on that channel since begin, at most 32,768 numbers
+-- ago, changes no answer, no packet and no record. C-11: nor does inserting pieces that are marked, or whose block's start was so taken.
 use Rattle.std.specs.Prelude.{ℕ, ◌≤◌, ◌≡◌, true, List, [], ◌∷◌, ◌++◌, length}
 use Rattle.cells.specs.declared.First.{First}
 use Rattle.cells.specs.declared.First.TheVariants.{Slot, Empty}

@@ -1,5 +1,5 @@
 -- A reliable report counts once and none is skipped: on each channel of a run from a reset, the reliable packets and blocks that join dispatched since begin take
--- the numbers 1, 2, 3 and so on, past 65,535 to 0; a block of k pieces takes k of them. C-12: since a restore, those that follow the restored channel's last.
+-- the numbers 1, 2, 3 and so on, past 65,535 to 0; a block of k pieces takes k of them.
 use Rattle.std.specs.Prelude.{ℕ, zero, suc, ◌-◌, ◌≡◌, Bool, false, List, [], ◌∷◌, ◌++◌, eqb, length, get_or, drop}
 use Rattle.numbers.specs.Pick.{pick}
 use Rattle.numbers.specs.Answers.{Answer}
@@ -13,8 +13,6 @@ use Rattle.link.specs.Runs.{Asked, comes_to, reset_state}
 use Rattle.link_in.specs.declared.calls.Call.TheVariants as inw
 use Rattle.link.specs.declared.calls.Call.{Call}
 use Rattle.link.specs.declared.calls.Call.TheVariants as call
-use Rattle.promises.specs.Restores.{is_restore}
-use Rattle.promises.specs.Held.{last_in}
 
 -- the slots in dispatched
 abbrev pub dispatched_in : State → List ℕ
@@ -47,21 +45,19 @@ is_on channel (call.Inward (inw.Dispatch c)) = eqb c channel
 is_on channel call.Reset = false
 is_on channel (call.Begin mtu channels) = false
 is_on channel (call.SetState state) = false
-is_on channel call.Restore = false
 is_on channel (call.Outward c) = false
 is_on channel (call.Inward (inw.UnsequencedArrival a group)) = false
 is_on channel (call.Inward inw.Receive) = false
 
--- reset, begin and restore (C-12), done, begin the channels anew
+-- reset and begin, done, begin the channels anew
 abbrev pub is_anew : Call → Answer → Bool
 is_anew call.Reset w = eqb w.number 0
 is_anew (call.Begin mtu channels) w = eqb w.number 0
-is_anew call.Restore w = eqb w.number 0
 is_anew (call.SetState state) w = false
 is_anew (call.Outward c) w = false
 is_anew (call.Inward c) w = false
 
--- the reliable numbers of a channel that were taken by what joined dispatched since begin or a restore, in their order
+-- the reliable numbers of a channel that were taken by what joined dispatched since begin, in their order
 abbrev pub reported : ℕ → Asked → State → List ℕ → List ℕ
 reported channel a x log =
     let o = comes_to a x in
@@ -71,17 +67,7 @@ unfoldable pub reports : ℕ → List Asked → State → List ℕ → List ℕ
 reports channel [] x log = log
 reports channel (a ∷ rest) x log = reports channel rest (comes_to a x).after (reported channel a x log)
 
--- the number that they follow: 0 since begin; since a restore the restored channel's last (C-12)
-abbrev pub starting : ℕ → Asked → State → ℕ → ℕ
-starting channel a x n =
-    let o = comes_to a x in pick (is_anew a.call o.answer) (pick (is_restore a.call) (last_in o.after channel) 0) n
-
-unfoldable pub starts : ℕ → List Asked → State → ℕ → ℕ
-starts channel [] x n = n
-starts channel (a ∷ rest) x n = starts channel rest (comes_to a x).after (starting channel a x n)
-
 abbrev pub CountsOnce : Type 0
 CountsOnce =
-    (mtu : ℕ) (kept : Kept) (store second : List ℕ) (calls : List Asked) (channel : ℕ) → let x = reset_state mtu kept store second in
-    let log = reports channel calls x [] in
-    log ≡ series (starts channel calls x 0) (length log)
+    (mtu : ℕ) (kept : Kept) (store second : List ℕ) (calls : List Asked) (channel : ℕ) → let log = reports channel calls (reset_state mtu kept store second) [] in
+    log ≡ series 0 (length log)

@@ -1,13 +1,12 @@
--- What stands along a run from a reset, restores (C-12) in it: the record is sound, the waiting total is what was stored and not yet received, and what is in transit is what the
+-- What stands along a run from a reset: the record is sound, the waiting total is what was stored and not yet received, and what is in transit is what the
 -- packets in sent carry.
-use Rattle.std.specs.Prelude.{ℕ, ◌+◌, ◌%◌, ◌^◌, ◌<◌, ◌≡◌, Bool, true, false, List, [], ◌∷◌, eqb, get_or}
+use Rattle.std.specs.Prelude.{ℕ, ◌+◌, ◌%◌, ◌^◌, ◌<◌, ◌≡◌, Bool, true, List, [], ◌∷◌, eqb, get_or}
 use Rattle.numbers.specs.Pick.{pick}
 use Rattle.numbers.specs.Answers.{Answer, numbers_of}
 use Rattle.record.specs.Lists.{out_items}
-use Rattle.record.specs.Damage.{below, used_in, lengths}
 use Rattle.peer.specs.Damage.{sound}
 use Rattle.peer.specs.Settings.{fit_settings}
-use Rattle.peer.specs.Outcome.{State, Outcome}
+use Rattle.peer.specs.Outcome.{State}
 use Rattle.peer.specs.declared.settings.Settings.{Settings}
 use Rattle.peer.specs.declared.defaults.Kept.{Kept}
 use Rattle.laws.specs.Transit.{limit, loads}
@@ -20,7 +19,6 @@ use Rattle.link_out.specs.declared.calls.Call.TheVariants as out
 use Rattle.link_in.specs.declared.calls.Call.TheVariants as inw
 use Rattle.link.specs.declared.calls.Call.{Call}
 use Rattle.link.specs.declared.calls.Call.TheVariants as call
-use Rattle.promises.specs.Restores.{is_restore, AtRestores}
 
 -- a run from a reset stays sound
 abbrev pub StaysSound : Type 0
@@ -28,17 +26,17 @@ StaysSound =
     (s : Settings) (kept : Kept) (store second : List ℕ) (calls : List Asked) → fit_settings s ≡ true
     → sound (run calls (reset_state s.mtu kept store second)).end.peer ≡ true
 
--- and 13 is never answered in it, but by a restore, of what it read (C-12)
-abbrev pub Undamaged : List Asked → State → Type 0
-Undamaged [] x = Unit {0}
-Undamaged (a ∷ rest) x = let o = comes_to a x in (is_restore a.call ≡ false → o.answer.number ≡ 13 → ⊥) × Undamaged rest o.after
+-- and 13 is never answered in it
+abbrev pub Undamaged : List Answer → Type 0
+Undamaged [] = Unit {0}
+Undamaged (a ∷ rest) = (a.number ≡ 13 → ⊥) × Undamaged rest
 
 abbrev pub NeverDamaged : Type 0
 NeverDamaged =
     (s : Settings) (kept : Kept) (store second : List ℕ) (calls : List Asked) → fit_settings s ≡ true
-    → Undamaged calls (reset_state s.mtu kept store second)
+    → Undamaged (run calls (reset_state s.mtu kept store second)).answers
 
--- the lengths stored and the lengths received since the latest reset or restore
+-- the lengths stored and the lengths received since the latest reset
 pub record Tally : Type 0 where
   pub stored : ℕ
   pub received : ℕ
@@ -58,29 +56,21 @@ begins (Slot n) total a t = t
 abbrev pub hands_out : Answer → Bool
 hands_out a = pick (says_one a) true (says_two a)
 
--- C-12: "lengths stored count from those it holds"
-abbrev pub held_tally : State → Tally
-held_tally y =
-    let p = y.peer in
-    record { stored = lengths p.incoming (used_in p.lists (below p.channels p.standing.channels)); received = 0 }
-
--- what a call that comes to this, from this state, adds
-abbrev pub counts : Call → State → Outcome State → Tally → Tally
-counts call.Reset x o t = pick (eqb o.answer.number 0) fresh_tally t
-counts call.Restore x o t = pick (eqb o.answer.number 0) (held_tally o.after) t
-counts (call.Inward (inw.UnsequencedArrival arrival group)) x o t = stores arrival.length o.answer t
-counts (call.Inward (inw.ReliableArrival arrival)) x o t = stores arrival.length o.answer t
-counts (call.Inward (inw.FragmentArrival piece)) x o t = begins (unfinished_on piece x.peer) piece.fragment.total o.answer t
-counts (call.Inward inw.Receive) x o t =
-    pick (hands_out o.answer) (record { stored = t.stored; received = t.received + get_or (numbers_of o.answer) 3 0 }) t
-counts (call.Begin mtu channels) x o t = t
-counts (call.SetState state) x o t = t
-counts (call.Outward c) x o t = t
-counts (call.Inward (inw.Dispatch channel)) x o t = t
+-- what a call that answers so, from this state, adds
+abbrev pub counts : Call → State → Answer → Tally → Tally
+counts call.Reset x a t = pick (eqb a.number 0) fresh_tally t
+counts (call.Inward (inw.UnsequencedArrival arrival group)) x a t = stores arrival.length a t
+counts (call.Inward (inw.ReliableArrival arrival)) x a t = stores arrival.length a t
+counts (call.Inward (inw.FragmentArrival piece)) x a t = begins (unfinished_on piece x.peer) piece.fragment.total a t
+counts (call.Inward inw.Receive) x a t = pick (hands_out a) (record { stored = t.stored; received = t.received + get_or (numbers_of a) 3 0 }) t
+counts (call.Begin mtu channels) x a t = t
+counts (call.SetState state) x a t = t
+counts (call.Outward c) x a t = t
+counts (call.Inward (inw.Dispatch channel)) x a t = t
 
 unfoldable pub tallied : List Asked → State → Tally → Tally
 tallied [] x t = t
-tallied (a ∷ rest) x t = let o = comes_to a x in tallied rest o.after (counts a.call x o t)
+tallied (a ∷ rest) x t = let o = comes_to a x in tallied rest o.after (counts a.call x o.answer t)
 
 -- "From a reset, that total equals lengths stored less lengths received."
 abbrev pub Waits : Type 0
@@ -105,18 +95,14 @@ Short (call.Inward c) = Unit {0}
 Short call.Reset = Unit {0}
 Short (call.Begin mtu channels) = Unit {0}
 Short (call.SetState state) = Unit {0}
-Short call.Restore = Unit {0}
 
 abbrev pub AllShort : List Asked → Type 0
 AllShort [] = Unit {0}
 AllShort (a ∷ rest) = Short a.call × AllShort rest
 
 -- what is in transit is the sum of the piece lengths of the packets in sent, modulo 2^32
-abbrev pub IsCarried : State → Type 0
-IsCarried y = let p = y.peer in p.flow.transit ≡ loads p.outgoing (out_items p.lists.sent) % 2 ^ 32
-
--- a sound record need not have it (document 01 does not call it damaged), so it is asked of those that are restored
 abbrev pub InTransit : Type 0
 InTransit =
-    (mtu : ℕ) (kept : Kept) (store second : List ℕ) (calls : List Asked) → let x = reset_state mtu kept store second in
-    AllShort calls → AtRestores IsCarried calls x → IsCarried (run calls x).end
+    (mtu : ℕ) (kept : Kept) (store second : List ℕ) (calls : List Asked) → AllShort calls
+    → let p = (run calls (reset_state mtu kept store second)).end.peer in
+    p.flow.transit ≡ loads p.outgoing (out_items p.lists.sent) % 2 ^ 32

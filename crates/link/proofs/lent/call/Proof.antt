@@ -35,18 +35,6 @@ enum-known-call-2 c = search rules
 set-state-requires : tie.Need-set-state-requires
 set-state-requires c κs = search rules
 
-enum-told-2 : tie.Need-enum-told-2
-enum-told-2 c = search rules
-
-restore-requires : tie.Need-restore-requires
-restore-requires c κs = search rules
-
-same_length : tie.Need-same-length
-same_length c = search rules
-
-same-length-2 : tie.Need-same-length-2
-same-length-2 c = search rules
-
 enum-known-call-3 : tie.Need-enum-known-call-3
 enum-known-call-3 c = search rules
 
@@ -85,15 +73,6 @@ returns-3 c =
 
 returns-4 : tie.Need-returns-4
 returns-4 c =
-    let at_restore = c.before.before.before.before in
-    let at_enum_told2 = at_restore.before.before.before.before in
-    let at_start = at_enum_told2.before.before.before.before.before in
-    let a = at_start.args in
-    let x : State = record { peer = whole a.words.now; store = a.store.now; second = a.second.now } in
-    promised a.settings a.call a.datagram.now x plain.answer_of vr.Called _ at_enum_told2.enum-told2.given.1 _ refl refl tt _ refl _ at_restore.restore.ensures
-
-returns-5 : tie.Need-returns-5
-returns-5 c =
     let at_call3 = c.before.before.before in
     let at_start = at_call3.before.before.before.before.before in
     let a = at_start.args in
@@ -101,14 +80,14 @@ returns-5 c =
     let own = c.call4.ensures.1 in
     promised a.settings a.call a.datagram.now x outward.answer_of vr.Outward _ at_call3.call3.given.1 _ refl (ap (λ (n : ℕ). 2 * n + 1) own.kind) own.named _ refl _ (came_beside x _ c.call4.ensures.0)
 
-same-length-3 : tie.Need-same-length-3
-same-length-3 c = search rules
+same_length : tie.Need-same-length
+same_length c = search rules
 
-same-length-4 : tie.Need-same-length-4
-same-length-4 c = search rules
+same-length-2 : tie.Need-same-length-2
+same-length-2 c = search rules
 
-returns-6 : tie.Need-returns-6
-returns-6 c =
+returns-5 : tie.Need-returns-5
+returns-5 c =
     let at_call6 = c.before.before.before.before in
     let at_call5 = to_call5 at_call6 in
     let at_start = at_call5.before.before.before.before.before in
@@ -130,16 +109,11 @@ call-spec =
     enum-known-call-2
     set-state-requires
     returns-3
-    enum-told-2
-    restore-requires
-    same_length
-    same-length-2
-    returns-4
     enum-known-call-3
     call-requires
-    returns-5
+    returns-4
     enum-known-call-4
     call-requires-2
-    same-length-3
-    same-length-4
-    returns-6)
+    same_length
+    same-length-2
+    returns-5)
