@@ -1,0 +1,22 @@
+-- `begin` meets its contract: the store is cleared and the block opened, then the piece is added to it.
+use mathlib.Core.Path.{ap, ◌∙◌}
+use Rattle.arrive_fragment.specs.Calls.{piece_on, with_bytes}
+use Rattle.arrive_fragment.proofs.storing.begin.Lts as lts
+use Rattle.arrive_fragment.proofs.storing.begin.Goals as goal
+
+-- the places before `add`
+abbrev to_open : lts.After-add → lts.After-open
+to_open c = c.before.before.before.before.before
+
+abbrev to_clear : lts.After-add → lts.After-clear
+to_clear c = (to_open c).before.before.before.before
+
+abbrev to_start : lts.After-add → lts.Start
+to_start c = (to_clear c).before.before.before.before.before
+
+pub returns : goal.returns
+returns c =
+    let at_add = c.before.before.before.before in
+    let a = (to_start at_add).args in
+    let e = at_add.add.ensures in
+    (e.0 ∙ ap (piece_on a.s a.a) (to_open at_add).open.ensures, e.1 ∙ ap (with_bytes a.a a.datagram.now) (to_clear at_add).clear.ensures)

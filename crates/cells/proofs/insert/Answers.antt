@@ -1,0 +1,25 @@
+-- `insert` meets its contract: the cells from i on go up by one and s goes to i; past the end it is a push.
+use native.Mathlib.Omega.{arith}
+use Rattle.cells.proofs.MakeLaws.{insert_full, insert_end, insert_room}
+use Rattle.cells.proofs.insert.Goals as goal
+
+pub returns-then-cells-n : goal.returns-then-cells-n
+returns-then-cells-n c =
+    let a = c.args in
+    insert_full a.cells.now a.n (omega arith) a.i a.s
+
+pub returns-then-n-i : goal.returns-then-n-i
+returns-then-n-i c =
+    let at_push = c.before.before in
+    let at_start = at_push.before.before.before.before.before in
+    let a = at_start.args in
+    insert_end a.cells.now a.n (omega arith)
+    at_push.push.new.0 a.i a.s at_push.push.result (omega arith) at_push.push.ensures
+
+pub returns : goal.returns
+returns c =
+    let at_raise = c.before.before in
+    let at_start = at_raise.before.before.before.before.before in
+    let a = at_start.args in
+    insert_room a.cells.now a.n (omega arith)
+    at_raise.raise.new.0 a.i a.s (omega arith) (omega arith) at_raise.raise.ensures

@@ -1,0 +1,6 @@
+-- The numbers of the group, to their places: `numbers_put`.
+use Rattle.copies.proofs.RecordLaws.{put_bandwidth_lem}
+use Rattle.copies.proofs.writing.put_bandwidth.Goals as goal
+
+pub returns : goal.returns
+returns c = put_bandwidth_lem c.args.words.now c.requires c.args.x

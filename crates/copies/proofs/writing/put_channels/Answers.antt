@@ -1,0 +1,52 @@
+-- After i turns the first i stand there; a turn is one more, the measure is what is left.
+use Prim.Native.Nat.{◌-◌}
+use mathlib.Core.Path.{◌≡◌, refl, ap}
+use mathlib.Core.List.{List, []}
+use native.Mathlib.Omega.{arith}
+use lib.ListN.{length, get_or}
+use lib.Seq.{paste-zero}
+use Rattle.record.specs.declared.groups.Channel.{Channel}
+use Rattle.peer.specs.declared.Peer.{Peer}
+use Rattle.peer.specs.Updates.{with_channels}
+use Rattle.places.specs.Whole.{whole}
+use Rattle.copies.proofs.Filling.{put_turn, put-end}
+use Rattle.places.proofs.Sized.{sized}
+use borrow.Author.Rules.{rules}
+use Rattle.copies.proofs.writing.put_channels.Goals as goal
+
+-- what stands past the end of an array of channels
+abbrev zeros : Channel
+zeros =
+    record {
+      outgoing_reliable = record { 0 = 0 };
+      outgoing_unreliable = record { 0 = 0 };
+      incoming_reliable = record { 0 = 0 };
+      incoming_unreliable = record { 0 = 0 };
+      held = record { len = 0; slots = [] };
+    }
+
+pub loop-i-init : goal.loop-i-init
+loop-i-init c =
+    let a = c.args in
+    (omega arith, c.requires, ap (with_channels (whole a.words.now)) (paste-zero (whole a.words.now).channels 0 a.t2))
+
+pub loop-i-preserved : goal.loop-i-preserved
+loop-i-preserved c =
+    let at_put_channel = c.before.before in
+    let at_loop = at_put_channel.before.before.before.before in
+    let l = at_loop.loop-i in
+    let a = at_loop.args in
+    let m : length a.t2 ≡ 8 = search rules in (
+      omega arith,
+      search rules,
+      put_turn (λ (p : Peer). p.channels) with_channels (λ (p : Peer) (x y : List Channel). refl) (λ (p : Peer) (x : List Channel). refl)
+          (whole a.words.now) (whole l.words) (whole at_put_channel.put_channel.new.0) a.t2 8 l.i zeros (get_or a.t2 l.i zeros) (sized a.words.now).channels m (omega arith) l.invariant.2 at_put_channel.put_channel.ensures refl,
+    )
+
+pub returns : goal.returns
+returns c =
+    let l = c.loop-i in
+    let a = c.args in
+    let m : length a.t2 ≡ 8 = search rules in
+    put-end (λ (p : Peer). p.channels) with_channels (λ (p : Peer) (x y : List Channel). refl) (λ (p : Peer) (x : List Channel). refl)
+    (whole a.words.now) (whole l.words) a.t2 8 l.i (sized a.words.now).channels m (omega arith) l.invariant.2

@@ -1,0 +1,72 @@
+-- `dispatch` passes the gate and its own refusal; a sound record has the channel then, and `dispatching` makes the rule's record.
+use Rattle.std.proofs.Common.{◌<◌, ◌≤◌, sym, refl, ap, subst, arith, rules}
+use Rattle.record.specs.declared.groups.Standing.{Standing}
+use Rattle.peer.specs.Outcome.{Came}
+use Rattle.peer.specs.Calls.{answer_of}
+use Rattle.peer.specs.declared.calls.Reply.TheVariants.{Done, Refused}
+use Rattle.peer.specs.declared.gate.Lent.TheVariants.{Nothing}
+use Rattle.peer.specs.declared.Peer.{Peer}
+use Rattle.peer.proofs.Gates.{AtGate, came_shut}
+use Rattle.places.specs.Whole.{whole}
+use Rattle.places.specs.Updates.{channel_at}
+use Rattle.dispatch.specs.Dispatching.{dispatched_by}
+use Rattle.dispatch.specs.Calls.{dispatches, dispatches_sound}
+use Rattle.dispatch.proofs.Calling.{dispatch_refused, channel_exists, dispatch_done}
+use Rattle.dispatch.proofs.dispatch.Lts as lts
+use Rattle.dispatch.proofs.dispatch.Goals as goal
+
+-- the places before `struct_known`
+abbrev to_enum_told : lts.After-struct_known-1 → lts.In_default
+to_enum_told c = c.before.before.before.before
+
+abbrev to_start : lts.After-struct_known-1 → lts.Start
+to_start c = (to_enum_told c).before.before.before.before.before
+
+pub returns-in-Shut : goal.returns-in-Shut
+returns-in-Shut c =
+    let at_ask = c.before.before.before in
+    let k = at_ask.ask-asked in
+    let a = at_ask.args in
+    let p = whole a.words.now in
+    let q : AtGate a.settings Nothing p = record { gate = k.result; is = k.ensures } in
+    let s = c.asked-1.given in
+    came_shut q p (dispatches_sound a.channel p) answer_of (Refused s.0.0) s.0.0 refl s.1
+
+pub returns-then-standing-channel : goal.returns-then-standing-channel
+returns-then-standing-channel c =
+    let at_struct_known = c.before in
+    let t = at_struct_known.standing-standing in
+    let o = to_enum_told at_struct_known in
+    let k = o.ask-asked in
+    let a = (to_start at_struct_known).args in
+    let p = whole a.words.now in
+    let q : AtGate a.settings Nothing p = record { gate = k.result; is = k.ensures } in
+    let h : p.standing.channels ≤ a.channel = omega (arith, ap (λ (x : Standing). x.channels) t.ensures, c.if-standing-channel.true) in
+    dispatch_refused a.settings a.channel p q o.in_default.is h
+
+pub dispatch-requires : goal.dispatch-requires
+dispatch-requires c =
+    let at_struct_known = c.before.before in
+    let t = at_struct_known.standing-standing in
+    let o = to_enum_told at_struct_known in
+    let k = o.ask-asked in
+    let a = (to_start at_struct_known).args in
+    let p = whole a.words.now in
+    let q : AtGate a.settings Nothing p = record { gate = k.result; is = k.ensures } in
+    let h : a.channel < p.standing.channels = omega (arith, ap (λ (x : Standing). x.channels) t.ensures, c.if-standing-channel.false) in
+    (search rules, channel_exists a.settings a.channel p q o.in_default.is h)
+
+pub returns : goal.returns
+returns c =
+    let at_if1 = c.before.before in
+    let at_struct_known = at_if1.before in
+    let t = at_struct_known.standing-standing in
+    let o = to_enum_told at_struct_known in
+    let k = o.ask-asked in
+    let a = (to_start at_struct_known).args in
+    let p = whole a.words.now in
+    let q : AtGate a.settings Nothing p = record { gate = k.result; is = k.ensures } in
+    let h : a.channel < p.standing.channels = omega (arith, ap (λ (x : Standing). x.channels) t.ensures, at_if1.if-standing-channel.false) in
+    subst (λ (y : Peer). Came answer_of (dispatches a.settings a.channel p) Done y) (sym c.dispatch.ensures)
+    (dispatch_done a.settings a.channel p q o.in_default.is h (channel_at p a.channel)
+    (dispatched_by p.incoming (channel_at p a.channel) p.lists p.unsequenced) refl refl)

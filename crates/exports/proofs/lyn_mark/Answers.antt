@@ -1,0 +1,25 @@
+-- `lyn_mark` reads the words, marks and writes them back: the contracts of the three, one put into the other.
+use mathlib.Core.Path.{◌≡◌, ◌∙◌}
+use lib.ListN.{length}
+use borrow.Author.Rules.{rules}
+use borrow.Author.Tests.{eq-eqb, ne_eqb}
+use Rattle.numbers.specs.Limits.{window_words}
+use Rattle.exports.proofs.Words.{put_all}
+use Rattle.exports.proofs.lyn_mark.Goals as goal
+
+pub returns-then-words-eq-WINDOW_BYTES : goal.returns-then-words-eq-WINDOW_BYTES
+returns-then-words-eq-WINDOW_BYTES c =
+    let at_write_words = c.before.before in
+    let at_marking = at_write_words.before.before.before in
+    let at_if1 = at_marking.before.before.before in
+    let full = eq-eqb _ _ at_if1.if1.true in
+    let marked = at_marking.marking-marked in
+    let long : length marked.result ≡ window_words = search rules in
+    let write = at_write_words.write_words in
+    let wrote = put_all 0 window_words at_if1.args.words.now marked.result write.new.0 long write.ensures in
+    record { reply = simp full; buffer = wrote ∙ simp (full, marked.ensures, at_marking.read_words-marks.ensures) }
+
+pub returns : goal.returns
+returns c =
+    let full = ne_eqb _ _ c.if-words-eq-WINDOW_BYTES.false in
+    record { reply = simp (full, c.number.ensures); buffer = simp full }

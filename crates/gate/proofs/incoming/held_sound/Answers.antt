@@ -1,0 +1,96 @@
+-- The lists of all the channels below the count are those that are left, from the marks, the sum and the count so far, a channel at a time.
+use Prim.Native.Nat.{◌+◌, ◌*◌, ◌-◌}
+use mathlib.Core.Path.{◌≡◌, refl, ap, ◌∙◌}
+use native.Mathlib.Omega.{arith}
+use lib.ListN.{take}
+use borrow.Author.Rules.{rules}
+use borrow.Author.Tests.{not-true, not-false, eq-eqb, ne_eqb}
+use Rattle.lists.specs.Rows.{row_at}
+use Rattle.record.specs.Damage.{held, lengths, blocks, one_block}
+use Rattle.record.specs.declared.groups.Marks.{Marks}
+use Rattle.damage.proofs.HeldLaws.{held_sum_end, held_blocks_end}
+use Rattle.places.specs.Whole.{whole}
+use Rattle.places.proofs.ChannelLaws.{held_is}
+use Rattle.gate.proofs.Groups.{total_is}
+use Rattle.places.proofs.Sized.{sized}
+use Rattle.gate.proofs.Held.{HeldTurn, held_stop, held_turn, held_sums, held_counts, held_end}
+use Rattle.gate.proofs.incoming.held_sound.Lts as lts
+use Rattle.gate.proofs.incoming.held_sound.Goals as goal
+
+-- the places before `list-sound`
+abbrev to_loop : lts.After-list_sound-walk → lts.At-loop-k
+to_loop c = c.before.before.before
+
+abbrev to_start : lts.After-list_sound-walk → lts.Start
+to_start c = (to_loop c).before.before.before
+
+-- the turn there
+turned : (c : lts.After-list_sound-walk →
+    let a = (to_start c).args in
+    let p = whole a.words.now in
+    let m = (to_loop c).loop-k in
+    let w = c.list_sound-walk in
+    HeldTurn p.marks p.incoming a.count p.channels a.count m.k (row_at (194 + m.k * 17 + 4) 12 a.words.now) m.marks w.result.ok w.new.1.1.1.1.1.0
+turned c =
+    let b = to_start c in
+    let ws = b.args.words.now in
+    record {
+      long = omega (arith, (sized ws).channels, b.requires.count_le_channels);
+      here = omega arith;
+      is = held_is ws (to_loop c).loop-k.k (omega (arith, b.requires.count_le_channels)) b.requires.words_len;
+      walk = c.list_sound-walk.ensures.walks;
+    }
+
+pub loop-k-init : goal.loop-k-init
+loop-k-init c = (search rules, search rules, refl, refl, search rules, refl, search rules)
+
+pub returns-then-not-walk : goal.returns-then-not-walk
+returns-then-not-walk c =
+    let at_list_sound = c.before.before.before.before in
+    rw ((to_loop at_list_sound).loop-k.invariant.2, held_stop (turned at_list_sound) (not-true _ c.if-not-walk.true))
+
+pub loop-k-preserved : goal.loop-k-preserved
+loop-k-preserved c =
+    let at_list_sound = c.before.before.before.before in
+    let m = (to_loop at_list_sound).loop-k in
+    let w = at_list_sound.list_sound-walk in
+    let t = turned at_list_sound in
+    let ok = not-false w.result.ok c.if-not-walk.false in (
+      omega arith,
+      search rules,
+      m.inv.2 ∙ held_turn t ok,
+      m.inv.3 ∙ held_sums t m.total w.result.total w.ensures.sums ok,
+      omega (arith, w.ensures.sums.low ok),
+      m.inv.5 ∙ held_counts t m.blocks w.result.blocks w.ensures.counts ok,
+      omega (arith, w.ensures.counts.low ok),
+    )
+
+pub returns-then-words-total : goal.returns-then-words-total
+returns-then-words-total c =
+    let at_loop = c.before.before.before in
+    let b = at_loop.before.before.before in
+    let a = b.args in
+    let ws = a.words.now in
+    let slots = (whole ws).incoming in
+    let cs = (whole ws).channels in
+    let m = at_loop.loop-k in
+    let end = held_sum_end slots cs a.count m.k (omega arith) in
+    let sum : a.from + lengths slots (held (take a.count cs)) ≡ m.total = omega arith in
+    rw (m.invariant.2, held_end (whole ws).marks slots a.count cs a.count m.k m.marks (omega arith), sum, total_is ws, ne_eqb _ _ c.if-words-total.true)
+
+pub returns : goal.returns
+returns c =
+    let at_if2 = c.before.before in
+    let at_loop = at_if2.before.before.before in
+    let b = at_loop.before.before.before in
+    let a = b.args in
+    let ws = a.words.now in
+    let slots = (whole ws).incoming in
+    let cs = (whole ws).channels in
+    let m = at_loop.loop-k in
+    let end = held_sum_end slots cs a.count m.k (omega arith) in
+    let last = held_blocks_end slots cs a.count m.k (omega arith) in
+    let sum : a.from + lengths slots (held (take a.count cs)) ≡ m.total = omega arith in
+    let count : a.before + blocks slots (held (take a.count cs)) ≡ m.blocks = omega arith in
+    rw (m.invariant.2, held_end (whole ws).marks slots a.count cs a.count m.k m.marks (omega arith), sum, count, total_is ws, eq-eqb _ _ at_if2.if-words-total.false)
+    (c.one_block.ensures ∙ ap (λ (x : Marks). one_block x m.blocks) c.marks.ensures)

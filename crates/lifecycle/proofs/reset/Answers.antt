@@ -1,0 +1,28 @@
+-- `reset` asks for the settings alone; the numbers are cleared, then the reset record of what was kept is made of them.
+use mathlib.Core.Path.{◌≡◌, sym, ap, ◌∙◌}
+use lib.ListN.{length}
+use borrow.Author.Tests.{not-true, not-false}
+use borrow.Author.Rules.{rules}
+use Rattle.peer.specs.Fresh.{fresh_peer}
+use Rattle.pool.proofs.Copies.{cleared}
+use Rattle.lifecycle.proofs.reset.Goals as goal
+
+pub returns-then-not-is_fit : goal.returns-then-not-is_fit
+returns-then-not-is_fit c =
+    let fit = sym c.is_fit.ensures ∙ not-true _ c.if-not-is_fit.true-raw in
+    record { answer = simp fit; after = simp fit }
+
+pub refresh-requires : goal.refresh-requires
+refresh-requires c =
+    let at_kept = c.before.before.before in
+    let at_start = at_kept.before.before.before.before.before in
+    let l : length at_start.args.words.now ≡ 1236 = search rules in
+    (search rules, c.clear.ensures ∙ cleared at_start.args.words.now 1236 l)
+
+pub returns : goal.returns
+returns c =
+    let at_kept = c.before.before.before.before in
+    let at_if1 = at_kept.before.before.before in
+    let a = at_if1.args in
+    let fit = sym at_if1.is_fit.ensures ∙ not-false _ at_if1.if-not-is_fit.false-raw in
+    record { answer = simp fit; after = simp fit (c.refresh.ensures ∙ ap (fresh_peer a.settings.mtu) at_kept.kept-keep.ensures) }

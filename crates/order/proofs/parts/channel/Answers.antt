@@ -1,0 +1,20 @@
+-- `channel` meets its contract: its numbers and its list, written where it is below the count.
+use native.Mathlib.Omega.{arith}
+use mathlib.Core.Path.{◌∙◌}
+use Rattle.order.proofs.PartLaws.{channel_number_place, channel_list_place}
+use Rattle.order.proofs.parts.channel.Goals as goal
+
+pub overflow_cast-is_written : goal.overflow_cast-is_written
+overflow_cast-is_written c = omega (arith, c.shared_slice_known-2-1.given 6)
+
+pub returns-then-j-lt-HELD : goal.returns-then-j-lt-HELD
+returns-then-j-lt-HELD c =
+    let start = c.before.before.before.before.before.before in
+    let a = start.args in
+    c.written_if.ensures ∙ rw c.short.ensures (channel_number_place a.words.now start.requires.words_len a.c (omega arith) a.j c.if-j-lt-HELD.true)
+
+pub returns : goal.returns
+returns c =
+    let start = c.before.before.before.before.before in
+    let a = start.args in
+    c.written_if-2.ensures ∙ rw c.list.ensures (channel_list_place a.words.now start.requires.words_len a.c (omega arith) a.j c.if-j-lt-HELD.false (omega arith))

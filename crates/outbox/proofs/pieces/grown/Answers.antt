@@ -1,0 +1,17 @@
+-- `grown` meets its contract: two sums in turn are one of both, and no command is longer than 48 bytes.
+use Rattle.std.proofs.Common.{◌≤◌, ◌∙◌, rules}
+use Rattle.numbers.proofs.ModuloLaws.{sum_in_turn}
+use Rattle.command.proofs.LayoutLaws.{size_le}
+use Rattle.outbox.proofs.pieces.grown.Goals as goal
+
+pub overflow_cast-size : goal.overflow_cast-size
+overflow_cast-size c =
+    let small : c.type_size.result ≤ 48 = rw c.type_size.ensures (size_le _) in
+    search rules
+
+pub returns : goal.returns
+returns c =
+    let at_wrapping_add_u32 = c.before.before in
+    let at_start = at_wrapping_add_u32.before.before.before.before in
+    c.wrapping_add_u32.ensures.value
+    ∙ rw (at_wrapping_add_u32.wrapping_add_u32-more.ensures.value, at_wrapping_add_u32.type_size.ensures) (sum_in_turn at_start.args.total _ _)

@@ -1,0 +1,33 @@
+-- `room_in` meets its contract: what is free and what the three lists name are the whole pool (`room_left`), so each list's length can be taken off.
+use Rattle.std.proofs.Common.{◌≡◌, ℕ, ◌+◌, arith}
+use Rattle.record.specs.Lists.{outgoing}
+use Rattle.record.specs.Room.{room_in}
+use Rattle.places.specs.Whole.{whole}
+use Rattle.outbox.proofs.PlaceLaws.{room_left}
+use Rattle.outbox.proofs.room_in.Lts as lts
+use Rattle.outbox.proofs.room_in.Goals as goal
+
+-- where the three are counted: the call as it begins
+abbrev begun : lts.After-count-waiting → lts.Start
+begun c = c.before.before.before.before
+
+abbrev free : lts.After-count-waiting → ℕ
+free c = room_in (whole (begun c).args.words.now).lists
+
+left : (c : lts.After-count-waiting) → free c + (c.count-sent.result + (c.count-reliable.result + c.count-waiting.result)) ≡ outgoing
+left c =
+    let n = c.before.before in
+    let m = c.before in
+    room_left (whole (begun c).args.words.now) (begun c).requires.words_value n.count-sent.result m.count-reliable.result c.count-waiting.result n.count-sent.ensures m.count-reliable.ensures c.count-waiting.ensures
+
+pub overflow_sub-result : goal.overflow_sub-result
+overflow_sub-result c = omega (arith, left c)
+
+pub overflow_sub-result-2 : goal.overflow_sub-result-2
+overflow_sub-result-2 c = omega (arith, left c)
+
+pub overflow_sub-result-3 : goal.overflow_sub-result-3
+overflow_sub-result-3 c = omega (arith, left c)
+
+pub returns : goal.returns
+returns c = omega (arith, left c)

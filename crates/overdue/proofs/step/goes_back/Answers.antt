@@ -1,0 +1,20 @@
+-- `goes_back` meets its contract, by cases on the packet.
+use Rattle.std.proofs.Common.{◌≡◌, rules}
+use borrow.Author.Tests.{not-true, not-false}
+use Rattle.numbers.specs.Modulo.{minus}
+use Rattle.numbers.proofs.ModuloLaws.{minus_of}
+use Rattle.overdue.proofs.step.goes_back.Goals as goal
+
+pub returns-then-not-o : goal.returns-then-not-o
+returns-then-not-o c =
+    let d = c.before.before in
+    rw (not-true d.args.o.packet c.if-not-o.true, d.double-timeout.ensures, d.wrapping_add_u32.ensures.value)
+
+pub returns : goal.returns
+returns c =
+    let f = c.before.before in
+    let d = f.before.before in
+    let a = d.args in
+    let less : c.wrapping_sub_u32.result ≡ minus 32 a.walk.transit a.o.length =
+    minus_of a.walk.transit a.o.length _ (search rules) (search rules) (search rules) c.wrapping_sub_u32.ensures.value in
+    rw (not-false a.o.packet f.if-not-o.false, less, d.double-timeout.ensures, d.wrapping_add_u32.ensures.value)

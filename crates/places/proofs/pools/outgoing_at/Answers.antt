@@ -1,0 +1,13 @@
+-- The slot of the pool's own numbers.
+use mathlib.Core.Path.{sym, ap, ◌∙◌}
+use mathlib.Core.List.{List}
+use lib.ListN.{get_or}
+use Rattle.record.specs.Fresh.{no_outgoing}
+use Rattle.record.specs.declared.groups.Outgoing.{Outgoing}
+use Rattle.places.proofs.PoolLaws.{pool_is}
+use Rattle.places.proofs.pools.outgoing_at.Goals as goal
+
+pub returns : goal.returns
+returns c =
+    let b = c.before.before.before in
+    c.slot_at.ensures ∙ ap (λ (x : List Outgoing). get_or x b.args.i no_outgoing) (sym (pool_is b.args.words.now))

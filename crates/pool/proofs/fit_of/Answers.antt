@@ -1,0 +1,11 @@
+-- The test picks the rule's case.
+use borrow.Author.Tests.{eq-eqb, ne_eqb}
+use Rattle.pool.proofs.fit_of.Goals as goal
+
+pub returns-then-byte-kind_from : goal.returns-then-byte-kind_from
+returns-then-byte-kind_from c = rw (← c.kind_from.ensures, ne_eqb _ _ c.if-byte-kind_from.true)
+
+pub returns : goal.returns
+returns c =
+    let low = c.before in
+    rw (c.on_channel.ensures, low.low8.ensures, ← low.kind_from.ensures, eq-eqb _ _ low.if-byte-kind_from.false)

@@ -1,0 +1,12 @@
+-- `count` meets its contract: the list at its place is the channel's.
+use mathlib.Core.Path.{ap, ◌∙◌}
+use lib.ListN.{length}
+use Rattle.queues.proofs.HeldLaws.{held_items}
+use Rattle.queues.proofs.held.count.Goals as goal
+
+pub returns : goal.returns
+returns c =
+    let b = c.before.before.before in
+    let a = b.args in
+    let at = c.place_of in
+    c.count.ensures ∙ ap length (held_items a.words.now b.requires.words_len a.i b.requires.i_lt_channels at.result at.ensures)

@@ -1,0 +1,25 @@
+-- `put_all` meets its contract: all numbers told are those that are left told after the ones before place i; the measure is those that are left.
+use Prim.Native.Nat.{◌-◌}
+use mathlib.Core.Path.{refl, sym, ◌∙◌}
+use native.Mathlib.Omega.{arith}
+use lib.ListN.{drop}
+use borrow.Author.Rules.{rules}
+use Rattle.cells.proofs.Views.{rest_end}
+use Rattle.script.proofs.Laws.{all_turn, none_left}
+use Rattle.script.proofs.row.put_all.Goals as goal
+
+pub loop-i-init : goal.loop-i-init
+loop-i-init c = (search rules, refl)
+
+pub loop-i-preserved : goal.loop-i-preserved
+loop-i-preserved c =
+    let m = c.before.before.before in
+    let xs = m.args.numbers.now in
+    let h = c.loop-i-test.true in
+    (omega arith, m.loop-i.invariant.1 ∙ all_turn m.loop-i.after c.put-after.result xs m.loop-i.i c.put-after.ensures (omega arith))
+
+pub returns : goal.returns
+returns c =
+    let m = c.before in
+    let xs = m.args.numbers.now in
+    sym (m.loop-i.invariant.1 ∙ none_left m.loop-i.after (drop m.loop-i.i xs) (rest_end xs m.loop-i.i (omega arith)))

@@ -1,0 +1,12 @@
+-- `put_slots` meets its contract: the first n slots told are those of them that are left told after the ones before place i; the measure is the cells that are left.
+use Prim.Native.Nat.{◌≤◌, ◌-◌}
+use mathlib.Core.Path.{◌≡◌}
+use lib.ListN.{length, take, drop}
+use Rattle.script.specs.Row.{told}
+use Rattle.script.proofs.row.put_slots.Given as goal
+
+abbrev pub invariant-loop-i : goal.invariant-loop-i
+invariant-loop-i l = (l.i ≤ length l.slots) × (told l.initial.after (take l.n l.slots) ≡ told l.after (drop l.i (take l.n l.slots)))
+
+abbrev pub decreases-loop-i : goal.decreases-loop-i
+decreases-loop-i l = length l.slots - l.i

@@ -1,0 +1,48 @@
+-- `fitted` meets its contract: the numbers of the kind told are those that are left told after the ones before place j; the measure is the places that are left.
+use Prim.Native.Nat.{◌≤◌, ◌<◌, ◌-◌}
+use mathlib.Core.Path.{◌≡◌, refl, sym, ◌∙◌}
+use native.Mathlib.Omega.{arith}
+use lib.ListN.{length, take, drop}
+use borrow.Author.Rules.{rules}
+use borrow.Author.Tests.{ltb-true, ltb-false}
+use Rattle.command.specs.Layout.{layout}
+use Rattle.cells.proofs.Views.{part_end, part_out}
+use Rattle.script.proofs.Laws.{first_turn, none_left}
+use Rattle.script_record.proofs.Widths.{has_number, has_none}
+use Rattle.script_record.proofs.fitted.Goals as goal
+
+pub loop-j-init : goal.loop-j-init
+loop-j-init c = (search rules, refl)
+
+pub loop-j-preserved : goal.loop-j-preserved
+loop-j-preserved c =
+    let at_width_of = c.before.before in
+    let m = at_width_of.before.before in
+    let a = m.args in
+    let n = length (layout a.kind) in
+    let e : length a.t3 ≡ 16 = search rules in
+    let w = at_width_of.width_of_lem in
+    let some : 0 < w.result = ltb-true 0 w.result c.if-width_of-gt0.true-raw in
+    let h = has_number a.kind m.loop-j.j w.result w.ensures some in (
+      omega arith,
+      m.loop-j.invariant.1 ∙ first_turn m.loop-j.after c.put-after.result a.t3 m.loop-j.j c.put-after.ensures n h (omega arith),
+    )
+
+pub returns-else-width_of-gt0 : goal.returns-else-width_of-gt0
+returns-else-width_of-gt0 c =
+    let m = c.before.before.before in
+    let a = m.args in
+    let n = length (layout a.kind) in
+    let w = c.width_of_lem in
+    let none : w.result ≤ 0 = ltb-false 0 w.result c.if-width_of-gt0.false-raw in
+    let end = part_end a.t3 m.loop-j.j n (has_none a.kind m.loop-j.j w.result w.ensures none) in
+    sym (m.loop-j.invariant.1 ∙ none_left m.loop-j.after (drop m.loop-j.j (take n a.t3)) end)
+
+pub returns-after-loop-j : goal.returns-after-loop-j
+returns-after-loop-j c =
+    let m = c.before in
+    let a = m.args in
+    let n = length (layout a.kind) in
+    let e : length a.t3 ≡ 16 = search rules in
+    let end = part_out a.t3 m.loop-j.j n (omega arith) in
+    sym (m.loop-j.invariant.1 ∙ none_left m.loop-j.after (drop m.loop-j.j (take n a.t3)) end)

@@ -1,0 +1,14 @@
+-- `record` meets its contract: the row of all places told is that of the places that are left, told after the ones before place i; the measure is the places that are left.
+use Prim.Native.Nat.{◌-◌, ◌≤◌}
+use mathlib.Core.Path.{◌≡◌}
+use lib.ListN.{drop}
+use Rattle.places.specs.Whole.{whole}
+use Rattle.order.specs.Table.{table, shown}
+use Rattle.script.specs.Row.{told}
+use Rattle.script_record.proofs.record.Given as goal
+
+abbrev pub invariant-loop-i : goal.invariant-loop-i
+invariant-loop-i l = (l.i ≤ 1236) × (told l.initial.after (shown (table (whole l.words))) ≡ told l.after (shown (drop l.i (table (whole l.words)))))
+
+abbrev pub decreases-loop-i : goal.decreases-loop-i
+decreases-loop-i l = 1236 - l.i

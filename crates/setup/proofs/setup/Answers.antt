@@ -1,0 +1,76 @@
+-- `setup` passes the gate and its own refusals, then the lowest free slot takes the piece in place, and the numbers go back.
+use mathlib.Core.Path.{◌≡◌, refl, ap, ◌∙◌}
+use mathlib.Core.Bool.{true}
+use borrow.Author.Rules.{rules}
+use Rattle.record.specs.declared.groups.Standing.{Standing}
+use Rattle.peer.specs.Damage.{sound}
+use Rattle.peer.specs.Calls.{answer_of}
+use Rattle.peer.specs.declared.Peer.{Peer}
+use Rattle.peer.specs.declared.gate.Lent.TheVariants.{Nothing}
+use Rattle.peer.proofs.Gates.{AtGate, came_shut, open_sound}
+use Rattle.places.specs.Whole.{whole}
+use Rattle.setup.specs.Queueing.{room}
+use Rattle.setup.specs.Calls.{setup_gate, sets_up_sound}
+use Rattle.setup.proofs.Setups.{one_shut, setup_some}
+use Rattle.setup.proofs.Placed.{lent_left}
+use Rattle.setup.proofs.setup.Lts as lts
+use Rattle.setup.proofs.setup.Goals as goal
+
+-- where the gate of every call is passed: the call as it begins, the record as it was lent, and what the gate answered
+abbrev begun : lts.In_default → lts.Start
+begun c = c.before.before.before.before.before
+
+abbrev peer : lts.In_default → Peer
+peer c = whole (begun c).args.words.now
+
+abbrev asked : (c : lts.In_default) → AtGate (begun c).args.settings Nothing (peer c)
+asked c = let g = c.ask-gate in record { gate = g.result; is = g.ensures }
+
+abbrev passed : lts.After-standing-standing → lts.In_default
+passed c = c.before.before.before.before
+
+-- where the call's own gate has answered
+abbrev stood : lts.After-setup_gate-may → lts.After-standing-standing
+stood c = c.before.before.before.before
+
+judged : (c : lts.After-setup_gate-may) → let t = passed (stood c) in c.setup_gate-may.result ≡ setup_gate (begun t).args.x (peer t).standing.channels (room (peer t))
+judged c =
+    let t = passed (stood c) in
+    let free = c.room_in in
+    c.setup_gate-may.ensures
+    ∙ ap (λ (s : Standing). setup_gate (begun t).args.x s.channels free.result) (stood c).standing-standing.ensures
+    ∙ ap (setup_gate (begun t).args.x (peer t).standing.channels) free.ensures
+
+pub returns-in-Shut : goal.returns-in-Shut
+returns-in-Shut c =
+    let k = c.gate-1.given in
+    let at_ask = c.before.before.before in
+    let g = at_ask.ask-gate in
+    let a = at_ask.args in
+    let p = whole a.words.now in
+    let b : AtGate a.settings Nothing p = record { gate = g.result; is = g.ensures } in
+    came_shut b p (sets_up_sound a.x p) answer_of _ k.0.0 refl k.1
+
+pub room_in-requires : goal.room_in-requires
+room_in-requires c =
+    let t = passed c.before.before in
+    let h : sound (peer t) ≡ true = open_sound (asked t) t.in_default.is in
+    search rules
+
+pub returns-in-Shut-may : goal.returns-in-Shut-may
+returns-in-Shut-may c =
+    let k = c.may-1.given in
+    let j = c.before.before.before in
+    let t = passed (stood j) in
+    one_shut (begun t).args.settings (begun t).args.x (peer t) (asked t) t.enum_told.given.1 (setup_gate (begun t).args.x (peer t).standing.channels (room (peer t))) j.setup_gate-may.result (judged j) k.0.0 k.1
+
+pub returns : goal.returns
+returns c =
+    let q = c.before.before.before in
+    let o = q.before.before.before.before in
+    let u = o.before.before.before.before in
+    let j = u.before.before in
+    let t = passed (stood j) in
+    lent_left (begun t).args.settings (begun t).args.x (peer t) (asked t) t.enum_told.given.1 (setup_gate (begun t).args.x (peer t).standing.channels (room (peer t))) j.setup_gate-may.result (judged j) (setup_some (begun t).args.x (peer t)) u.in_default-may.is
+    o.open-o.result o.open-o.new.1.1.0 o.open-o.ensures q.queue-after.result q.queue-after.new.1.0 (whole q.queue-after.new.0) (whole c.close.new.0)
+    q.queue-after.ensures c.close.ensures

@@ -1,0 +1,24 @@
+-- `put_at` meets its contract: its two cases are those of the place's groups.
+use Prim.Native.Nat.{ℕ, ◌+◌}
+use mathlib.Core.Path.{refl, ap, sym}
+use native.Mathlib.Nat.{add-zero}
+use native.Mathlib.Omega.{arith}
+use Rattle.snapshot_parts.proofs.row.put_at.Goals as goal
+
+pub put-requires : goal.put-requires
+put-requires c = rw c.if-place.true at c.requires
+
+pub overflow_add-result : goal.overflow_add-result
+overflow_add-result c =
+    let at_put = c.before.before.before in
+    let at_test = at_put.before.before in
+    let room = rw at_test.if-place.true at at_test.requires in
+    omega (arith, room, c.size.ensures)
+
+pub returns-then-place : goal.returns-then-place
+returns-then-place c =
+    let at_put = c.before.before.before in
+    rw at_put.if-place.true (at_put.put.ensures, ap (λ (n : ℕ). at_put.args.at + n) c.size.ensures)
+
+pub returns : goal.returns
+returns c = rw c.if-place.false (refl, sym (add-zero _))

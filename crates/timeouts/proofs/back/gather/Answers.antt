@@ -1,0 +1,44 @@
+-- `gather` meets its contract. The loop's invariant: what bears the mark among the slots passed stands in the run from its first cell on, and m counts it;
+-- a turn is one more place, with or without its slot. The measure is what is left of the slots.
+use Prim.Native.Nat.{◌+◌, ◌<◌, ◌-◌}
+use mathlib.Core.Path.{refl, ap, ◌∙◌}
+use mathlib.Core.Logic.{⊎_elim}
+use native.Mathlib.Omega.{arith}
+use lib.ListN.{length, take}
+use lib.Seq.{length-sets}
+use Rattle.record.specs.Lists.{out_items}
+use Rattle.places.specs.Whole.{whole}
+use Rattle.overdue.specs.Walking.{bearing}
+use Rattle.overdue.proofs.Laws.{Borne, borne_none, borne_low, borne_with, borne_without}
+use Rattle.timeouts.proofs.BackLaws.{sent_fits, gathered}
+use Rattle.timeouts.proofs.back.gather.Goals as goal
+
+pub loop-k-init : goal.loop-k-init
+loop-k-init c =
+    let a = c.args in (
+      omega arith,
+      omega (arith, c.count-n.ensures, sent_fits a.words.now),
+      omega arith,
+      refl,
+      borne_none a.mark a.marks.now (out_items (whole a.words.now).lists.sent) a.cells.now,
+    )
+
+pub loop-k-preserved : goal.loop-k-preserved
+loop-k-preserved c =
+    let at_loop = c.before.before.before in
+    let at_count = at_loop.before in
+    let a = at_count.args in
+    let i = at_loop.loop-k.invariant in
+    let items = out_items (whole a.words.now).lists.sent in
+    let h : at_loop.loop-k.k < length items = omega (arith, at_count.count-n.ensures) in
+    let next : Borne a.mark a.marks.now items a.cells.now (at_loop.loop-k.k + 1) c.if-marks-k.cells c.if-marks-k.m =
+    ⊎_elim (λ w. rw (w.2, w.3, w.1.ensures) (borne_with a.mark a.marks.now items a.cells.now i.4 h w.0.taken))
+    (λ w. rw (w.1, w.2) (borne_without a.mark a.marks.now items a.cells.now i.4 h w.0.left)) c.if-marks-k.branch in
+    (omega arith, i.1, borne_low a.mark a.marks.now items a.cells.now next, ap length next.stored ∙ length-sets a.cells.now 0 (bearing a.mark a.marks.now (take (at_loop.loop-k.k + 1) items)), next)
+
+pub returns : goal.returns
+returns c =
+    let at_loop = c.before in
+    let at_count = at_loop.before in
+    let a = at_count.args in
+    let i = at_loop.loop-k.invariant in record { slots = gathered a.mark a.words.now a.marks.now a.cells.now at_loop.loop-k.cells at_loop.loop-k.k at_loop.loop-k.m (omega (arith, at_count.count-n.ensures)) (omega arith) i.4; fits = omega arith }

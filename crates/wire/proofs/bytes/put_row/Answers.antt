@@ -1,0 +1,60 @@
+-- The loop puts a number a turn: what is still to be put conserves the whole.
+use mathlib.Core.Path.{◌≡◌, sym, ap, ◌∙◌}
+use Prim.Native.Nat.{◌-◌}
+use mathlib.Core.List.{[]}
+use lib.ListN.{length, drop, get_or, drop_of_length-le}
+use Rattle.command.specs.Layout.{layout}
+use Rattle.command.proofs.ByteLaws.{put-length}
+use Rattle.command.proofs.RowLaws.{total_step, total_turn, put_turn, put-end}
+use borrow.Author.Rules.{rules}
+use native.Mathlib.Omega.{arith}
+use Rattle.wire.proofs.bytes.put_row.Lts as lts
+use Rattle.wire.proofs.bytes.put_row.Goals as goal
+
+-- the places before `slice-known2`
+abbrev to_put_number : lts.After-slice_known-in-loop-j-1 → lts.After-put_number
+to_put_number c = c.before.before
+
+abbrev to_width_of : lts.After-slice_known-in-loop-j-1 → lts.After-width_of-width
+to_width_of c = (to_put_number c).before.before
+
+abbrev to_loop : lts.After-slice_known-in-loop-j-1 → lts.At-loop-j
+to_loop c = (to_width_of c).before.before
+
+abbrev to_start : lts.After-slice_known-in-loop-j-1 → lts.Start
+to_start c = (to_loop c).before.before
+
+pub put_number-requires : goal.put_number-requires
+put_number-requires c =
+    let at_loop = c.before.before.before in
+    let l = at_loop.loop-j in
+    let k = at_loop.args.kind in
+    let e = c.width_of_lem.ensures in
+    omega (arith, total_step (layout k) l.j)
+
+pub overflow_add-place : goal.overflow_add-place
+overflow_add-place c =
+    let l = (to_loop c).loop-j in
+    let k = (to_start c).args.kind in
+    let e = (to_width_of c).width_of_lem.ensures in
+    omega (arith, total_step (layout k) l.j)
+
+pub loop-j-preserved : goal.loop-j-preserved
+loop-j-preserved c =
+    let l = (to_loop c).loop-j in
+    let a = (to_start c).args in
+    let w = (to_width_of c).width_of_lem in
+    let e = (to_put_number c).put_number.ensures in (
+      search rules,
+      ap length e ∙ put-length l.out l.place w.result (get_or a.t4 l.j 0) ∙ l.inv.1,
+      total_turn (layout a.kind) l.place w.result l.j w.ensures ∙ l.inv.2,
+      put_turn l.out (layout a.kind) a.t4 l.place w.result l.j _ w.ensures e (omega arith) ∙ l.inv.3,
+    )
+
+pub returns : goal.returns
+returns c =
+    let l = c.loop-j in
+    let a = c.args in
+    let z : l.j ≡ 16 = omega arith in
+    let d : drop 16 a.t4 ≡ [] = drop_of_length-le a.t4 {i = 16} (omega arith) in
+    sym (put-end l.out (drop 16 (layout a.kind)) l.place) ∙ (rw (z, d) at l.invariant.3)
