@@ -10,17 +10,16 @@ use Rattle.acknowledge.specs.Calls.{answer_of, acknowledges_sound}
 use Rattle.acknowledge.specs.declared.Reply.TheVariants as vr
 use Rattle.acknowledge.proofs.Hearing.{passed_over, heard_by}
 use Rattle.acknowledge.proofs.Changes.{trip_is}
-use Rattle.acknowledge.proofs.acknowledge.Lts as lts
 use Rattle.acknowledge.proofs.acknowledge.Goals as goal
 
 -- the places before `heard-in`
-abbrev to_enum_told : lts.After-heard_in-trip → lts.In_default
+abbrev to_enum_told : goal.After-heard_in-trip → goal.In_default
 to_enum_told c = c.before.before.before.before
 
-abbrev to_ask : lts.After-heard_in-trip → lts.After-ask-gate
+abbrev to_ask : goal.After-heard_in-trip → goal.After-ask-gate
 to_ask c = (to_enum_told c).before.before
 
-abbrev to_start : lts.After-heard_in-trip → lts.Start
+abbrev to_start : goal.After-heard_in-trip → goal.Start
 to_start c = (to_ask c).before.before.before
 
 pub returns-in-Shut : goal.returns-in-Shut

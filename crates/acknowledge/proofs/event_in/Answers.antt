@@ -7,7 +7,7 @@ use Rattle.acknowledge.proofs.event_in.Goals as goal
 
 pub returns-then-standing-eq-ACKNOWLEDGING_CONNECT : goal.returns-then-standing-eq-ACKNOWLEDGING_CONNECT
 returns-then-standing-eq-ACKNOWLEDGING_CONNECT c =
-    let at_standing = c.before.before.before in
+    let at_standing = c.before.before.before.before in
     let a = at_standing.args in
     let s = at_standing.standing-standing in
     event_is (whole a.words.now) s.result s.ensures a.command c.removed_or.result
@@ -15,7 +15,7 @@ returns-then-standing-eq-ACKNOWLEDGING_CONNECT c =
 
 pub returns-then-standing-eq-DISCONNECTING : goal.returns-then-standing-eq-DISCONNECTING
 returns-then-standing-eq-DISCONNECTING c =
-    let at_if1 = c.before.before.before in
+    let at_if1 = c.before.before.before.before in
     let at_standing = at_if1.before.before in
     let a = at_standing.args in
     let s = at_standing.standing-standing in
@@ -24,7 +24,7 @@ returns-then-standing-eq-DISCONNECTING c =
 
 pub returns-then-standing-ne-DISCONNECT_LATER : goal.returns-then-standing-ne-DISCONNECT_LATER
 returns-then-standing-ne-DISCONNECT_LATER c =
-    let at_if2 = c.before.before in
+    let at_if2 = c.before.before.before in
     let at_if1 = at_if2.before.before in
     let at_standing = at_if1.before.before in
     let a = at_standing.args in
@@ -34,7 +34,7 @@ returns-then-standing-ne-DISCONNECT_LATER c =
 
 pub returns-then-is_empty : goal.returns-then-is_empty
 returns-then-is_empty c =
-    let at_if3 = c.before.before in
+    let at_if3 = c.before.before.before in
     let at_if2 = at_if3.before.before in
     let at_if1 = at_if2.before.before in
     let at_standing = at_if1.before.before in
@@ -45,7 +45,7 @@ returns-then-is_empty c =
 
 pub returns : goal.returns
 returns c =
-    let at_if3 = c.before.before in
+    let at_if3 = c.before.before.before in
     let at_if2 = at_if3.before.before in
     let at_if1 = at_if2.before.before in
     let at_standing = at_if1.before.before in

@@ -12,7 +12,7 @@ returns-then-count-ne0 c =
 
 pub returns-then-count-ne0-2 : goal.returns-then-count-ne0-2
 returns-then-count-ne0-2 c =
-    let at_count = c.before.before.before in
+    let at_count = c.before.before.before.before in
     let m = c.count-2 in
     let n = at_count.count in
     let l = (whole at_count.args.words.now).lists in
@@ -20,7 +20,7 @@ returns-then-count-ne0-2 c =
 
 pub returns : goal.returns
 returns c =
-    let at_if1 = c.before.before.before in
+    let at_if1 = c.before.before.before.before in
     let m = c.count-2 in
     let n = at_if1.count in
     let l = (whole at_if1.args.words.now).lists in

@@ -5,7 +5,7 @@ use Rattle.acknowledge.proofs.measure.Goals as goal
 
 pub returns : goal.returns
 returns c =
-    let at_put_trips = c.before.before in
+    let at_put_trips = c.before.before.before in
     let at_put_throttling = at_put_trips.before.before.before.before in
     let at_measure = at_put_throttling.before.before in
     let at_trips = at_measure.before.before in
@@ -16,7 +16,7 @@ returns c =
     let h = at_throttling.throttling-throttling in
     let r = at_trips.trips-trips in
     let m = at_measure.measure-measured in
-    let v = at_put_throttling.put_throttling_lem in
-    let y = at_put_trips.put_trips_lem in
-    measured_is (whole a.words.now) a.sample a.clock (whole v.new.0) (whole y.new.0) t.result h.result r.result m.result
+    let v = at_put_throttling.put_throttling in
+    let y = at_put_trips.put_trips in
+    measured_is (whole a.words.now) a.sample a.clock (whole v.new.words) (whole y.new.words) t.result h.result r.result m.result
     t.ensures h.ensures r.ensures m.ensures v.ensures y.ensures

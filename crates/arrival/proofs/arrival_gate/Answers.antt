@@ -12,7 +12,7 @@ returns-then-not-is_receiving c =
 
 pub returns-then-not-is_whole : goal.returns-then-not-is_whole
 returns-then-not-is_whole c =
-    let r = c.before.before in
+    let r = c.before.before.before in
     rw (
       eq-eqb _ _ r.if-a-command.false,
       sym r.is_receiving.ensures ∙ not-false _ r.if-not-is_receiving.false-raw,
@@ -21,7 +21,7 @@ returns-then-not-is_whole c =
 
 pub returns : goal.returns
 returns c =
-    let r = c.before.before in
+    let r = c.before.before.before in
     rw (
       eq-eqb _ _ r.if-a-command.false,
       sym r.is_receiving.ensures ∙ not-false _ r.if-not-is_receiving.false-raw,

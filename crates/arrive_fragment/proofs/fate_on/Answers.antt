@@ -12,7 +12,7 @@ returns-then-standing-eq-DISCONNECT_LATER c =
 
 pub returns-in-Empty : goal.returns-in-Empty
 returns-in-Empty c =
-    let at_unfinished = c.before.before.before in
+    let at_unfinished = c.before.before.before.before in
     let at_if1 = at_unfinished.before.before in
     let at_standing = at_if1.before.before in
     let standing = at_standing.standing-standing in
@@ -22,7 +22,7 @@ returns-in-Empty c =
 
 pub returns-in-Slot : goal.returns-in-Slot
 returns-in-Slot c =
-    let at_block = c.before.before in
+    let at_block = c.before.before.before in
     let at_unfinished = at_block.before.before in
     let at_if1 = at_unfinished.before.before in
     let at_standing = at_if1.before.before in

@@ -16,7 +16,7 @@ returns-then-not-fields_fit c =
 pub returns : goal.returns
 returns c =
     let any = c.any_block in
-    let at_room = c.before.before in
+    let at_room = c.before.before.before in
     let room = at_room.room_for-room in
     let free = at_room.free_slot-free in
     let waiting = at_room.waiting-waiting in

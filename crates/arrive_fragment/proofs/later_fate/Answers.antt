@@ -11,7 +11,7 @@ pub returns-then-not-like_first : goal.returns-then-not-like_first
 returns-then-not-like_first c =
     let like = c.like_first in
     let slot = c.incoming_at-slot in
-    let at_fit = c.before.before.before.before in
+    let at_fit = c.before.before.before.before.before in
     let fit = at_fit.fields_fit in
     rw (← fit.ensures, ← slot.ensures, ← like.ensures, not-false fit.result c.if-not-fields_fit.false-raw, not-true like.result c.if-not-like_first.true-raw)
 
@@ -19,7 +19,7 @@ pub returns-then-piece_marked : goal.returns-then-piece_marked
 returns-then-piece_marked c =
     let marked = c.piece_marked in
     let marks = c.marks in
-    let at_like = c.before.before.before.before in
+    let at_like = c.before.before.before.before.before in
     let like = at_like.like_first in
     let slot = at_like.incoming_at-slot in
     let fit = at_like.fields_fit in
@@ -29,7 +29,7 @@ pub returns : goal.returns
 returns c =
     let marked = c.piece_marked in
     let marks = c.marks in
-    let at_like = c.before.before.before.before in
+    let at_like = c.before.before.before.before.before in
     let like = at_like.like_first in
     let slot = at_like.incoming_at-slot in
     let fit = at_like.fields_fit in

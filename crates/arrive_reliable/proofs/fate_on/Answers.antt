@@ -5,7 +5,7 @@ use Rattle.arrive_reliable.proofs.fate_on.Goals as goal
 
 pub returns : goal.returns
 returns c =
-    let at_room_for = c.before.before.before in
+    let at_room_for = c.before.before.before.before in
     let at_standing = at_room_for.before.before.before in
     let r = at_room_for.room_for-room in
     let f = at_room_for.free_slot-free in

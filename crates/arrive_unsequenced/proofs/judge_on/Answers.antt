@@ -5,7 +5,7 @@ use Rattle.arrive_unsequenced.proofs.judge_on.Goals as goal
 
 pub returns : goal.returns
 returns c =
-    let at_put_groups = c.before.before in
+    let at_put_groups = c.before.before.before in
     let at_judge_window = at_put_groups.before.before.before in
     let at_start = at_judge_window.before.before.before.before.before.before.before.before.before.before.before in
     let g = at_judge_window.before in
@@ -14,6 +14,6 @@ returns c =
     let t = w.before.before in
     let f = t.before.before in
     let a = at_start.args in
-    judged_lent a.settings a.group (whole a.words.now) (whole at_put_groups.put_unsequenced_lem.new.0)
-    f.free-slot.result t.standing.result w.waiting.result r.room_for.result g.unsequenced-own.result at_judge_window.judge_window-judged.result
-    f.free-slot.ensures t.standing.ensures w.waiting.ensures r.room_for.ensures g.unsequenced-own.ensures at_judge_window.judge_window-judged.ensures at_put_groups.put_unsequenced_lem.ensures
+    judged_lent a.settings a.group (whole a.words.now) (whole at_put_groups.put_unsequenced.new.words)
+    f.free_slot-free.result t.standing-standing.result w.waiting-waiting.result r.room_for-room.result g.unsequenced-own.result at_judge_window.judge_window-judged.result
+    f.free_slot-free.ensures t.standing-standing.ensures w.waiting-waiting.ensures r.room_for-room.ensures g.unsequenced-own.ensures at_judge_window.judge_window-judged.ensures at_put_groups.put_unsequenced.ensures

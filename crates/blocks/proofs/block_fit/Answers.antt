@@ -16,14 +16,14 @@ returns-then-slot-gt-BYTES c = simp (lt-leb _ _ c.if-slot-gt-BYTES.true, both_wi
 
 pub returns-then-slot : goal.returns-then-slot
 returns-then-slot c =
-    let at_start = c.before.before.before.before.before.before.before.before in
+    let at_start = c.before.before.before.before.before.before.before.before.before in
     let a = at_start.args in
     let more = c.if-slot.true in
     simp (ne_eqb (a.slot.remaining + marked_count a.m) a.slot.fragments (λ e. omega arith), both_with_false)
 
 pub returns-then-marked_count-slot : goal.returns-then-marked_count-slot
 returns-then-marked_count-slot c =
-    let counted = c.before.before in
+    let counted = c.before.before.before in
     let at_start = counted.before.before.before.before.before.before.before.before.before in
     let a = at_start.args in
     let other = c.if-marked_count-slot.true in
@@ -32,7 +32,7 @@ returns-then-marked_count-slot c =
 
 pub returns : goal.returns
 returns c =
-    let counted = c.before.before.before in
+    let counted = c.before.before.before.before in
     let enough = counted.before in
     let small = enough.before.before in
     let some = small.before.before in

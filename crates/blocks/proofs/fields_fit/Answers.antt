@@ -34,7 +34,7 @@ returns-then-f-2 c = simp (le-ltb _ _ c.if-f-2.true, both_with_false)
 
 pub returns : goal.returns
 returns c =
-    let inside = c.before.before in
+    let inside = c.before.before.before in
     let short = inside.before.before in
     let small = short.before.before in
     let below = small.before.before in

@@ -8,7 +8,7 @@ use Rattle.cells.proofs.lay.Goals as goal
 
 pub loop-j-preserved : goal.loop-j-preserved
 loop-j-preserved c =
-    let m = c.before.before in
+    let m = c.before.before.before in
     let a = m.args in (
       omega arith,
       simp length-set m.loop-j.invariant.1,
@@ -17,6 +17,6 @@ loop-j-preserved c =
 
 pub returns : goal.returns
 returns c =
-    let m = c.before in
+    let m = c.before.before in
     let e : m.loop-j.j ≡ m.args.k = omega arith in
     rw e at m.loop-j.invariant.2

@@ -14,7 +14,7 @@ loop-j-init c =
 
 pub loop-j-preserved : goal.loop-j-preserved
 loop-j-preserved c =
-    let m = c.before.before in
+    let m = c.before.before.before in
     let a = m.args in (
       omega arith,
       omega arith,
@@ -24,6 +24,6 @@ loop-j-preserved c =
 
 pub returns : goal.returns
 returns c =
-    let m = c.before in
+    let m = c.before.before in
     let e : m.loop-j.j ≡ m.args.from = omega arith in
     rw e at m.loop-j.invariant.3

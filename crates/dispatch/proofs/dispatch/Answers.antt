@@ -12,14 +12,13 @@ use Rattle.places.specs.Updates.{channel_at}
 use Rattle.dispatch.specs.Dispatching.{dispatched_by}
 use Rattle.dispatch.specs.Calls.{dispatches, dispatches_sound}
 use Rattle.dispatch.proofs.Calling.{dispatch_refused, channel_exists, dispatch_done}
-use Rattle.dispatch.proofs.dispatch.Lts as lts
 use Rattle.dispatch.proofs.dispatch.Goals as goal
 
 -- the places before `struct_known`
-abbrev to_enum_told : lts.After-struct_known-1 → lts.In_default
+abbrev to_enum_told : goal.After-struct_known-1 → goal.In_default
 to_enum_told c = c.before.before.before.before
 
-abbrev to_start : lts.After-struct_known-1 → lts.Start
+abbrev to_start : goal.After-struct_known-1 → goal.Start
 to_start c = (to_enum_told c).before.before.before.before.before
 
 pub returns-in-Shut : goal.returns-in-Shut

@@ -5,17 +5,16 @@ use borrow.Author.Rules.{rules}
 use borrow.Author.Tests.{eq-eqb, ne_eqb}
 use Rattle.wire.specs.Reading.{kind_at}
 use Rattle.exports.proofs.Readings.{nothing, something, next_is, numbers_are, size_small}
-use Rattle.exports.proofs.lyn_read.Lts as lts
 use Rattle.exports.proofs.lyn_read.Goals as goal
 
 -- the places before `put-command-arg`
-abbrev to_command : lts.After-put_command-arg-1 → lts.In-Found-2
+abbrev to_command : goal.After-put_command-arg-1 → goal.In-Found-2
 to_command c = c.before.before
 
-abbrev to_read : lts.After-put_command-arg-1 → lts.After-read
+abbrev to_read : goal.After-put_command-arg-1 → goal.After-read
 to_read c = (to_command c).before.before
 
-abbrev to_start : lts.After-put_command-arg-1 → lts.Start
+abbrev to_start : goal.After-put_command-arg-1 → goal.Start
 to_start c = (to_read c).before.before.before.before
 
 pub returns-then-row-ne-ROW_BYTES : goal.returns-then-row-ne-ROW_BYTES

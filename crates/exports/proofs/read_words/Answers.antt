@@ -13,7 +13,7 @@ loop-i-init c = (search rules, search rules, read_start c.args.s.now window_word
 
 pub loop-i-preserved : goal.loop-i-preserved
 loop-i-preserved c =
-    let at_loop = c.before.before in (
+    let at_loop = c.before.before.before in (
       search rules,
       simp length-set at_loop.loop-i.invariant.1,
       read_step at_loop.args.s.now window_words at_loop.loop-i.words at_loop.loop-i.i c.word_at.result (omega arith) (omega arith) c.word_at.ensures

@@ -14,7 +14,7 @@ loop-i-init c = (search rules, search rules, put_start c.args.at c.args.words.no
 
 pub loop-i-preserved : goal.loop-i-preserved
 loop-i-preserved c =
-    let at_put_word = c.before.before in
+    let at_put_word = c.before.before.before in
     let at_loop = at_put_word.before.before.before.before in
     let at_start = at_loop.before.before.before in
     let e = at_put_word.put_word.ensures in

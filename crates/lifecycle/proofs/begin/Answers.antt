@@ -51,11 +51,11 @@ returns c =
     let a = at_start.args in
     let p = whole a.words.now in
     let asked : AtGate a.settings Nothing p = record { gate = g.ask-asked.result; is = g.ask-asked.ensures } in
-    let l : length at_put_flow.put_flow_lem.new.0 ≡ 1236 = search rules in
+    let l : length at_put_flow.put_flow.new.0 ≡ 1236 = search rules in
     let n : s.standing-standing.result.channels ≡ p.standing.channels = ap (λ (s : Standing). s.channels) s.standing-standing.ensures in
     let may = ap (begin_fits a.mtu a.count) (sym n) ∙ sym at_begin_fits.begin_fits.ensures ∙ not-false _ at_put_standing.if-not-begin_fits.false-raw in
-    let done = begins_by a.mtu a.count p (whole at_put_standing.put_standing_lem.new.0) (whole at_put_flow.put_flow_lem.new.0) (whole c.clear.new.0)
-    (at_put_standing.put_standing_lem.ensures ∙ ap (λ (s : Standing). with_standing p (with_count s a.count)) s.standing-standing.ensures)
-    (at_put_flow.put_flow_lem.ensures ∙ ap (λ (f : Flow). with_flow (whole at_put_standing.put_standing_lem.new.0) (with_mtu f a.mtu)) f.flow-flow.ensures)
-    (ap whole c.clear.ensures ∙ cleared_channels at_put_flow.put_flow_lem.new.0 l) in
+    let done = begins_by a.mtu a.count p (whole at_put_standing.put_standing.new.0) (whole at_put_flow.put_flow.new.0) (whole c.clear.new.0)
+    (at_put_standing.put_standing.ensures ∙ ap (λ (s : Standing). with_standing p (with_count s a.count)) s.standing-standing.ensures)
+    (at_put_flow.put_flow.ensures ∙ ap (λ (f : Flow). with_flow (whole at_put_standing.put_standing.new.0) (with_mtu f a.mtu)) f.flow-flow.ensures)
+    (ap whole c.clear.ensures ∙ cleared_channels at_put_flow.put_flow.new.0 l) in
     came_open asked p (begins_sound a.mtu a.count p) answer_of _ _ at_enum_told.in_default.is (record { answer = rw may; after = rw may done })

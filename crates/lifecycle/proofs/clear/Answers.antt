@@ -12,7 +12,7 @@ loop-j-init c = (omega arith, refl, paste-zero c.args.words.now c.args.at (repli
 
 pub loop-j-preserved : goal.loop-j-preserved
 loop-j-preserved c =
-    let m = c.before in
+    let m = c.before.before in
     let a = m.args in (
       omega arith,
       simp length-set m.loop-j.invariant.1,
@@ -21,6 +21,6 @@ loop-j-preserved c =
 
 pub returns : goal.returns
 returns c =
-    let m = c.before in
+    let m = c.before.before in
     let e : m.loop-j.j ≡ m.args.n = omega arith in
     rw e at m.loop-j.invariant.2

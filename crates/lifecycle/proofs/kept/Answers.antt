@@ -5,8 +5,8 @@ use Rattle.lifecycle.proofs.kept.Goals as goal
 
 pub returns : goal.returns
 returns c =
-    let at_start = c.before.before.before.before.before.before.before.before.before.before in
-    let d = c.before in
+    let at_start = c.before.before.before.before.before.before.before.before.before.before.before in
+    let d = c.before.before in
     let b = d.before.before in
     let o = b.before.before in
     let a = o.before.before in

@@ -8,7 +8,7 @@ bounds-words-4 c = search rules depth 12
 
 pub returns : goal.returns
 returns c =
-    let at_wide16 = c.before.before.before in
+    let at_wide16 = c.before.before.before.before in
     let b = at_wide16.before.before in
     let o = c.wide8-outgoing in
     let f = c.wide16-from in

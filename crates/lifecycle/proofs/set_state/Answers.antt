@@ -40,5 +40,5 @@ returns c =
     let p = whole a.words.now in
     let asked : AtGate a.settings Nothing p = record { gate = at_ask.ask-asked.result; is = at_ask.ask-asked.ensures } in
     let high = le-leb _ _ at_if1.if-state-gt-ZOMBIE.false in
-    let done = c.put_standing_lem.ensures ∙ ap (λ (s : Standing). with_standing p (with_state s a.state)) at_standing.standing-standing.ensures in
+    let done = c.put_standing.ensures ∙ ap (λ (s : Standing). with_standing p (with_state s a.state)) at_standing.standing-standing.ensures in
     came_open asked p (sets_state_sound a.state p) answer_of _ _ at_if1.in_default.is (record { answer = rw high; after = rw high done })

@@ -4,13 +4,13 @@ use Rattle.outbox.proofs.join.Goals as goal
 
 pub returns-then-x : goal.returns-then-x
 returns-then-x c =
-    let at_push = c.before.before in
+    let at_push = c.before.before.before in
     let at_if1 = at_push.before.before.before in
     rw (sym at_if1.is_acknowledged.ensures ∙ at_if1.if-is_acknowledged.true, at_push.if-x.true) at_push.push.ensures
 
 pub returns : goal.returns
 returns c =
-    let at_push2 = c.before.before in
+    let at_push2 = c.before.before.before in
     let asked = at_push2.is_acknowledged in
     let kept = at_push2.push-2.ensures in
     ⊎_elim

@@ -3,7 +3,7 @@ use Rattle.outbox.proofs.open.Goals as goal
 
 pub returns : goal.returns
 returns c =
-    let m = c.before.before in
+    let m = c.before.before.before in
     let k = m.before.before in
     let t = k.before.before in
     let b = t.before.before.before in

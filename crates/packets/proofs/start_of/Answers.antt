@@ -8,7 +8,7 @@ use Rattle.packets.proofs.start_of.Goals as goal
 
 pub returns-then-unreliable-lt-LAST : goal.returns-then-unreliable-lt-LAST
 returns-then-unreliable-lt-LAST c =
-    let at_if2 = c.before.before.before in
+    let at_if2 = c.before.before.before.before in
     let loose = sym at_if2.is_set.ensures ∙ at_if2.if-is_set.true in
     let quiet = sym at_if2.is_set-then-is_set.ensures ∙ not-true _ at_if2.if-not-is_set.true-raw in
     let fresh = lt-leb _ _ c.if-unreliable-lt-LAST.true in
@@ -16,7 +16,7 @@ returns-then-unreliable-lt-LAST c =
 
 pub returns : goal.returns
 returns c =
-    let m = c.before in
+    let m = c.before.before in
     let set = sym m.is_set.ensures in
     let number = ap (λ (n : ℕ). start.Reliable (record { 0 = n })) c.next-2.ensures in
     ⊎_elim

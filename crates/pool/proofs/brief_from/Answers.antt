@@ -4,9 +4,9 @@ use Rattle.pool.proofs.brief_from.Goals as goal
 
 pub returns : goal.returns
 returns c =
-    let at_low82 = c.before.before.before.before.before.before.before in
+    let at_low82 = c.before.before.before.before.before.before.before.before in
     let at_start = at_low82.before.before.before.before.before.before.before in
-    let a = c.before in
+    let a = c.before.before in
     let l = a.before.before in
     let b = at_low82.before.before in
     let r = b.before.before in

@@ -12,7 +12,7 @@ loop-i-init c = (omega arith, refl, refl, paste-zero c.args.bytes.now 0 (replica
 
 pub loop-i-preserved : goal.loop-i-preserved
 loop-i-preserved c =
-    let m = c.before in
+    let m = c.before.before in
     let s = m.args.bytes.now in
     let z : 0 + m.loop-i.i ≡ m.loop-i.i = omega arith in (
       omega arith,
@@ -23,7 +23,7 @@ loop-i-preserved c =
 
 pub returns : goal.returns
 returns c =
-    let m = c.before in
+    let m = c.before.before in
     let s = m.args.bytes.now in
     let e : m.loop-i.i ≡ length s = omega (arith, m.loop-i.invariant.1) in
     rw e at m.loop-i.invariant.3 ∙ cleared s (length s) refl

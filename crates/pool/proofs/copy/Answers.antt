@@ -13,7 +13,7 @@ loop-i-init c = (search rules, refl, paste-zero c.args.to.now c.args.at (drop c.
 
 pub loop-i-preserved : goal.loop-i-preserved
 loop-i-preserved c =
-    let m = c.before.before in
+    let m = c.before.before.before in
     let a = m.args in (
       omega arith,
       rw length-set m.loop-i.invariant.1,

@@ -13,6 +13,6 @@ returns-then-i-ge-INCOMING c =
 
 pub returns : goal.returns
 returns c =
-    let t = c.before.before in
+    let t = c.before.before.before in
     let a = t.args in
     c.in_slot_from.ensures ∙ rows_part in_slot_from 6 12 a.pool.now a.i no_incoming t.if-i-ge-INCOMING.false

@@ -14,7 +14,7 @@ returns-then-i-ge-OUTGOING c =
 
 pub returns : goal.returns
 returns c =
-    let at_copy = c.before.before in
+    let at_copy = c.before.before.before in
     let at_words = at_copy.before.before.before in
     let b = at_words.before.before.before in
     let a = b.args in

@@ -13,7 +13,7 @@ returns-then-i-ge-INCOMING c =
 
 pub returns : goal.returns
 returns c =
-    let at_copy = c.before.before in
+    let at_copy = c.before.before.before in
     let at_struct_known = at_copy.before.before.before.before.before.before in
     let t = at_struct_known.before in
     let s = t.before.before in

@@ -6,18 +6,29 @@ use Rattle.places.specs.Whole.{whole}
 use Rattle.receive.specs.Calls.{answer_of, receives_sound}
 use Rattle.receive.proofs.Receiving.{receive_empty, receive_lent}
 use Rattle.receive.proofs.receive.Lts as lts
+use Rattle.receive.proofs.receive.Tie as tie
 use Rattle.receive.proofs.receive.Goals as goal
 
+-- places of the code that the helpers below speak of
+abbrev Start : Type 0
+Start = lts.Start tie.the-claims tie.handed_pre tie.handed_post
+
+abbrev AfterEnumTold : Type 0
+AfterEnumTold = lts.After-enum_told tie.the-claims tie.handed_pre tie.handed_post
+
+abbrev AfterHead : Type 0
+AfterHead = lts.After-head tie.the-claims tie.handed_pre tie.handed_post
+
 -- the places before `head`
-abbrev to_enum_told : lts.After-head-first → lts.In_default
+abbrev to_enum_told : AfterHead → AfterEnumTold
 to_enum_told c = c.before.before.before
 
-abbrev to_start : lts.After-head-first → lts.Start
+abbrev to_start : AfterHead → Start
 to_start c = (to_enum_told c).before.before.before.before.before
 
 pub returns-in-Shut : goal.returns-in-Shut
 returns-in-Shut c =
-    let at_ask = c.before.before.before in
+    let at_ask = c.before.before.before.before in
     let b = at_ask.before.before.before in
     let p = whole b.args.words.now in
     let a : AtGate b.args.settings Nothing p = record { gate = at_ask.ask-asked.result; is = at_ask.ask-asked.ensures } in
@@ -26,7 +37,7 @@ returns-in-Shut c =
 
 pub returns-in_default-first : goal.returns-in_default-first
 returns-in_default-first c =
-    let at_head = c.before.before in
+    let at_head = c.before.before.before in
     let o = to_enum_told at_head in
     let g = o.before.before in
     let b = to_start at_head in
@@ -36,7 +47,7 @@ returns-in_default-first c =
 
 pub returns : goal.returns
 returns c =
-    let at_put_marks = c.before in
+    let at_put_marks = c.before.before in
     let at_cleared_by = at_put_marks.before.before in
     let at_marks = at_cleared_by.before in
     let at_put_waiting = at_marks.before.before.before in
@@ -53,7 +64,7 @@ returns c =
     let p = whole b.args.words.now in
     let a : AtGate b.args.settings Nothing p = record { gate = g.ask-asked.result; is = g.ask-asked.ensures } in
     receive_lent b.args.settings p a o.in_default.is h.head-first.result h.head-first.ensures at_first.in-Slot.s at_first.in-Slot.is
-    (whole at_leave.leave.new.0) (whole at_put_waiting.put_waiting_lem.new.0) (whole at_put_marks.put_marks_lem.new.0)
+    (whole at_leave.leave.new.words) (whole at_put_waiting.put_waiting.new.words) (whole at_put_marks.put_marks.new.words)
     i.incoming_at-slot.result t.waiting.result at_lowered.lowered-waiting.result at_marks.marks.result at_cleared_by.cleared_by-marks.result c.reply_of.result
-    i.incoming_at-slot.ensures at_leave.leave.ensures t.waiting.ensures at_lowered.lowered-waiting.ensures at_put_waiting.put_waiting_lem.ensures
-    at_marks.marks.ensures at_cleared_by.cleared_by-marks.ensures at_put_marks.put_marks_lem.ensures c.reply_of.ensures
+    i.incoming_at-slot.ensures at_leave.leave.ensures t.waiting.ensures at_lowered.lowered-waiting.ensures at_put_waiting.put_waiting.ensures
+    at_marks.marks.ensures at_cleared_by.cleared_by-marks.ensures at_put_marks.put_marks.ensures c.reply_of.ensures

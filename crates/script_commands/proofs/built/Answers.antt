@@ -13,7 +13,7 @@ returns-then-kind-gt-KINDS c =
 
 pub returns : goal.returns
 returns c =
-    let at_number = c.before.before.before in
+    let at_number = c.before.before.before.before in
     let a = at_number.args in
     let k = at_number.number-kind in
     let row = c.asked in

@@ -16,12 +16,12 @@ loop-j-init c = (search rules, refl)
 
 pub loop-j-preserved : goal.loop-j-preserved
 loop-j-preserved c =
-    let at_width_of = c.before.before in
+    let at_width_of = c.before.before.before in
     let m = at_width_of.before.before in
     let a = m.args in
     let n = length (layout a.kind) in
     let e : length a.t3 ≡ 16 = search rules in
-    let w = at_width_of.width_of_lem in
+    let w = at_width_of.width_of in
     let some : 0 < w.result = ltb-true 0 w.result c.if-width_of-gt0.true-raw in
     let h = has_number a.kind m.loop-j.j w.result w.ensures some in (
       omega arith,
@@ -30,17 +30,17 @@ loop-j-preserved c =
 
 pub returns-else-width_of-gt0 : goal.returns-else-width_of-gt0
 returns-else-width_of-gt0 c =
-    let m = c.before.before.before in
+    let m = c.before.before.before.before in
     let a = m.args in
     let n = length (layout a.kind) in
-    let w = c.width_of_lem in
+    let w = c.width_of in
     let none : w.result ≤ 0 = ltb-false 0 w.result c.if-width_of-gt0.false-raw in
     let end = part_end a.t3 m.loop-j.j n (has_none a.kind m.loop-j.j w.result w.ensures none) in
     sym (m.loop-j.invariant.1 ∙ none_left m.loop-j.after (drop m.loop-j.j (take n a.t3)) end)
 
 pub returns-after-loop-j : goal.returns-after-loop-j
 returns-after-loop-j c =
-    let m = c.before in
+    let m = c.before.before in
     let a = m.args in
     let n = length (layout a.kind) in
     let e : length a.t3 ≡ 16 = search rules in

@@ -11,7 +11,7 @@ use Rattle.script_record.proofs.outgoing_slot.Goals as goal
 
 pub returns : goal.returns
 returns c =
-    let at_put_all = c.before.before in
+    let at_put_all = c.before.before.before in
     let at_start = at_put_all.before.before.before.before.before.before.before.before.before in
     let a = at_start.args in
     let s = a.s in

@@ -19,7 +19,7 @@ loop-i-init c = (search rules, refl)
 
 pub loop-i-preserved : goal.loop-i-preserved
 loop-i-preserved c =
-    let at_loop = c.before.before.before in
+    let at_loop = c.before.before.before.before in
     let ws = at_loop.args.words.now in
     let l = at_loop.loop-i in
     let n : length (table (whole ws)) ≡ 1236 = table-length ws (search rules) in

@@ -17,7 +17,7 @@ loop-j-init c =
 
 pub returns-then-not-fits_at : goal.returns-then-not-fits_at
 returns-then-not-fits_at c =
-    let at_loop = c.before.before.before.before in
+    let at_loop = c.before.before.before.before.before in
     let a = at_loop.args in
     let l = at_loop.loop-j in
     let f = c.fits_at in
@@ -27,7 +27,7 @@ returns-then-not-fits_at c =
 
 pub loop-j-preserved : goal.loop-j-preserved
 loop-j-preserved c =
-    let at_loop = c.before.before.before.before in
+    let at_loop = c.before.before.before.before.before in
     let a = at_loop.args in
     let l = at_loop.loop-j in
     let f = c.fits_at in

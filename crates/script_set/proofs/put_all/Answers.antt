@@ -12,7 +12,7 @@ loop-j-init c = (search rules, refl, put_start c.args.words.now c.args.input.now
 
 pub loop-j-preserved : goal.loop-j-preserved
 loop-j-preserved c =
-    let at_loop = c.before.before in
+    let at_loop = c.before.before.before in
     let a = at_loop.args in
     let l = at_loop.loop-j in (
       omega arith,

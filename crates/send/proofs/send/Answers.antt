@@ -17,23 +17,40 @@ use Rattle.places.proofs.Sized.{sized}
 use Rattle.send.specs.Calls.{sends_sound}
 use Rattle.send.proofs.Placed.{goes_start, goes_turn, lent_shut, lent_left}
 use Rattle.send.proofs.send.Lts as lts
+use Rattle.send.proofs.send.Tie as tie
 use Rattle.send.proofs.send.Goals as goal
+
+-- places of the code that the helpers below speak of
+abbrev Start : Type 0
+Start = lts.Start tie.the-claims tie.handed_pre tie.handed_post goal.the-invariant-loop-j goal.the-decreases-loop-j
+
+abbrev AfterEnumTold : Type 0
+AfterEnumTold = lts.After-enum_told tie.the-claims tie.handed_pre tie.handed_post goal.the-invariant-loop-j goal.the-decreases-loop-j
+
+abbrev AfterOpen : Type 0
+AfterOpen = lts.After-open tie.the-claims tie.handed_pre tie.handed_post goal.the-invariant-loop-j goal.the-decreases-loop-j
+
+abbrev AfterCountOf : Type 0
+AfterCountOf = lts.After-count_of tie.the-claims tie.handed_pre tie.handed_post goal.the-invariant-loop-j goal.the-decreases-loop-j
+
+abbrev AfterPlanGate : Type 0
+AfterPlanGate = lts.After-plan_gate tie.the-claims tie.handed_pre tie.handed_post goal.the-invariant-loop-j goal.the-decreases-loop-j
 
 -- where the outbox is open: the gate of every call passed, the call as it begins, the record as it was lent
 abbrev Opened : Type 0
-Opened = lts.After-open-o
+Opened = AfterOpen
 
-abbrev passed : Opened → lts.In_default
+abbrev passed : Opened → AfterEnumTold
 passed c = c.before.before.before.before
 
-abbrev begun : Opened → lts.Start
+abbrev begun : Opened → Start
 begun c = (passed c).before.before.before.before.before
 
 abbrev peer : Opened → Peer
 peer c = whole (begun c).args.words.now
 
 abbrev named : Opened → List ℕ
-named c = c.open-o.new.1.1.0
+named c = c.open-o.new.marks
 
 abbrev asked : (c : Opened) → AtGate (begun c).args.settings Nothing (peer c)
 asked c = let g = (passed c).ask-gate in record { gate = g.result; is = g.ensures }
@@ -43,9 +60,9 @@ good c = open_sound (asked c) (passed c).in_default.is
 
 -- where the send's own gate has answered: the commands counted, the packet, the outbox
 abbrev Planned : Type 0
-Planned = lts.After-plan_gate-room
+Planned = AfterPlanGate
 
-abbrev counted : Planned → lts.After-count_of-count
+abbrev counted : Planned → AfterCountOf
 counted c = c.before.before.before
 
 abbrev opened : Planned → Opened
@@ -54,7 +71,7 @@ opened c = (counted c).before.before.before.before.before
 pub returns-in-Shut : goal.returns-in-Shut
 returns-in-Shut c =
     let k = c.gate-1.given in
-    let at_ask = c.before.before.before in
+    let at_ask = c.before.before.before.before in
     let g = at_ask.ask-gate in
     let a = at_ask.args in
     let p = whole a.words.now in
@@ -63,20 +80,20 @@ returns-in-Shut c =
 
 pub packet_of-packet-requires : goal.packet_of-packet-requires
 packet_of-packet-requires c =
-    let o = c.before.before.before in
+    let o = c.before.before.before.before in
     let h : (peer o).flow.mtu ≤ most_mtu = mtu_high (peer o) (good o) in
     search rules
 
 pub plan_gate-room-requires : goal.plan_gate-room-requires
 plan_gate-room-requires c =
-    let at_told = c.before.before.before.before.before.before.before in
+    let at_told = c.before.before.before.before.before.before.before.before in
     let h = good at_told in
     search rules
 
 pub returns-in-Shut-room : goal.returns-in-Shut-room
 returns-in-Shut-room c =
     let k = c.room-1.given in
-    let j = c.before.before.before in
+    let j = c.before.before.before.before in
     let n = counted j in
     let o = opened j in
     let a = (begun o).args in
@@ -85,7 +102,7 @@ returns-in-Shut-room c =
 
 pub loop-j-init : goal.loop-j-init
 loop-j-init c =
-    let j = c.before.before in
+    let j = c.before.before.before in
     let n = counted j in
     let o = opened j in
     let a = (begun o).args in
@@ -95,24 +112,24 @@ loop-j-init c =
 
 pub overflow_add-j : goal.overflow_add-j
 overflow_add-j c =
-    let l = c.before.before.before.before.before.before in
+    let l = c.before.before.before.before.before.before.before in
     let h = (counted l.before.before.before).count_of.ok in
     search rules
 
 pub loop-j-preserved : goal.loop-j-preserved
 loop-j-preserved c =
     let q = c.queue-o in
-    let t = c.before.before.before.before.before in
+    let t = c.before.before.before.before.before.before in
     let l = t.loop-j in
     let j = t.before.before.before.before in
     let n = counted j in
     goes_turn n.packet_of-packet.result n.count_of-count.result (begun (opened j)).args.channel (peer (opened j)) (whole l.words) l.o l.marks l.j l.offset l.invariant
-    t.loop-j-test.true q.result q.new.1.0 (whole q.new.0) q.ensures c.next_at-offset.result c.next_at-offset.ensures
+    t.loop-j-test.true q.result q.new.marks (whole q.new.words) q.ensures c.next_at-offset.result c.next_at-offset.ensures
 
 pub returns : goal.returns
 returns c =
     let l = c.loop-j in
-    let u = c.before.before.before.before in
+    let u = c.before.before.before.before.before in
     let j = u.before.before in
     let n = counted j in
     let o = opened j in
@@ -120,4 +137,4 @@ returns c =
     lent_left a.settings a.channel a.length a.flags (peer o) (asked o) (passed o).in_default.is o.open-o.result (named o) o.open-o.ensures
     n.packet_of-packet.result n.packet_of-packet.ensures n.count_of-count.result n.count_of-count.ensures j.plan_gate-room.result j.plan_gate-room.ensures
     (sized a.words.now) u.in_default-room.is (whole l.words) l.o l.marks l.j l.offset l.invariant c.loop-j-test.false
-    (whole c.close.new.0) c.close.ensures
+    (whole c.close.new.words) c.close.ensures

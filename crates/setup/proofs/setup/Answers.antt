@@ -14,26 +14,40 @@ use Rattle.setup.specs.Calls.{setup_gate, sets_up_sound}
 use Rattle.setup.proofs.Setups.{one_shut, setup_some}
 use Rattle.setup.proofs.Placed.{lent_left}
 use Rattle.setup.proofs.setup.Lts as lts
+use Rattle.setup.proofs.setup.Tie as tie
 use Rattle.setup.proofs.setup.Goals as goal
 
+-- places of the code that the helpers below speak of
+abbrev Start : Type 0
+Start = lts.Start tie.the-claims tie.handed_pre tie.handed_post
+
+abbrev AfterEnumTold : Type 0
+AfterEnumTold = lts.After-enum_told tie.the-claims tie.handed_pre tie.handed_post
+
+abbrev AfterStanding : Type 0
+AfterStanding = lts.After-standing tie.the-claims tie.handed_pre tie.handed_post
+
+abbrev AfterSetupGate : Type 0
+AfterSetupGate = lts.After-setup_gate tie.the-claims tie.handed_pre tie.handed_post
+
 -- where the gate of every call is passed: the call as it begins, the record as it was lent, and what the gate answered
-abbrev begun : lts.In_default → lts.Start
+abbrev begun : AfterEnumTold → Start
 begun c = c.before.before.before.before.before
 
-abbrev peer : lts.In_default → Peer
+abbrev peer : AfterEnumTold → Peer
 peer c = whole (begun c).args.words.now
 
-abbrev asked : (c : lts.In_default) → AtGate (begun c).args.settings Nothing (peer c)
+abbrev asked : (c : AfterEnumTold) → AtGate (begun c).args.settings Nothing (peer c)
 asked c = let g = c.ask-gate in record { gate = g.result; is = g.ensures }
 
-abbrev passed : lts.After-standing-standing → lts.In_default
+abbrev passed : AfterStanding → AfterEnumTold
 passed c = c.before.before.before.before
 
 -- where the call's own gate has answered
-abbrev stood : lts.After-setup_gate-may → lts.After-standing-standing
+abbrev stood : AfterSetupGate → AfterStanding
 stood c = c.before.before.before.before
 
-judged : (c : lts.After-setup_gate-may) → let t = passed (stood c) in c.setup_gate-may.result ≡ setup_gate (begun t).args.x (peer t).standing.channels (room (peer t))
+judged : (c : AfterSetupGate) → let t = passed (stood c) in c.setup_gate-may.result ≡ setup_gate (begun t).args.x (peer t).standing.channels (room (peer t))
 judged c =
     let t = passed (stood c) in
     let free = c.room_in in
@@ -44,7 +58,7 @@ judged c =
 pub returns-in-Shut : goal.returns-in-Shut
 returns-in-Shut c =
     let k = c.gate-1.given in
-    let at_ask = c.before.before.before in
+    let at_ask = c.before.before.before.before in
     let g = at_ask.ask-gate in
     let a = at_ask.args in
     let p = whole a.words.now in
@@ -53,24 +67,24 @@ returns-in-Shut c =
 
 pub room_in-requires : goal.room_in-requires
 room_in-requires c =
-    let t = passed c.before.before in
+    let t = passed c.before.before.before in
     let h : sound (peer t) ≡ true = open_sound (asked t) t.in_default.is in
     search rules
 
 pub returns-in-Shut-may : goal.returns-in-Shut-may
 returns-in-Shut-may c =
     let k = c.may-1.given in
-    let j = c.before.before.before in
+    let j = c.before.before.before.before in
     let t = passed (stood j) in
     one_shut (begun t).args.settings (begun t).args.x (peer t) (asked t) t.enum_told.given.1 (setup_gate (begun t).args.x (peer t).standing.channels (room (peer t))) j.setup_gate-may.result (judged j) k.0.0 k.1
 
 pub returns : goal.returns
 returns c =
-    let q = c.before.before.before in
+    let q = c.before.before.before.before in
     let o = q.before.before.before.before in
     let u = o.before.before.before.before in
     let j = u.before.before in
     let t = passed (stood j) in
     lent_left (begun t).args.settings (begun t).args.x (peer t) (asked t) t.enum_told.given.1 (setup_gate (begun t).args.x (peer t).standing.channels (room (peer t))) j.setup_gate-may.result (judged j) (setup_some (begun t).args.x (peer t)) u.in_default-may.is
-    o.open-o.result o.open-o.new.1.1.0 o.open-o.ensures q.queue-after.result q.queue-after.new.1.0 (whole q.queue-after.new.0) (whole c.close.new.0)
+    o.open-o.result o.open-o.new.marks o.open-o.ensures q.queue-after.result q.queue-after.new.marks (whole q.queue-after.new.words) (whole c.close.new.words)
     q.queue-after.ensures c.close.ensures

@@ -12,7 +12,7 @@ returns-then-free-lt1 c =
 
 pub returns-then-not-names_fields : goal.returns-then-not-names_fields
 returns-then-not-names_fields c =
-    let m = c.before.before in
+    let m = c.before.before.before in
     simp (
       sym m.on_channel.ensures ∙ not-false _ m.if-not-on_channel.false-raw,
       le-leb _ _ m.if-free-lt1.false,
@@ -21,7 +21,7 @@ returns-then-not-names_fields c =
 
 pub returns : goal.returns
 returns c =
-    let m = c.before.before in
+    let m = c.before.before.before in
     simp (
       sym m.on_channel.ensures ∙ not-false _ m.if-not-on_channel.false-raw,
       le-leb _ _ m.if-free-lt1.false,

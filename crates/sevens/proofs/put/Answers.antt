@@ -15,7 +15,7 @@ overflow_add-i c = omega (arith, in_room c.loop-rest.invariant)
 
 pub loop-rest-preserved : goal.loop-rest-preserved
 loop-rest-preserved c =
-    let m = c.before in
+    let m = c.before.before in
     let a = m.args in
     turn a.buffer.now a.at a.x m.loop-rest.buffer m.loop-rest.rest m.loop-rest.i m.loop-rest.invariant c.loop-rest-test.true
 

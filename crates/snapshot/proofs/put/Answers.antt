@@ -7,18 +7,17 @@ use Rattle.peer.specs.Outcome.{State}
 use Rattle.places.specs.Whole.{whole}
 use Rattle.places.proofs.Sized.{sized}
 use Rattle.snapshot.proofs.WriteLaws.{numbers, total, edition_one, snapshot_length, put_is}
-use Rattle.snapshot.proofs.put.Lts as lts
 use Rattle.snapshot.proofs.put.Goals as goal
 
 -- the places before the first call
-abbrev to_start : lts.After-put-arg-1 → lts.Start
+abbrev to_start : goal.After-put-arg-1 → goal.Start
 to_start c = c.before.before.before.before.before
 
 -- what is written, and that there is room for it
-abbrev state : lts.Start → State
+abbrev state : goal.Start → State
 state c = record { peer = whole c.args.words.now; store = c.args.store.now; second = c.args.second.now }
 
-room : (c : lts.Start) → 1 + length (numbers (state c)) + total (state c) ≤ length c.args.buffer.now
+room : (c : goal.Start) → 1 + length (numbers (state c)) + total (state c) ≤ length c.args.buffer.now
 room c =
     let p = c.requires in
     omega (arith, p.1.1, snapshot_length (state c) (sized c.args.words.now).incoming p.1.0.0 p.1.0.1)

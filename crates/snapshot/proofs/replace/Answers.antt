@@ -5,7 +5,7 @@ use Rattle.snapshot.proofs.replace.Goals as goal
 
 pub returns : goal.returns
 returns c =
-    let at_copy = c.before.before in
+    let at_copy = c.before.before.before in
     let at_lay = at_copy.before.before.before.before.before.before in
     let at_clear2 = at_lay.before.before.before.before.before in
     let at_clear = at_clear2.before.before.before.before in

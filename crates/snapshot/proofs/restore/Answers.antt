@@ -12,30 +12,29 @@ use Rattle.snapshot_parts.specs.CodeRow.{end_of}
 use Rattle.snapshot.specs.Calls.{lent_both}
 use Rattle.snapshot.proofs.WriteLaws.{lengths_fit}
 use Rattle.snapshot.proofs.RestoreLaws.{bytes_inside, restore_unfit, restore_unread, restore_damaged, restore_done}
-use Rattle.snapshot.proofs.restore.Lts as lts
 use Rattle.snapshot.proofs.restore.Goals as goal
 
 -- the places before `sound`
-abbrev to_end : lts.After-sound → lts.In-Read-2
+abbrev to_end : goal.After-sound → goal.In-Read-2
 to_end c = c.before.before.before
 
-abbrev to_parse : lts.After-sound → lts.After-parse
+abbrev to_parse : goal.After-sound → goal.After-parse
 to_parse c = (to_end c).before.before.before
 
 -- the places before `parse`
-abbrev to_if1 : lts.After-parse → lts.Else-not-is_fit
+abbrev to_if1 : goal.After-parse → goal.Else-not-is_fit
 to_if1 c = c.before.before
 
 -- the place before `is_fit`
-abbrev to_start : lts.After-is_fit → lts.Start
+abbrev to_start : goal.After-is_fit → goal.Start
 to_start c = c.before.before.before.before
 
 -- what is found
-abbrev state : lts.Start → State
+abbrev state : goal.Start → State
 state c = record { peer = whole c.args.words.now; store = c.args.store.now; second = c.args.second.now }
 
 -- settings and stores are fit
-is_well : (c : lts.Else-not-is_fit) → fits (to_start c.before).args.settings (lent_both (state (to_start c.before))) ≡ true
+is_well : (c : goal.Else-not-is_fit) → fits (to_start c.before).args.settings (lent_both (state (to_start c.before))) ≡ true
 is_well c = sym c.is_fit.ensures ∙ not-false c.is_fit.result c.if-not-is_fit.false-raw
 
 pub returns-then-not-is_fit : goal.returns-then-not-is_fit

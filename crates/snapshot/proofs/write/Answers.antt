@@ -10,34 +10,33 @@ use Rattle.places.specs.Whole.{whole}
 use Rattle.places.proofs.Sized.{sized}
 use Rattle.snapshot.specs.Calls.{lent_both}
 use Rattle.snapshot.proofs.WriteLaws.{numbers, total, numbers_few, stored_few, write_shut, stores_fit, write_unknown, write_room, write_none, write_done}
-use Rattle.snapshot.proofs.write.Lts as lts
 use Rattle.snapshot.proofs.write.Goals as goal
 
 -- the places before `size`
-abbrev to_enum_told : lts.After-size → lts.In_default
+abbrev to_enum_told : goal.After-size → goal.In_default
 to_enum_told c = c.before.before.before
 
-abbrev to_ask : lts.In_default → lts.After-ask-gate
+abbrev to_ask : goal.In_default → goal.After-ask-gate
 to_ask c = c.before.before
 
 -- the place before `ask`
-abbrev to_start : lts.After-ask-gate → lts.Start
+abbrev to_start : goal.After-ask-gate → goal.Start
 to_start c = c.before.before.before.before.before
 
 -- what is written
-abbrev state : lts.Start → State
+abbrev state : goal.Start → State
 state c = record { peer = whole c.args.words.now; store = c.args.store.now; second = c.args.second.now }
 
 -- what the gate answered
-abbrev asked : (c : lts.After-ask-gate) → AtGate (to_start c).args.settings (lent_both (state (to_start c))) (state (to_start c)).peer
+abbrev asked : (c : goal.After-ask-gate) → AtGate (to_start c).args.settings (lent_both (state (to_start c))) (state (to_start c)).peer
 asked c = record { gate = c.ask-gate.result; is = c.ask-gate.ensures }
 
 -- the edition's test
-abbrev to_if1 : lts.After-size-2 → lts.Else-edition-ne-EDITION
+abbrev to_if1 : goal.After-size-2 → goal.Else-edition-ne-EDITION
 to_if1 c = c.before.before.before.before
 
 -- the length that is asked for
-size_is : (c : lts.After-size-2) → 1 + c.size.result + c.size-2.result ≡ 1 + length (numbers (state (to_start (to_ask (to_enum_told c.before.before))))) + total (state (to_start (to_ask (to_enum_told c.before.before))))
+size_is : (c : goal.After-size-2) → 1 + c.size.result + c.size-2.result ≡ 1 + length (numbers (state (to_start (to_ask (to_enum_told c.before.before))))) + total (state (to_start (to_ask (to_enum_told c.before.before))))
 size_is c = omega (arith, c.size.ensures, c.size-2.ensures)
 
 pub returns-in-Shut : goal.returns-in-Shut
@@ -87,8 +86,12 @@ put-requires c =
     let at_ask = to_ask at_told in
     let start = to_start at_ask in
     let a = start.args in
-    let o = at_told.in_default.is in record { words_len = search rules; store_len = stores_fit a.settings a.edition (state start) a.buffer.now (asked at_ask) o; second_in_bounds = write_room a.settings a.edition (state start) a.buffer.now (asked at_ask) o (to_if1 at_size2).if-edition-ne-EDITION.false (sized a.words.now).incoming _
-            (size_is at_size2) at_if2.if-buffer-length.false }
+    let o = at_told.in_default.is in record {
+      words_len = search rules;
+      store_len = stores_fit a.settings a.edition (state start) a.buffer.now (asked at_ask) o;
+      second_in_bounds = write_room a.settings a.edition (state start) a.buffer.now (asked at_ask) o (to_if1 at_size2).if-edition-ne-EDITION.false (sized a.words.now).incoming _
+          (size_is at_size2) at_if2.if-buffer-length.false;
+    }
 
 pub returns : goal.returns
 returns c =

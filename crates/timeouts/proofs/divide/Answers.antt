@@ -9,7 +9,7 @@ use Rattle.timeouts.proofs.divide.Goals as goal
 
 pub returns-then-back : goal.returns-then-back
 returns-then-back c =
-    let at_back = c.before.before in
+    let at_back = c.before.before.before in
     let at_if = at_back.before.before in
     let a = at_if.args in
     let p = whole a.words.now in

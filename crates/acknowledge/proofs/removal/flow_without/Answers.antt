@@ -7,7 +7,7 @@ use Rattle.acknowledge.proofs.removal.flow_without.Goals as goal
 
 pub returns-then-slot : goal.returns-then-slot
 returns-then-slot c =
-    let p = c.before.before in
+    let p = c.before.before.before in
     let m = p.before in
     let a = m.args in
     let k = c.struct_known-1.given in

@@ -9,7 +9,7 @@ returns-then-s-ge-OUTGOING c =
 
 pub returns-then-sent : goal.returns-then-sent
 returns-then-sent c =
-    let at_if1 = c.before.before.before in
+    let at_if1 = c.before.before.before.before in
     let a = at_if1.args in
     let b = c.brief_at-slot in
     look_brief a.words.now a.sent a.number.0 a.channel a.s at_if1.if-s-ge-OUTGOING.false b.result c.in_sent.result b.ensures
@@ -17,7 +17,7 @@ returns-then-sent c =
 
 pub returns : goal.returns
 returns c =
-    let at_if1 = c.before.before.before in
+    let at_if1 = c.before.before.before.before in
     let a = at_if1.args in
     let b = c.brief_at-slot in
     look_brief a.words.now a.sent a.number.0 a.channel a.s at_if1.if-s-ge-OUTGOING.false b.result c.in_queue.result b.ensures

@@ -9,7 +9,18 @@ use Rattle.acknowledge.specs.Removal.{seek}
 use Rattle.acknowledge.specs.CodeSearches.{look_of, at}
 use Rattle.acknowledge.proofs.RemovalChanges.{turn_found, turn_ends, turn_goes_on, turn_end}
 use Rattle.acknowledge.proofs.removal.seek.Lts as lts
+use Rattle.acknowledge.proofs.removal.seek.Tie as tie
 use Rattle.acknowledge.proofs.removal.seek.Goals as goal
+
+-- places of the code that the helpers below speak of
+abbrev Start : Type 0
+Start = lts.Start tie.the-claims tie.handed_pre tie.handed_post goal.the-invariant-loop-k goal.the-decreases-loop-k
+
+abbrev AtLoop : Type 0
+AtLoop = lts.At-loop tie.the-claims tie.handed_pre tie.handed_post goal.the-invariant-loop-k goal.the-decreases-loop-k
+
+abbrev AfterLook : Type 0
+AfterLook = lts.After-look tie.the-claims tie.handed_pre tie.handed_post goal.the-invariant-loop-k goal.the-decreases-loop-k
 
 -- the slots that the list names, and what the search makes of a slot
 abbrev named : List ℕ → Out → List ℕ
@@ -19,10 +30,10 @@ abbrev made : List ℕ → Reliable → ℕ → Bool → ℕ → ℕ
 made ws number channel sent s = at (map (look_of sent number.0 channel) (whole ws).outgoing) s
 
 -- the places before `look`
-abbrev to_loop : lts.After-look-is → lts.At-loop-k
+abbrev to_loop : AfterLook → AtLoop
 to_loop c = c.before.before.before
 
-abbrev to_start : lts.After-look-is → lts.Start
+abbrev to_start : AfterLook → Start
 to_start c = (to_loop c).before.before.before
 
 pub loop-k-init : goal.loop-k-init
@@ -34,7 +45,7 @@ loop-k-init c =
 
 pub returns-then-is-eq-FOUND : goal.returns-then-is-eq-FOUND
 returns-then-is-eq-FOUND c =
-    let at_look = c.before in
+    let at_look = c.before.before in
     let l = at_look.look-is in
     let s = at_look.slot_at-s in
     let m = (to_loop at_look).loop-k in
@@ -45,7 +56,7 @@ returns-then-is-eq-FOUND c =
 
 pub returns-then-is-ne-GOES_ON : goal.returns-then-is-ne-GOES_ON
 returns-then-is-ne-GOES_ON c =
-    let at_look = c.before.before in
+    let at_look = c.before.before.before in
     let l = at_look.look-is in
     let s = at_look.slot_at-s in
     let m = (to_loop at_look).loop-k in
@@ -56,7 +67,7 @@ returns-then-is-ne-GOES_ON c =
 
 pub loop-k-preserved : goal.loop-k-preserved
 loop-k-preserved c =
-    let at_look = c.before.before in
+    let at_look = c.before.before.before in
     let l = at_look.look-is in
     let s = at_look.slot_at-s in
     let m = (to_loop at_look).loop-k in

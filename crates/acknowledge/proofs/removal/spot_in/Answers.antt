@@ -6,28 +6,45 @@ use Rattle.places.specs.Whole.{whole}
 use Rattle.acknowledge.specs.CodeSearches.{look_of, at}
 use Rattle.acknowledge.proofs.RemovalChanges.{spot_sent, spot_outgoing, spot_reliable, spot_nowhere}
 use Rattle.acknowledge.proofs.removal.spot_in.Lts as lts
+use Rattle.acknowledge.proofs.removal.spot_in.Tie as tie
 use Rattle.acknowledge.proofs.removal.spot_in.Goals as goal
+
+-- places of the code that the helpers below speak of
+abbrev Start : Type 0
+Start = lts.Start tie.the-claims tie.handed_pre tie.handed_post
+
+abbrev AfterSeek : Type 0
+AfterSeek = lts.After-seek tie.the-claims tie.handed_pre tie.handed_post
+
+abbrev AfterEnumTold : Type 0
+AfterEnumTold = lts.After-enum_told tie.the-claims tie.handed_pre tie.handed_post
+
+abbrev AfterSeek2 : Type 0
+AfterSeek2 = lts.After-seek2 tie.the-claims tie.handed_pre tie.handed_post
+
+abbrev AfterSeek3 : Type 0
+AfterSeek3 = lts.After-seek3 tie.the-claims tie.handed_pre tie.handed_post
 
 -- what a search makes of a slot
 abbrev made : Peer → Reliable → ℕ → Bool → ℕ → ℕ
 made p number channel sent s = at (map (look_of sent number.0 channel) p.outgoing) s
 
 -- the places before `seek3`
-abbrev to_seek2 : lts.After-seek-f-3 → lts.After-seek-f-2
+abbrev to_seek2 : AfterSeek3 → AfterSeek2
 to_seek2 c = c.before.before.before
 
-abbrev to_enum_told : lts.After-seek-f-3 → lts.In_default
+abbrev to_enum_told : AfterSeek3 → AfterEnumTold
 to_enum_told c = (to_seek2 c).before
 
-abbrev to_seek : lts.After-seek-f-3 → lts.After-seek-f
+abbrev to_seek : AfterSeek3 → AfterSeek
 to_seek c = (to_enum_told c).before.before
 
-abbrev to_start : lts.After-seek-f-3 → lts.Start
+abbrev to_start : AfterSeek3 → Start
 to_start c = (to_seek c).before.before
 
 pub returns-in-At : goal.returns-in-At
 returns-in-At c =
-    let at_seek = c.before.before.before in
+    let at_seek = c.before.before.before.before in
     let a = at_seek.args in
     let p = whole a.words.now in
     let s = at_seek.seek-f in
@@ -35,7 +52,7 @@ returns-in-At c =
 
 pub returns-in-At-f : goal.returns-in-At-f
 returns-in-At-f c =
-    let at_seek2 = c.before.before.before in
+    let at_seek2 = c.before.before.before.before in
     let at_seek = at_seek2.before.before.before in
     let a = at_seek.args in
     let p = whole a.words.now in
@@ -46,7 +63,7 @@ returns-in-At-f c =
 
 pub returns-in-At-f-2 : goal.returns-in-At-f-2
 returns-in-At-f-2 c =
-    let at_seek3 = c.before.before.before in
+    let at_seek3 = c.before.before.before.before in
     let a = (to_start at_seek3).args in
     let p = whole a.words.now in
     let s = (to_seek at_seek3).seek-f in
@@ -57,7 +74,7 @@ returns-in-At-f-2 c =
 
 pub returns : goal.returns
 returns c =
-    let at_seek3 = c.before.before in
+    let at_seek3 = c.before.before.before in
     let a = (to_start at_seek3).args in
     let p = whole a.words.now in
     let s = (to_seek at_seek3).seek-f in

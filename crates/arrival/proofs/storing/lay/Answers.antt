@@ -15,7 +15,7 @@ returns-then-datagram-from c =
 
 pub returns : goal.returns
 returns c =
-    let at_copy = c.before.before in
+    let at_copy = c.before.before.before in
     let at_if2 = at_copy.before.before in
     let at_start = at_if2.before.before.before.before in
     let a = at_start.args in

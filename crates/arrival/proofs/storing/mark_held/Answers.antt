@@ -12,7 +12,7 @@ loop-k-init c = (search rules, refl, refl)
 
 pub loop-k-preserved : goal.loop-k-preserved
 loop-k-preserved c =
-    let at_mark = c.before.before in
+    let at_mark = c.before.before.before in
     let at_if1 = at_mark.before.before in
     let at_loop = at_if1.before.before in
     let a = at_loop.args in
@@ -22,12 +22,12 @@ loop-k-preserved c =
     let low : at_loop.loop-k.k < length cs = rw (sized a.words.now).channels (search rules) in (
       search rules,
       search rules,
-      at_loop.loop-k.invariant.2 ∙ marks_turn at_loop.loop-k.marks k.new.1.1.0 cs a.count at_loop.loop-k.k no_channel h low k.ensures,
+      at_loop.loop-k.invariant.2 ∙ marks_turn at_loop.loop-k.marks k.new.marks cs a.count at_loop.loop-k.k no_channel h low k.ensures,
     )
 
 pub returns-else-k-count : goal.returns-else-k-count
 returns-else-k-count c =
-    let at_loop = c.before.before in
+    let at_loop = c.before.before.before in
     let a = at_loop.args in
     let cs = take a.count (whole a.words.now).channels in
     let end = part_end (whole a.words.now).channels at_loop.loop-k.k a.count (ltb-false at_loop.loop-k.k a.count c.if-k-count.false-raw) in
@@ -35,7 +35,7 @@ returns-else-k-count c =
 
 pub returns-after-loop-k : goal.returns-after-loop-k
 returns-after-loop-k c =
-    let m = c.before in
+    let m = c.before.before in
     let a = m.args in
     let cs = take a.count (whole a.words.now).channels in
     let e : length (whole a.words.now).channels ≡ 8 = (sized a.words.now).channels in

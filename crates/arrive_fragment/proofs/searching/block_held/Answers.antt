@@ -23,7 +23,7 @@ loop-k-init c = (search rules, refl)
 pub returns-then-block_in : goal.returns-then-block_in
 returns-then-block_in c =
     let b = c.block_in in
-    let at_if1 = c.before.before in
+    let at_if1 = c.before.before.before in
     let m = at_if1.before.before in
     let at_start = m.before.before in
     let a = at_start.args in
@@ -39,7 +39,7 @@ returns-then-block_in c =
 pub loop-k-preserved : goal.loop-k-preserved
 loop-k-preserved c =
     let b = c.block_in in
-    let at_if1 = c.before.before in
+    let at_if1 = c.before.before.before in
     let m = at_if1.before.before in
     let at_start = m.before.before in
     let a = at_start.args in
@@ -54,7 +54,7 @@ loop-k-preserved c =
 
 pub returns-else-k-count : goal.returns-else-k-count
 returns-else-k-count c =
-    let m = c.before.before in
+    let m = c.before.before.before in
     let a = m.args in
     let cs = (whole a.words.now).channels in
     let k = m.loop-k.k in
@@ -63,7 +63,7 @@ returns-else-k-count c =
 
 pub returns-after-loop-k : goal.returns-after-loop-k
 returns-after-loop-k c =
-    let m = c.before in
+    let m = c.before.before in
     let a = m.args in
     let cs = (whole a.words.now).channels in
     let k = m.loop-k.k in

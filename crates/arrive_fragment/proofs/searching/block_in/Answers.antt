@@ -12,10 +12,18 @@ use Rattle.record.specs.Damage.{blocks}
 use Rattle.places.specs.Whole.{whole}
 use Rattle.arrive_fragment.proofs.SearchLaws.{block_hit, block_miss, block_end}
 use Rattle.arrive_fragment.proofs.searching.block_in.Lts as lts
+use Rattle.arrive_fragment.proofs.searching.block_in.Tie as tie
 use Rattle.arrive_fragment.proofs.searching.block_in.Goals as goal
 
+-- places of the code that the helpers below speak of
+abbrev Start : Type 0
+Start = lts.Start tie.the-claims tie.handed_pre tie.handed_post goal.the-invariant-loop-k goal.the-decreases-loop-k
+
+abbrev AfterIncomingAt : Type 0
+AfterIncomingAt = lts.After-incoming_at tie.the-claims tie.handed_pre tie.handed_post goal.the-invariant-loop-k goal.the-decreases-loop-k
+
 -- the places before `incoming-at`
-abbrev to_start : lts.After-incoming_at-slot → lts.Start
+abbrev to_start : AfterIncomingAt → Start
 to_start c = c.before.before.before.before.before.before
 
 pub loop-k-init : goal.loop-k-init
@@ -24,7 +32,7 @@ loop-k-init c = (omega arith, refl)
 pub returns-then-is_block : goal.returns-then-is_block
 returns-then-is_block c =
     let u = c.is_block in
-    let i = c.before.before in
+    let i = c.before.before.before in
     let s = i.before in
     let t = s.before in
     let m = t.before in
@@ -40,7 +48,7 @@ returns-then-is_block c =
 pub loop-k-preserved : goal.loop-k-preserved
 loop-k-preserved c =
     let u = c.is_block in
-    let i = c.before.before in
+    let i = c.before.before.before in
     let s = i.before in
     let t = s.before in
     let m = t.before in
@@ -55,7 +63,7 @@ loop-k-preserved c =
 
 pub returns : goal.returns
 returns c =
-    let m = c.before in
+    let m = c.before.before in
     let n = m.count-n in
     let a = m.args in
     let p = whole a.words.now in

@@ -11,10 +11,18 @@ use Rattle.queues.specs.Queues.{held_of}
 use Rattle.arrive_fragment.specs.Pieces.{unfinished}
 use Rattle.arrive_fragment.proofs.SearchLaws.{found_hit, found_miss, found_end}
 use Rattle.arrive_fragment.proofs.searching.unfinished.Lts as lts
+use Rattle.arrive_fragment.proofs.searching.unfinished.Tie as tie
 use Rattle.arrive_fragment.proofs.searching.unfinished.Goals as goal
 
+-- places of the code that the helpers below speak of
+abbrev Start : Type 0
+Start = lts.Start tie.the-claims tie.handed_pre tie.handed_post goal.the-invariant-loop-k goal.the-decreases-loop-k
+
+abbrev AfterIncomingAt : Type 0
+AfterIncomingAt = lts.After-incoming_at tie.the-claims tie.handed_pre tie.handed_post goal.the-invariant-loop-k goal.the-decreases-loop-k
+
 -- the places before `incoming-at`
-abbrev to_start : lts.After-incoming_at-slot → lts.Start
+abbrev to_start : AfterIncomingAt → Start
 to_start c = c.before.before.before.before.before.before
 
 pub loop-k-init : goal.loop-k-init
@@ -23,7 +31,7 @@ loop-k-init c = (omega arith, refl)
 pub returns-then-is_unfinished : goal.returns-then-is_unfinished
 returns-then-is_unfinished c =
     let u = c.is_unfinished in
-    let i = c.before.before in
+    let i = c.before.before.before in
     let s = i.before in
     let t = s.before in
     let m = t.before in
@@ -39,7 +47,7 @@ returns-then-is_unfinished c =
 pub loop-k-preserved : goal.loop-k-preserved
 loop-k-preserved c =
     let u = c.is_unfinished in
-    let i = c.before.before in
+    let i = c.before.before.before in
     let s = i.before in
     let t = s.before in
     let m = t.before in
@@ -54,7 +62,7 @@ loop-k-preserved c =
 
 pub returns : goal.returns
 returns c =
-    let m = c.before in
+    let m = c.before.before in
     let n = m.count-n in
     let a = m.args in
     let p = whole a.words.now in

@@ -4,7 +4,7 @@ use Rattle.arrive_fragment.proofs.storing.finish.Goals as goal
 
 pub returns-then-slot-eq0 : goal.returns-then-slot-eq0
 returns-then-slot-eq0 c =
-    let at_dispatch = c.before.before in
+    let at_dispatch = c.before.before.before in
     let at_if1 = at_dispatch.before.before.before in
     let slot = at_if1.incoming_at-slot in
     rw (← slot.ensures, eq-eqb _ 0 at_if1.if-slot-eq0.true) at_dispatch.dispatch.ensures

@@ -7,13 +7,24 @@ use Rattle.queues.specs.Queues.{held_of}
 use Rattle.arrive_reliable.specs.Holding.{holds}
 use Rattle.arrive_reliable.proofs.HoldingLaws.{held_hit, held_miss, held_end}
 use Rattle.arrive_reliable.proofs.holding.holds.Lts as lts
+use Rattle.arrive_reliable.proofs.holding.holds.Tie as tie
 use Rattle.arrive_reliable.proofs.holding.holds.Goals as goal
 
+-- places of the code that the helpers below speak of
+abbrev Start : Type 0
+Start = lts.Start tie.the-claims tie.handed_pre tie.handed_post goal.the-invariant-loop-k goal.the-decreases-loop-k
+
+abbrev AfterIncomingAt : Type 0
+AfterIncomingAt = lts.After-incoming_at tie.the-claims tie.handed_pre tie.handed_post goal.the-invariant-loop-k goal.the-decreases-loop-k
+
+abbrev AfterStructKnown2 : Type 0
+AfterStructKnown2 = lts.After-struct_known2 tie.the-claims tie.handed_pre tie.handed_post goal.the-invariant-loop-k goal.the-decreases-loop-k
+
 -- the places before `struct-known2`
-abbrev to_incoming_at : lts.After-struct_known-in-loop-k-1 → lts.After-incoming_at-slot
+abbrev to_incoming_at : AfterStructKnown2 → AfterIncomingAt
 to_incoming_at c = c.before.before.before
 
-abbrev to_start : lts.After-struct_known-in-loop-k-1 → lts.Start
+abbrev to_start : AfterStructKnown2 → Start
 to_start c = (to_incoming_at c).before.before.before.before.before.before
 
 pub loop-k-init : goal.loop-k-init
@@ -21,7 +32,7 @@ loop-k-init c = (omega arith, refl)
 
 pub returns-then-own-number : goal.returns-then-own-number
 returns-then-own-number c =
-    let at_struct_known2 = c.before in
+    let at_struct_known2 = c.before.before in
     let i = to_incoming_at at_struct_known2 in
     let s = i.before in
     let t = s.before in
@@ -38,7 +49,7 @@ returns-then-own-number c =
 
 pub loop-k-preserved : goal.loop-k-preserved
 loop-k-preserved c =
-    let at_struct_known2 = c.before in
+    let at_struct_known2 = c.before.before in
     let i = to_incoming_at at_struct_known2 in
     let s = i.before in
     let t = s.before in
@@ -55,7 +66,7 @@ loop-k-preserved c =
 
 pub returns : goal.returns
 returns c =
-    let m = c.before in
+    let m = c.before.before in
     let n = m.count-n in
     let a = m.args in
     let p = whole a.words.now in

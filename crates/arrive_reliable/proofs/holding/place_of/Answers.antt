@@ -8,10 +8,18 @@ use Rattle.dispatch.proofs.DispatchingPlaces.{count_more}
 use Rattle.arrive_reliable.specs.Holding.{place_of}
 use Rattle.arrive_reliable.proofs.HoldingLaws.{near_stop, near_turn, near_end}
 use Rattle.arrive_reliable.proofs.holding.place_of.Lts as lts
+use Rattle.arrive_reliable.proofs.holding.place_of.Tie as tie
 use Rattle.arrive_reliable.proofs.holding.place_of.Goals as goal
 
+-- places of the code that the helpers below speak of
+abbrev Start : Type 0
+Start = lts.Start tie.the-claims tie.handed_pre tie.handed_post goal.the-invariant-loop-k goal.the-decreases-loop-k
+
+abbrev AfterNumberDistance2 : Type 0
+AfterNumberDistance2 = lts.After-number_distance2 tie.the-claims tie.handed_pre tie.handed_post goal.the-invariant-loop-k goal.the-decreases-loop-k
+
 -- the places before `number-distance2`
-abbrev to_start : lts.After-number_distance → lts.Start
+abbrev to_start : AfterNumberDistance2 → Start
 to_start c = c.before.before.before.before.before.before.before.before
 
 pub loop-k-init : goal.loop-k-init
@@ -19,7 +27,7 @@ loop-k-init c = (omega arith, omega arith)
 
 pub returns-then-d-number_distance : goal.returns-then-d-number_distance
 returns-then-d-number_distance c =
-    let at_number_distance2 = c.before in
+    let at_number_distance2 = c.before.before in
     let f = at_number_distance2.number_distance in
     let i = at_number_distance2.before in
     let s = i.before in
@@ -39,7 +47,7 @@ returns-then-d-number_distance c =
 
 pub loop-k-preserved : goal.loop-k-preserved
 loop-k-preserved c =
-    let at_number_distance2 = c.before in
+    let at_number_distance2 = c.before.before in
     let f = at_number_distance2.number_distance in
     let i = at_number_distance2.before in
     let s = i.before in
@@ -58,8 +66,8 @@ loop-k-preserved c =
 
 pub returns : goal.returns
 returns c =
-    let at_start = c.before.before.before.before.before in
-    let m = c.before in
+    let at_start = c.before.before.before.before.before.before in
+    let m = c.before.before in
     let n = m.count-n in
     let d = m.number_distance-d in
     let a = at_start.args in

@@ -23,7 +23,7 @@ returns-then-j-ge16 c =
 pub returns : goal.returns
 unfolding layout pad
 returns c =
-    let at_wide = c.before.before in
+    let at_wide = c.before.before.before in
     let at_start = at_wide.before.before.before in
     let k = at_start.args.kind in
     let j = at_start.args.j in

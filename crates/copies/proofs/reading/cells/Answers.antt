@@ -12,7 +12,7 @@ loop-k-init c = (search rules, refl, refl)
 
 pub loop-k-preserved : goal.loop-k-preserved
 loop-k-preserved c =
-    let at_loop = c.before.before.before in
+    let at_loop = c.before.before.before.before in
     let l = at_loop.loop-k in
     let b = at_loop.before.before.before in
     let a = b.args in (

@@ -4,7 +4,7 @@ use Rattle.copies.proofs.reading.ids.Goals as goal
 
 pub returns : goal.returns
 returns c =
-    let at_low8 = c.before.before in
+    let at_low8 = c.before.before.before in
     let at_low162 = at_low8.before.before.before in
     let at_start = at_low162.before.before.before.before.before in
     let a = at_low162.before.before in

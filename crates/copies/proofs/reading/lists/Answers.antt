@@ -4,7 +4,7 @@ use Rattle.copies.proofs.reading.lists.Goals as goal
 
 pub returns : goal.returns
 returns c =
-    let r = c.before.before in
+    let r = c.before.before.before in
     let s = r.before in
     lists_made
     s.args.words.now

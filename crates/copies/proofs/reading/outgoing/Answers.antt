@@ -14,7 +14,7 @@ loop-i-init c = (omega arith, refl, refl)
 
 pub loop-i-preserved : goal.loop-i-preserved
 loop-i-preserved c =
-    let at_loop = c.before.before in
+    let at_loop = c.before.before.before in
     let l = at_loop.loop-i in
     let ws = at_loop.args.words.now in
     let m : length (whole ws).outgoing ≡ 32 = outgoing-length ws in (

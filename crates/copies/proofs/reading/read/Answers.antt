@@ -2,10 +2,18 @@
 use Rattle.places.specs.Whole.{whole}
 use Rattle.copies.proofs.RecordLaws.{peer_made}
 use Rattle.copies.proofs.reading.read.Lts as lts
+use Rattle.copies.proofs.reading.read.Tie as tie
 use Rattle.copies.proofs.reading.read.Goals as goal
 
+-- places of the code that the helpers below speak of
+abbrev Start : Type 0
+Start = lts.Start tie.the-claims tie.handed_pre tie.handed_post
+
+abbrev AfterFlow : Type 0
+AfterFlow = lts.After-flow tie.the-claims tie.handed_pre tie.handed_post
+
 -- the places before `flow`
-abbrev to_start : lts.After-flow-flow → lts.Start
+abbrev to_start : AfterFlow → Start
 to_start c = c.before.before.before.before.before.before.before.before.before.before.before
 
 pub lists-lists-requires : goal.lists-lists-requires
@@ -13,37 +21,37 @@ lists-lists-requires c = (to_start c).requires
 
 pub unsequenced-unsequenced-requires : goal.unsequenced-unsequenced-requires
 unsequenced-unsequenced-requires c =
-    let at_flow = c.before in
+    let at_flow = c.before.before in
     (to_start at_flow).requires
 
 pub waiting-waiting-requires : goal.waiting-waiting-requires
 waiting-waiting-requires c =
-    let at_flow = c.before.before in
+    let at_flow = c.before.before.before in
     (to_start at_flow).requires
 
 pub all_channels-channels-requires : goal.all_channels-channels-requires
 all_channels-channels-requires c =
-    let at_flow = c.before.before.before in
+    let at_flow = c.before.before.before.before in
     (to_start at_flow).requires
 
 pub outgoing-outgoing-requires : goal.outgoing-outgoing-requires
 outgoing-outgoing-requires c =
-    let at_flow = c.before.before.before.before in
+    let at_flow = c.before.before.before.before.before in
     (to_start at_flow).requires
 
 pub incoming-incoming-requires : goal.incoming-incoming-requires
 incoming-incoming-requires c =
-    let at_flow = c.before.before.before.before.before in
+    let at_flow = c.before.before.before.before.before.before in
     (to_start at_flow).requires
 
 pub marks-marks-requires : goal.marks-marks-requires
 marks-marks-requires c =
-    let at_flow = c.before.before.before.before.before.before in
+    let at_flow = c.before.before.before.before.before.before.before in
     (to_start at_flow).requires
 
 pub returns : goal.returns
 returns c =
-    let n = c.before in
+    let n = c.before.before in
     let o = n.before in
     let k = o.before in
     let w = k.before in

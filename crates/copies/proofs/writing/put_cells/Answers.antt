@@ -16,7 +16,7 @@ loop-k-init c =
 
 pub loop-k-preserved : goal.loop-k-preserved
 loop-k-preserved c =
-    let at_loop = c.before.before.before in
+    let at_loop = c.before.before.before.before in
     let l = at_loop.loop-k in
     let a = at_loop.args in (
       omega arith,

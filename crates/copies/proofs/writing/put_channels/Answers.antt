@@ -32,7 +32,7 @@ loop-i-init c =
 
 pub loop-i-preserved : goal.loop-i-preserved
 loop-i-preserved c =
-    let at_put_channel = c.before.before in
+    let at_put_channel = c.before.before.before in
     let at_loop = at_put_channel.before.before.before.before in
     let l = at_loop.loop-i in
     let a = at_loop.args in
@@ -40,7 +40,7 @@ loop-i-preserved c =
       omega arith,
       search rules,
       put_turn (λ (p : Peer). p.channels) with_channels (λ (p : Peer) (x y : List Channel). refl) (λ (p : Peer) (x : List Channel). refl)
-          (whole a.words.now) (whole l.words) (whole at_put_channel.put_channel.new.0) a.t2 8 l.i zeros (get_or a.t2 l.i zeros) (sized a.words.now).channels m (omega arith) l.invariant.2 at_put_channel.put_channel.ensures refl,
+          (whole a.words.now) (whole l.words) (whole at_put_channel.put_channel.new.words) a.t2 8 l.i zeros (get_or a.t2 l.i zeros) (sized a.words.now).channels m (omega arith) l.invariant.2 at_put_channel.put_channel.ensures refl,
     )
 
 pub returns : goal.returns

@@ -5,18 +5,18 @@ use Rattle.copies.proofs.writing.put_fixed.Goals as goal
 
 pub returns : goal.returns
 returns c =
-    let at_put_limits = c.before.before in
+    let at_put_limits = c.before.before.before in
     let at_put_bandwidth = at_put_limits.before.before.before.before in
     let at_put_ids = at_put_bandwidth.before.before.before.before in
     let a = at_put_ids.args in
     fixed_put
     (whole a.words.now)
-    (whole at_put_ids.put_ids_lem.new.0)
-    (whole at_put_bandwidth.put_bandwidth_lem.new.0)
-    (whole at_put_limits.put_limits_lem.new.0)
+    (whole at_put_ids.put_ids.new.words)
+    (whole at_put_bandwidth.put_bandwidth.new.words)
+    (whole at_put_limits.put_limits.new.words)
     a.ids
     a.bandwidth
     a.limits
-    at_put_ids.put_ids_lem.ensures
-    at_put_bandwidth.put_bandwidth_lem.ensures
-    at_put_limits.put_limits_lem.ensures
+    at_put_ids.put_ids.ensures
+    at_put_bandwidth.put_bandwidth.ensures
+    at_put_limits.put_limits.ensures

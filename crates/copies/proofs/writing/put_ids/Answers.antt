@@ -7,13 +7,13 @@ use Rattle.copies.proofs.writing.put_ids.Goals as goal
 
 pub bounds-words-4 : goal.bounds-words-4
 bounds-words-4 c =
-    let a = c.before.before.before in
+    let a = c.before.before.before.before in
     let b = a.before.before in
     omega (arith, length-sets b.args.words.now 0 (a.wide16-outgoing_peer.result ∷ c.wide16-incoming_peer.result ∷ b.args.x.connect ∷ c.wide8-outgoing_session.result ∷ []), b.requires)
 
 pub returns : goal.returns
 returns c =
-    let d = c.before in
+    let d = c.before.before in
     let e = d.before in
     let a = e.before in
     let b = a.before.before in

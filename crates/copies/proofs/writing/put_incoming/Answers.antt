@@ -23,7 +23,7 @@ loop-i-init c =
 pub loop-i-preserved : goal.loop-i-preserved
 unfolding no_incoming
 loop-i-preserved c =
-    let at_put_incoming = c.before.before in
+    let at_put_incoming = c.before.before.before in
     let at_loop = at_put_incoming.before.before.before.before in
     let l = at_loop.loop-i in
     let a = at_loop.args in
@@ -31,7 +31,7 @@ loop-i-preserved c =
       omega arith,
       search rules,
       put_turn (λ (p : Peer). p.incoming) with_incoming (λ (p : Peer) (x y : List Incoming). refl) (λ (p : Peer) (x : List Incoming). refl)
-          (whole a.words.now) (whole l.words) (whole at_put_incoming.put_incoming.new.0) a.t2 12 l.i no_incoming (get_or a.t2 l.i no_incoming) (incoming-length a.words.now) m (omega arith) l.invariant.2 at_put_incoming.put_incoming.ensures refl,
+          (whole a.words.now) (whole l.words) (whole at_put_incoming.put_incoming.new.words) a.t2 12 l.i no_incoming (get_or a.t2 l.i no_incoming) (incoming-length a.words.now) m (omega arith) l.invariant.2 at_put_incoming.put_incoming.ensures refl,
     )
 
 pub returns : goal.returns

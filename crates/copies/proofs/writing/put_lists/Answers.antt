@@ -21,15 +21,15 @@ returns c =
     let s = at_words.before in
     let x = at_start.args.x in
     let ws = at_start.args.words.now in
-    let v = s.put_out_lem.new.0 in
+    let v = s.put_out.new.0 in
     let w = r.put_out-2.new.0 in
     let u = o.put_out-3.new.0 in
     let lv : length v ≡ 1236 = at_words.words-1.given ∙ at_start.requires in
     let lw : length w ≡ 1236 = at_words2.words-2-1.given ∙ lv in
     let lu : length u ≡ 1236 = at_words3.words-3-1.given ∙ lw in
-    let es : whole s.put_out_lem.new.0 ≡ with_lists (whole ws) (with_sent_list (whole ws).lists x.sent) =
-    list_in OutList out_list_from (λ (y : OutList). with_lists (whole ws) (with_sent_list (whole ws).lists y)) ws s.put_out_lem.new.0 43 32 (row_sent ws at_start.requires) x.sent x.sent.len x.sent.slots
-    s.put_out_lem.ensures.1.0 s.put_out_lem.ensures.0 s.put_out_lem.ensures.1.1 in
+    let es : whole s.put_out.new.0 ≡ with_lists (whole ws) (with_sent_list (whole ws).lists x.sent) =
+    list_in OutList out_list_from (λ (y : OutList). with_lists (whole ws) (with_sent_list (whole ws).lists y)) ws s.put_out.new.0 43 32 (row_sent ws at_start.requires) x.sent x.sent.len x.sent.slots
+    s.put_out.ensures.long s.put_out.ensures.is s.put_out.ensures.back in
     let er : whole r.put_out-2.new.0 ≡ with_lists (whole v) (with_reliable_list (whole v).lists x.send_reliable) =
     list_in OutList out_list_from (λ (y : OutList). with_lists (whole v) (with_reliable_list (whole v).lists y)) v r.put_out-2.new.0 76 32 (row_reliable v lv) x.send_reliable x.send_reliable.len x.send_reliable.slots
     r.put_out-2.ensures.long r.put_out-2.ensures.is r.put_out-2.ensures.back in

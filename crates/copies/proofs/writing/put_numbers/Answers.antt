@@ -15,13 +15,13 @@ returns c =
     let a = at_put_standing.args in
     numbered_put
     (whole a.words.now)
-    (whole at_put_standing.put_standing_lem.new.0)
-    (whole at_put_totals.put_totals_lem.new.0)
-    (whole at_put_times.put_times_lem.new.0)
-    (whole at_put_loss.put_loss_lem.new.0)
-    (whole at_put_throttling.put_throttling_lem.new.0)
-    (whole at_put_trips.put_trips_lem.new.0)
-    (whole at_put_flow.put_flow_lem.new.0)
+    (whole at_put_standing.put_standing.new.0)
+    (whole at_put_totals.put_totals.new.0)
+    (whole at_put_times.put_times.new.0)
+    (whole at_put_loss.put_loss.new.0)
+    (whole at_put_throttling.put_throttling.new.0)
+    (whole at_put_trips.put_trips.new.0)
+    (whole at_put_flow.put_flow.new.0)
     a.standing
     a.totals
     a.times
@@ -29,10 +29,10 @@ returns c =
     a.throttling
     a.trips
     a.flow
-    at_put_standing.put_standing_lem.ensures
-    at_put_totals.put_totals_lem.ensures
-    at_put_times.put_times_lem.ensures
-    at_put_loss.put_loss_lem.ensures
-    at_put_throttling.put_throttling_lem.ensures
-    at_put_trips.put_trips_lem.ensures
-    at_put_flow.put_flow_lem.ensures
+    at_put_standing.put_standing.ensures
+    at_put_totals.put_totals.ensures
+    at_put_times.put_times.ensures
+    at_put_loss.put_loss.ensures
+    at_put_throttling.put_throttling.ensures
+    at_put_trips.put_trips.ensures
+    at_put_flow.put_flow.ensures

@@ -23,7 +23,7 @@ loop-i-init c =
 pub loop-i-preserved : goal.loop-i-preserved
 unfolding no_outgoing
 loop-i-preserved c =
-    let at_put_outgoing = c.before.before in
+    let at_put_outgoing = c.before.before.before in
     let at_loop = at_put_outgoing.before.before.before.before in
     let l = at_loop.loop-i in
     let a = at_loop.args in
@@ -31,7 +31,7 @@ loop-i-preserved c =
       omega arith,
       search rules,
       put_turn (λ (p : Peer). p.outgoing) with_outgoing (λ (p : Peer) (x y : List Outgoing). refl) (λ (p : Peer) (x : List Outgoing). refl)
-          (whole a.words.now) (whole l.words) (whole at_put_outgoing.put_outgoing.new.0) a.t2 32 l.i no_outgoing (get_or a.t2 l.i no_outgoing) (outgoing-length a.words.now) m (omega arith) l.invariant.2 at_put_outgoing.put_outgoing.ensures refl,
+          (whole a.words.now) (whole l.words) (whole at_put_outgoing.put_outgoing.new.words) a.t2 32 l.i no_outgoing (get_or a.t2 l.i no_outgoing) (outgoing-length a.words.now) m (omega arith) l.invariant.2 at_put_outgoing.put_outgoing.ensures refl,
     )
 
 pub returns : goal.returns

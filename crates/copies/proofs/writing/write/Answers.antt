@@ -6,7 +6,7 @@ use Rattle.copies.proofs.writing.write.Goals as goal
 
 pub put_marks-requires : goal.put_marks-requires
 put_marks-requires c =
-    let at_words8 = c.before.before in
+    let at_words8 = c.before.before.before in
     let at_words7 = at_words8.before.before.before.before in
     let at_words6 = at_words7.before.before.before.before in
     let at_words5 = at_words6.before.before.before.before in
@@ -27,7 +27,7 @@ put_marks-requires c =
 
 pub returns : goal.returns
 returns c =
-    let at_put_marks = c.before.before in
+    let at_put_marks = c.before.before.before in
     let at_put_incoming = at_put_marks.before.before.before.before in
     let at_put_outgoing = at_put_incoming.before.before.before.before in
     let at_put_channels = at_put_outgoing.before.before.before.before in
@@ -41,21 +41,21 @@ returns c =
     peer_put
     a.peer
     (whole a.words.now)
-    (whole at_put_fixed.put_fixed.new.0)
-    (whole at_put_numbers.put_numbers.new.0)
-    (whole at_put_lists.put_lists.new.0)
-    (whole at_put_groups.put_unsequenced_lem.new.0)
-    (whole at_put_waiting.put_waiting_lem.new.0)
-    (whole at_put_channels.put_channels.new.0)
-    (whole at_put_outgoing.put_outgoing.new.0)
-    (whole at_put_incoming.put_incoming.new.0)
-    (whole at_put_marks.put_marks_lem.new.0)
+    (whole at_put_fixed.put_fixed.new.words)
+    (whole at_put_numbers.put_numbers.new.words)
+    (whole at_put_lists.put_lists.new.words)
+    (whole at_put_groups.put_unsequenced.new.words)
+    (whole at_put_waiting.put_waiting.new.words)
+    (whole at_put_channels.put_channels.new.words)
+    (whole at_put_outgoing.put_outgoing.new.words)
+    (whole at_put_incoming.put_incoming.new.words)
+    (whole at_put_marks.put_marks.new.words)
     at_put_fixed.put_fixed.ensures
     at_put_numbers.put_numbers.ensures
     at_put_lists.put_lists.ensures
-    at_put_groups.put_unsequenced_lem.ensures
-    at_put_waiting.put_waiting_lem.ensures
+    at_put_groups.put_unsequenced.ensures
+    at_put_waiting.put_waiting.ensures
     at_put_channels.put_channels.ensures
     at_put_outgoing.put_outgoing.ensures
     at_put_incoming.put_incoming.ensures
-    at_put_marks.put_marks_lem.ensures
+    at_put_marks.put_marks.ensures

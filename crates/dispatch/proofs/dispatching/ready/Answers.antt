@@ -9,19 +9,36 @@ use Rattle.dispatch.specs.Dispatching.{ready_count, ready_last}
 use Rattle.dispatch.proofs.DispatchingLaws.{count_turn, last_turn, count_stop, last_stop, count_end, last_end}
 use Rattle.dispatch.proofs.DispatchingPlaces.{count_more}
 use Rattle.dispatch.proofs.dispatching.ready.Lts as lts
+use Rattle.dispatch.proofs.dispatching.ready.Tie as tie
 use Rattle.dispatch.proofs.dispatching.ready.Goals as goal
 
+-- places of the code that the helpers below speak of
+abbrev Start : Type 0
+Start = lts.Start tie.the-claims tie.handed_pre tie.handed_post goal.the-invariant-loop-k goal.the-decreases-loop-k
+
+abbrev AtLoop : Type 0
+AtLoop = lts.At-loop tie.the-claims tie.handed_pre tie.handed_post goal.the-invariant-loop-k goal.the-decreases-loop-k
+
+abbrev InLoop : Type 0
+InLoop = lts.In-loop tie.the-claims tie.handed_pre tie.handed_post goal.the-invariant-loop-k goal.the-decreases-loop-k
+
+abbrev AfterSlotAt : Type 0
+AfterSlotAt = lts.After-slot_at tie.the-claims tie.handed_pre tie.handed_post goal.the-invariant-loop-k goal.the-decreases-loop-k
+
+abbrev AfterFollows : Type 0
+AfterFollows = lts.After-follows tie.the-claims tie.handed_pre tie.handed_post goal.the-invariant-loop-k goal.the-decreases-loop-k
+
 -- the places before `follows`
-abbrev to_slot_at : lts.After-follows → lts.After-slot_at-s
+abbrev to_slot_at : AfterFollows → AfterSlotAt
 to_slot_at c = c.before.before
 
-abbrev to_loop_test : lts.After-follows → lts.In-loop-k
+abbrev to_loop_test : AfterFollows → InLoop
 to_loop_test c = (to_slot_at c).before
 
-abbrev to_loop : lts.After-follows → lts.At-loop-k
+abbrev to_loop : AfterFollows → AtLoop
 to_loop c = (to_loop_test c).before
 
-abbrev to_start : lts.After-follows → lts.Start
+abbrev to_start : AfterFollows → Start
 to_start c = (to_loop c).before.before.before
 
 pub loop-k-init : goal.loop-k-init
@@ -29,7 +46,7 @@ loop-k-init c = (omega arith, omega arith, refl)
 
 pub returns-then-not-follows : goal.returns-then-not-follows
 returns-then-not-follows c =
-    let at_Follows = c.before in
+    let at_Follows = c.before.before in
     let m = to_loop at_Follows in
     let n = m.count-n in
     let a = (to_start at_Follows).args in
@@ -48,7 +65,7 @@ returns-then-not-follows c =
 
 pub loop-k-preserved : goal.loop-k-preserved
 loop-k-preserved c =
-    let at_Follows = c.before.before in
+    let at_Follows = c.before.before.before in
     let m = to_loop at_Follows in
     let n = m.count-n in
     let a = (to_start at_Follows).args in
@@ -70,7 +87,7 @@ loop-k-preserved c =
 
 pub returns : goal.returns
 returns c =
-    let m = c.before in
+    let m = c.before.before in
     let n = m.count-n in
     let a = m.args in
     let p = whole a.words.now in

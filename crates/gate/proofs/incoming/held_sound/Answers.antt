@@ -15,22 +15,33 @@ use Rattle.gate.proofs.Groups.{total_is}
 use Rattle.places.proofs.Sized.{sized}
 use Rattle.gate.proofs.Held.{HeldTurn, held_stop, held_turn, held_sums, held_counts, held_end}
 use Rattle.gate.proofs.incoming.held_sound.Lts as lts
+use Rattle.gate.proofs.incoming.held_sound.Tie as tie
 use Rattle.gate.proofs.incoming.held_sound.Goals as goal
 
+-- places of the code that the helpers below speak of
+abbrev Start : Type 0
+Start = lts.Start tie.the-claims tie.handed_pre tie.handed_post goal.the-invariant-loop-k goal.the-decreases-loop-k
+
+abbrev AtLoop : Type 0
+AtLoop = lts.At-loop tie.the-claims tie.handed_pre tie.handed_post goal.the-invariant-loop-k goal.the-decreases-loop-k
+
+abbrev AfterListSound : Type 0
+AfterListSound = lts.After-list_sound tie.the-claims tie.handed_pre tie.handed_post goal.the-invariant-loop-k goal.the-decreases-loop-k
+
 -- the places before `list-sound`
-abbrev to_loop : lts.After-list_sound-walk → lts.At-loop-k
+abbrev to_loop : AfterListSound → AtLoop
 to_loop c = c.before.before.before
 
-abbrev to_start : lts.After-list_sound-walk → lts.Start
+abbrev to_start : AfterListSound → Start
 to_start c = (to_loop c).before.before.before
 
 -- the turn there
-turned : (c : lts.After-list_sound-walk →
+turned : (c : AfterListSound →
     let a = (to_start c).args in
     let p = whole a.words.now in
     let m = (to_loop c).loop-k in
     let w = c.list_sound-walk in
-    HeldTurn p.marks p.incoming a.count p.channels a.count m.k (row_at (194 + m.k * 17 + 4) 12 a.words.now) m.marks w.result.ok w.new.1.1.1.1.1.0
+    HeldTurn p.marks p.incoming a.count p.channels a.count m.k (row_at (194 + m.k * 17 + 4) 12 a.words.now) m.marks w.result.ok w.new.marks
 turned c =
     let b = to_start c in
     let ws = b.args.words.now in
@@ -46,12 +57,12 @@ loop-k-init c = (search rules, search rules, refl, refl, search rules, refl, sea
 
 pub returns-then-not-walk : goal.returns-then-not-walk
 returns-then-not-walk c =
-    let at_list_sound = c.before.before.before.before in
+    let at_list_sound = c.before.before.before.before.before in
     rw ((to_loop at_list_sound).loop-k.invariant.2, held_stop (turned at_list_sound) (not-true _ c.if-not-walk.true))
 
 pub loop-k-preserved : goal.loop-k-preserved
 loop-k-preserved c =
-    let at_list_sound = c.before.before.before.before in
+    let at_list_sound = c.before.before.before.before.before in
     let m = (to_loop at_list_sound).loop-k in
     let w = at_list_sound.list_sound-walk in
     let t = turned at_list_sound in
@@ -67,7 +78,7 @@ loop-k-preserved c =
 
 pub returns-then-words-total : goal.returns-then-words-total
 returns-then-words-total c =
-    let at_loop = c.before.before.before in
+    let at_loop = c.before.before.before.before in
     let b = at_loop.before.before.before in
     let a = b.args in
     let ws = a.words.now in
@@ -80,7 +91,7 @@ returns-then-words-total c =
 
 pub returns : goal.returns
 returns c =
-    let at_if2 = c.before.before in
+    let at_if2 = c.before.before.before in
     let at_loop = at_if2.before.before.before in
     let b = at_loop.before.before.before in
     let a = b.args in

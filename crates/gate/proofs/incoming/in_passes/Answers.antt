@@ -11,7 +11,7 @@ returns-then-not-kind_fit c =
 
 pub returns-then-count-channel : goal.returns-then-count-channel
 returns-then-count-channel c =
-    let at_kind = c.before.before.before in
+    let at_kind = c.before.before.before.before in
     let kind = at_kind.kind_fit in
     let marks = at_kind.marks-marks in
     let slot = at_kind.incoming_at-slot in
@@ -19,7 +19,7 @@ returns-then-count-channel c =
 
 pub returns-then-not-own : goal.returns-then-not-own
 returns-then-not-own c =
-    let at_kind = c.before.before.before.before in
+    let at_kind = c.before.before.before.before.before in
     let kind = at_kind.kind_fit in
     let marks = at_kind.marks-marks in
     let slot = at_kind.incoming_at-slot in
@@ -28,7 +28,7 @@ returns-then-not-own c =
 
 pub returns : goal.returns
 returns c =
-    let at_kind = c.before.before.before.before in
+    let at_kind = c.before.before.before.before.before in
     let kind = at_kind.kind_fit in
     let marks = at_kind.marks-marks in
     let slot = at_kind.incoming_at-slot in

@@ -15,26 +15,43 @@ use Rattle.gate.proofs.Turns.{Listed, left_all, long, end, Turn, past, twice, un
 use Rattle.gate.proofs.Stops.{says}
 use Rattle.gate.proofs.Sums.{sums_stop, at_most_one}
 use Rattle.gate.proofs.incoming.list_sound.Lts as lts
+use Rattle.gate.proofs.incoming.list_sound.Tie as tie
 use Rattle.gate.proofs.incoming.list_sound.Goals as goal
 
+-- places of the code that the helpers below speak of
+abbrev Start : Type 0
+Start = lts.Start tie.the-claims tie.handed_pre tie.handed_post goal.the-invariant-loop-j goal.the-decreases-loop-j
+
+abbrev AfterNarrow : Type 0
+AfterNarrow = lts.After-narrow tie.the-claims tie.handed_pre tie.handed_post goal.the-invariant-loop-j goal.the-decreases-loop-j
+
+abbrev AtLoop : Type 0
+AtLoop = lts.At-loop tie.the-claims tie.handed_pre tie.handed_post goal.the-invariant-loop-j goal.the-decreases-loop-j
+
+abbrev AfterNarrow2 : Type 0
+AfterNarrow2 = lts.After-narrow2 tie.the-claims tie.handed_pre tie.handed_post goal.the-invariant-loop-j goal.the-decreases-loop-j
+
+abbrev AfterInPasses : Type 0
+AfterInPasses = lts.After-in_passes tie.the-claims tie.handed_pre tie.handed_post goal.the-invariant-loop-j goal.the-decreases-loop-j
+
 -- the places before `narrow2`
-abbrev to_loop : lts.After-narrow-s → lts.At-loop-j
+abbrev to_loop : AfterNarrow2 → AtLoop
 to_loop c = c.before.before.before
 
-abbrev to_narrow : lts.After-narrow-s → lts.After-narrow-n
+abbrev to_narrow : AfterNarrow2 → AfterNarrow
 to_narrow c = (to_loop c).before.before
 
-abbrev to_start : lts.After-narrow-s → lts.Start
+abbrev to_start : AfterNarrow2 → Start
 to_start c = (to_narrow c).before.before.before.before
 
 -- how the slots pass
-abbrev passing : lts.Start → ℕ → Bool
+abbrev passing : Start → ℕ → Bool
 passing b =
     let p = whole b.args.words.now in
     in_passes p.marks p.incoming b.args.count b.args.own b.args.k
 
 -- the turn there
-turned : (c : lts.After-narrow-s
+turned : (c : AfterNarrow2
     → Turn (passing (to_start c)) (to_start c).args.words.now (to_start c).args.at 12 (to_start c).args.marks.now (to_loop c).loop-j.marks (to_loop c).loop-j.j c.narrow-s.result
 turned c =
     let b = to_start c in
@@ -49,15 +66,15 @@ turned c =
     }
 
 -- and from `in-passes` back to it
-abbrev to_turn : lts.After-in_passes → lts.After-narrow-s
+abbrev to_turn : AfterInPasses → AfterNarrow2
 to_turn c = c.before.before.before.before
 
 -- what the test says of the slot
-tested : (c : lts.After-in_passes (b : Bool) → c.in_passes.result ≡ b → passing (to_start (to_turn c)) (to_turn c).narrow-s.result ≡ b
+tested : (c : AfterInPasses (b : Bool) → c.in_passes.result ≡ b → passing (to_start (to_turn c)) (to_turn c).narrow-s.result ≡ b
 tested c b e = says c.in_passes.result (passing (to_start (to_turn c)) (to_turn c).narrow-s.result) b c.in_passes.ensures e
 
 -- a slot that passes is short
-short : (c : lts.After-in_passes → c.in_passes.result ≡ true
+short : (c : AfterInPasses → c.in_passes.result ≡ true
     → (get_or (whole (to_start (to_turn c)).args.words.now).incoming (to_turn c).narrow-s.result no_incoming).length ≤ 32768
 short c e =
     let a = (to_start (to_turn c)).args in
@@ -66,7 +83,7 @@ short c e =
 
 pub returns-then-n-gt-INCOMING : goal.returns-then-n-gt-INCOMING
 returns-then-n-gt-INCOMING c =
-    let at_start = c.before.before.before.before.before in
+    let at_start = c.before.before.before.before.before.before in
     let a = at_start.args in
     let ws = a.words.now in
     let v = c.narrow-n in
@@ -78,29 +95,29 @@ pub loop-j-init : goal.loop-j-init
 loop-j-init c = (search rules, search rules, left_all _ _ _, refl, search rules, refl, search rules)
 
 pub returns-then-s-ge-INCOMING : goal.returns-then-s-ge-INCOMING
-returns-then-s-ge-INCOMING c = record { walks = past (turned c.before) (omega arith); sums = sums_stop; counts = sums_stop }
+returns-then-s-ge-INCOMING c = record { walks = past (turned c.before.before) (omega arith); sums = sums_stop; counts = sums_stop }
 
 pub returns-then-marks-s-eq1 : goal.returns-then-marks-s-eq1
-returns-then-marks-s-eq1 c = record { walks = twice (turned c.before.before.before) (omega arith) c.if-marks-s-eq1.true; sums = sums_stop; counts = sums_stop }
+returns-then-marks-s-eq1 c = record { walks = twice (turned c.before.before.before.before) (omega arith) c.if-marks-s-eq1.true; sums = sums_stop; counts = sums_stop }
 
 pub returns-then-not-in_passes : goal.returns-then-not-in_passes
 returns-then-not-in_passes c =
-    let at_in_passes = c.before in
+    let at_in_passes = c.before.before in
     (unfit (turned (to_turn at_in_passes)) (omega arith) at_in_passes.if-marks-s-eq1.false (tested at_in_passes false (not-true _ c.if-not-in_passes.true-raw)), (sums_stop, sums_stop))
 
 pub overflow_add-total : goal.overflow_add-total
-overflow_add-total c = omega (arith, c.length_at-total.ensures, short c.before.before (not-false _ c.if-not-in_passes.false-raw))
+overflow_add-total c = omega (arith, c.length_at-total.ensures, short c.before.before.before (not-false _ c.if-not-in_passes.false-raw))
 
 pub overflow_add-blocks : goal.overflow_add-blocks
 overflow_add-blocks c =
-    let at_narrow2 = c.before.before.before.before.before.before.before in
+    let at_narrow2 = c.before.before.before.before.before.before.before.before in
     let b = to_start at_narrow2 in
     let slots = (whole b.args.words.now).incoming in
     omega (arith, c.block_at-blocks.ensures, at_most_one (is_block (get_or slots at_narrow2.narrow-s.result no_incoming)))
 
 pub loop-j-preserved : goal.loop-j-preserved
 loop-j-preserved c =
-    let at_in_passes = c.before.before.before in
+    let at_in_passes = c.before.before.before.before in
     let at_narrow2 = to_turn at_in_passes in
     let slots = (whole (to_start at_narrow2).args.words.now).incoming in
     let m = (to_loop at_narrow2).loop-j in
@@ -122,7 +139,7 @@ loop-j-preserved c =
 
 pub returns : goal.returns
 returns c =
-    let at_narrow = c.before.before.before in
+    let at_narrow = c.before.before.before.before in
     let at_start = at_narrow.before.before.before.before in
     let a = at_start.args in
     let ws = a.words.now in

@@ -9,11 +9,10 @@ use Rattle.link_in.specs.Steps as inward
 use Rattle.link_in.proofs.Calling.{came_beside}
 use Rattle.link.specs.declared.calls.Reply.TheVariants as vr
 use Rattle.link.proofs.Calling.{promised}
-use Rattle.link.proofs.lent.call.Lts as lts
 use Rattle.link.proofs.lent.call.Goals as goal
 
 -- the places before `call6`
-abbrev to_call5 : lts.After-call-reply-in-Inward → lts.In-Inward-2
+abbrev to_call5 : goal.After-call-reply-in-Inward → goal.In-Inward-2
 to_call5 c = c.before.before.before.before.before
 
 pub returns-in-Reset : goal.returns-in-Reset

@@ -11,7 +11,7 @@ use Rattle.measure.proofs.incoming.measure_fragment.Goals as goal
 
 pub returns : goal.returns
 returns c =
-    let at_arrive = c.before.before.before in
+    let at_arrive = c.before.before.before.before in
     let at_piece_of = at_arrive.before.before.before in
     let a = at_piece_of.args in
     let x : State = record { peer = whole a.words.now; store = a.store.now; second = a.second.now } in

@@ -10,7 +10,7 @@ use Rattle.measure.proofs.linking.measure_link.Goals as goal
 
 pub returns : goal.returns
 returns c =
-    let at_call = c.before.before.before.before.before in
+    let at_call = c.before.before.before.before.before.before in
     let at_call_of = at_call.before.before.before.before in
     let a = at_call_of.args in
     let x : State = record { peer = whole a.words.now; store = a.store.now; second = a.second.now } in

@@ -10,10 +10,18 @@ use Rattle.places.proofs.GroupLaws.{standing_is}
 use Rattle.places.proofs.Sized.{sized}
 use Rattle.order.proofs.UsedLaws.{held_hit, held_miss, held_end, held_at}
 use Rattle.order.proofs.used.held.Lts as lts
+use Rattle.order.proofs.used.held.Tie as tie
 use Rattle.order.proofs.used.held.Goals as goal
 
+-- places of the code that the helpers below speak of
+abbrev Start : Type 0
+Start = lts.Start tie.the-claims tie.handed_pre tie.handed_post goal.the-invariant-loop-c goal.the-decreases-loop-c
+
+abbrev AtLoop : Type 0
+AtLoop = lts.At-loop tie.the-claims tie.handed_pre tie.handed_post goal.the-invariant-loop-c goal.the-decreases-loop-c
+
 -- the places before `loop`
-abbrev to_start : lts.At-loop-c → lts.Start
+abbrev to_start : AtLoop → Start
 to_start c = c.before.before.before.before
 
 pub overflow_cast-words : goal.overflow_cast-words
@@ -24,7 +32,7 @@ loop-c-init c = (omega arith, c.least-count.ensures, refl)
 
 pub returns-then-names : goal.returns-then-names
 returns-then-names c =
-    let at_loop = c.before.before.before in
+    let at_loop = c.before.before.before.before in
     let l = at_loop.loop-c in
     let start = to_start at_loop in
     let ws = start.args.words.now in
@@ -36,7 +44,7 @@ returns-then-names c =
 
 pub loop-c-preserved : goal.loop-c-preserved
 loop-c-preserved c =
-    let at_loop = c.before.before.before in
+    let at_loop = c.before.before.before.before in
     let l = at_loop.loop-c in
     let start = to_start at_loop in
     let ws = start.args.words.now in
@@ -49,7 +57,7 @@ loop-c-preserved c =
 pub returns : goal.returns
 returns c =
     let l = c.loop-c in
-    let start = to_start c.before in
+    let start = to_start c.before.before in
     let ws = start.args.words.now in
     let n : (whole ws).standing.channels ≡ get_or ws 6 0 = ap (λ (x : Standing). x.channels) (standing_is ws) in
     let e : length (whole ws).channels ≡ 8 = (sized ws).channels in

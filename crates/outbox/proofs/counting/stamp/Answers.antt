@@ -13,7 +13,7 @@ returns-then-is_acknowledged c =
 
 pub returns-then-is_set : goal.returns-then-is_set
 returns-then-is_set c =
-    let at_is_set = c.before.before in
+    let at_is_set = c.before.before.before in
     rw (
       c.stamp_group.ensures,
       ne_eqb _ _ at_is_set.if-channel-eq-ITSELF.false,
@@ -23,7 +23,7 @@ returns-then-is_set c =
 
 pub returns : goal.returns
 returns c =
-    let at_is_set = c.before.before in
+    let at_is_set = c.before.before.before in
     rw (
       c.stamp_unreliable.ensures,
       ne_eqb _ _ at_is_set.if-channel-eq-ITSELF.false,

@@ -6,12 +6,12 @@ use Rattle.outbox.proofs.pieces.grown.Goals as goal
 
 pub overflow_cast-size : goal.overflow_cast-size
 overflow_cast-size c =
-    let small : c.type_size.result ≤ 48 = rw c.type_size.ensures (size_le _) in
+    let small : c.size_of-size.result ≤ 48 = rw c.size_of-size.ensures (size_le _) in
     search rules
 
 pub returns : goal.returns
 returns c =
-    let at_wrapping_add_u32 = c.before.before in
+    let at_wrapping_add_u32 = c.before.before.before in
     let at_start = at_wrapping_add_u32.before.before.before.before in
     c.wrapping_add_u32.ensures.value
-    ∙ rw (at_wrapping_add_u32.wrapping_add_u32-more.ensures.value, at_wrapping_add_u32.type_size.ensures) (sum_in_turn at_start.args.total _ _)
+    ∙ rw (at_wrapping_add_u32.wrapping_add_u32-more.ensures.value, at_wrapping_add_u32.size_of-size.ensures) (sum_in_turn at_start.args.total _ _)

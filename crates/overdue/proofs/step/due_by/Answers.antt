@@ -5,7 +5,7 @@ use Rattle.overdue.proofs.step.due_by.Goals as goal
 
 pub returns-then-not-is_given_up : goal.returns-then-not-is_given_up
 returns-then-not-is_given_up c =
-    let g = c.before.before in
+    let g = c.before.before.before in
     let e = g.before in
     rw (
       ← e.earliest_by-earliest.ensures,
@@ -16,7 +16,7 @@ returns-then-not-is_given_up c =
 
 pub returns : goal.returns
 returns c =
-    let g = c.before.before in
+    let g = c.before.before.before in
     let e = g.before in
     rw (
       ← e.earliest_by-earliest.ensures,

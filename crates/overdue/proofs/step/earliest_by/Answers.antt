@@ -10,7 +10,7 @@ returns-then-earliest-eq0 c = rw (eq-eqb _ _ c.if-earliest-eq0.true)
 
 pub returns-then-past-ge-OVERFLOW : goal.returns-then-past-ge-OVERFLOW
 returns-then-past-ge-OVERFLOW c =
-    let f = c.before in
+    let f = c.before.before in
     let a = f.args in
     let plain : f.wrapping_sub_u32-past.result ≡ minus 32 a.sent a.earliest =
     minus_of a.sent a.earliest _ (search rules) (search rules) (search rules) f.wrapping_sub_u32-past.ensures.value in
@@ -18,7 +18,7 @@ returns-then-past-ge-OVERFLOW c =
 
 pub returns : goal.returns
 returns c =
-    let f = c.before in
+    let f = c.before.before in
     let a = f.args in
     let plain : f.wrapping_sub_u32-past.result ≡ minus 32 a.sent a.earliest =
     minus_of a.sent a.earliest _ (search rules) (search rules) (search rules) f.wrapping_sub_u32-past.ensures.value in

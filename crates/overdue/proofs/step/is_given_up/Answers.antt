@@ -8,12 +8,12 @@ returns-then-earliest-eq0 c = rw (eq-eqb _ _ c.if-earliest-eq0.true)
 
 pub returns-then-limits-apart : goal.returns-then-limits-apart
 returns-then-limits-apart c =
-    let d = c.before.before in
+    let d = c.before.before.before in
     rw (ne_eqb _ _ d.if-earliest-eq0.false, ← d.distance-apart.ensures, le-leb _ _ c.if-limits-apart.true)
 
 pub returns-then-not-reaches : goal.returns-then-not-reaches
 returns-then-not-reaches c =
-    let r = c.before in
+    let r = c.before.before in
     let d = r.before.before.before in
     rw (
       ne_eqb _ _ d.if-earliest-eq0.false,
@@ -24,7 +24,7 @@ returns-then-not-reaches c =
 
 pub returns : goal.returns
 returns c =
-    let at_reaches = c.before.before in
+    let at_reaches = c.before.before.before in
     let d = at_reaches.before.before.before in
     rw (
       ne_eqb _ _ d.if-earliest-eq0.false,

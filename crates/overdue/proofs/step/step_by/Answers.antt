@@ -11,14 +11,14 @@ returns-then-walk c =
 
 pub returns-then-is_due : goal.returns-then-is_due
 returns-then-is_due c =
-    let d = c.before.before in
+    let d = c.before.before.before in
     let a = d.args in
     c.due_by.ensures
     ∙ sym (step_due a.limits a.clock a.walk a.o d.if-walk.false (sym d.is_due.ensures ∙ c.if-is_due.true))
 
 pub returns : goal.returns
 returns c =
-    let n = c.before in
+    let n = c.before.before in
     let d = n.before.before in
     let a = d.args in
     c.stays_in-2.ensures

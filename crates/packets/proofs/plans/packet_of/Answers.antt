@@ -6,4 +6,4 @@ pub returns-then-length-fragment : goal.returns-then-length-fragment
 returns-then-length-fragment c = rw (le-leb _ _ c.if-length-fragment.true, c.whole.ensures)
 
 pub returns : goal.returns
-returns c = rw (lt-leb _ _ c.if-length-fragment.false, c.start_of_lem.ensures, c.piece_count-count.ensures)
+returns c = rw (lt-leb _ _ c.if-length-fragment.false, c.start_of-start.ensures, c.piece_count-count.ensures)

@@ -3,9 +3,9 @@ use mathlib.Core.Path.{sym, ◌∙◌}
 use Rattle.packets.proofs.plans.plan_gate.Goals as goal
 
 pub returns-in-Shut : goal.returns-in-Shut
-returns-in-Shut c = rw (sym c.send_gate_lem.ensures ∙ c.in-Shut.is)
+returns-in-Shut c = rw (sym c.send_gate-gate.ensures ∙ c.in-Shut.is)
 
 pub returns : goal.returns
 returns c =
-    let t = c.before in
-    rw (sym t.send_gate_lem.ensures ∙ t.in_default.is) c.queue_gate.ensures
+    let t = c.before.before in
+    rw (sym t.send_gate-gate.ensures ∙ t.in_default.is) c.queue_gate.ensures

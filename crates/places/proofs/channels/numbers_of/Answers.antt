@@ -5,7 +5,7 @@ use Rattle.places.proofs.channels.numbers_of.Goals as goal
 
 pub returns : goal.returns
 returns c =
-    let at_low163 = c.before.before in
+    let at_low163 = c.before.before.before in
     let at_start = at_low163.before.before.before.before.before.before.before in
     let j = at_low163.before.before in
     let i = j.before.before in

@@ -5,5 +5,5 @@ use Rattle.places.proofs.groups.flow.Goals as goal
 
 pub returns : goal.returns
 returns c =
-    let at_low16 = c.before.before.before in
+    let at_low16 = c.before.before.before.before in
     sym (flow_is at_low16.args.words.now at_low16.low16.result at_low16.low16.ensures)

@@ -10,5 +10,5 @@ use Rattle.places.proofs.pools.brief_at.Goals as goal
 
 pub returns : goal.returns
 returns c =
-    let b = c.before.before.before in
+    let b = c.before.before.before.before in
     c.brief_at.ensures ∙ ap (λ (x : List Outgoing). brief_of (get_or x b.args.i no_outgoing)) (sym (pool_is b.args.words.now))

@@ -9,5 +9,5 @@ use Rattle.places.proofs.pools.incoming_at.Goals as goal
 
 pub returns : goal.returns
 returns c =
-    let b = c.before.before.before in
+    let b = c.before.before.before.before in
     c.in_slot_at.ensures ∙ ap (λ (x : List Incoming). get_or x b.args.i no_incoming) (sym (in_pool_is b.args.words.now))

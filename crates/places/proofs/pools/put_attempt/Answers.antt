@@ -11,7 +11,7 @@ use Rattle.places.proofs.pools.put_attempt.Goals as goal
 
 pub returns : goal.returns
 returns c =
-    let at_put_attempt = c.before.before in
+    let at_put_attempt = c.before.before.before in
     let b = at_put_attempt.before.before.before in
-    let e : length at_put_attempt.put_attempt.new.0 ≡ 832 = search rules in
-    pool_back b.args.words.now at_put_attempt.put_attempt.new.0 b.requires (λ (x : List Outgoing). set x b.args.i (with_attempt (get_or x b.args.i no_outgoing) b.args.sent b.args.timeout b.args.attempts)) e at_put_attempt.put_attempt.ensures
+    let e : length at_put_attempt.put_attempt.new.pool ≡ 832 = search rules in
+    pool_back b.args.words.now at_put_attempt.put_attempt.new.pool b.requires (λ (x : List Outgoing). set x b.args.i (with_attempt (get_or x b.args.i no_outgoing) b.args.sent b.args.timeout b.args.attempts)) e at_put_attempt.put_attempt.ensures

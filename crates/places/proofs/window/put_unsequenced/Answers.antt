@@ -5,18 +5,29 @@ use lib.Seq.{length-sets}
 use Rattle.places.specs.Whole.{whole}
 use Rattle.places.proofs.WindowLaws.{put_unsequenced_lem}
 use Rattle.places.proofs.window.put_unsequenced.Lts as lts
+use Rattle.places.proofs.window.put_unsequenced.Tie as tie
 use Rattle.places.proofs.window.put_unsequenced.Goals as goal
 
+-- places of the code that the helpers below speak of
+abbrev Start : Type 0
+Start = lts.Start tie.the-claims tie.handed_pre tie.handed_post
+
+abbrev AfterWide164 : Type 0
+AfterWide164 = lts.After-wide164 tie.the-claims tie.handed_pre tie.handed_post
+
+abbrev AfterWords : Type 0
+AfterWords = lts.After-words tie.the-claims tie.handed_pre tie.handed_post
+
 -- the places before `words`
-abbrev to_wide164 : lts.After-words-1 → lts.After-wide16-outgoing
+abbrev to_wide164 : AfterWords → AfterWide164
 to_wide164 c = c.before.before.before
 
-abbrev to_start : lts.After-words-1 → lts.Start
+abbrev to_start : AfterWords → Start
 to_start c = (to_wide164 c).before.before.before.before.before.before.before.before
 
 pub shape_of-words : goal.shape_of-words
 shape_of-words c =
-    let at_words = c.before in
+    let at_words = c.before.before in
     let o = to_wide164 at_words in
     let i = o.before in
     let v = i.before in
@@ -26,7 +37,7 @@ shape_of-words c =
 
 pub returns : goal.returns
 returns c =
-    let at_words = c.before in
+    let at_words = c.before.before in
     let w = at_words.before in
     let o = w.before.before in
     let i = o.before in
@@ -49,5 +60,5 @@ returns c =
     i.wide16-incoming.ensures.low
     o.wide16-outgoing.ensures.is
     o.wide16-outgoing.ensures.low
-    (whole w.put_words_lem.new.0)
-    w.put_words_lem.ensures
+    (whole w.put_words.new.words)
+    w.put_words.ensures

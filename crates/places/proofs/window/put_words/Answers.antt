@@ -8,7 +8,7 @@ use Rattle.places.proofs.window.put_words.Goals as goal
 
 pub returns : goal.returns
 returns c =
-    let at_copy = c.before.before in
+    let at_copy = c.before.before.before in
     let at_start = at_copy.before.before.before.before in
     let m : length at_start.args.t2 ≡ 32 = search rules in
     ap whole at_copy.copy.ensures ∙ put_words_lem at_start.args.words.now at_start.requires at_start.args.t2 m

@@ -6,7 +6,7 @@ use Rattle.places.proofs.window.unsequenced.Goals as goal
 
 pub returns : goal.returns
 returns c =
-    let k = c.before.before in
+    let k = c.before.before.before in
     let j = k.before.before in
     let i = j.before.before in
     let w = i.before.before.before in
@@ -19,9 +19,9 @@ returns c =
     c.low16-4.result
     i.low16.result
     j.low16-2.result
-    w.copy.new.0
+    w.copy.new.to
     k.low16-3.ensures
     c.low16-4.ensures
     i.low16.ensures
     j.low16-2.ensures
-    (words_are ws w.copy.new.0 w.copy.ensures))
+    (words_are ws w.copy.new.to w.copy.ensures))

@@ -8,7 +8,7 @@ use Rattle.queues.proofs.held.mark.Goals as goal
 
 pub returns : goal.returns
 returns c =
-    let at_mark = c.before.before in
+    let at_mark = c.before.before.before in
     let at_place_of = at_mark.before.before in
     let b = at_place_of.before.before.before in
     let a = b.args in

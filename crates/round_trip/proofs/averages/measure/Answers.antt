@@ -6,7 +6,7 @@ use Rattle.round_trip.proofs.averages.measure.Goals as goal
 
 pub returns : goal.returns
 returns c =
-    let b = c.before.before in
+    let b = c.before.before.before in
     let a = b.args in
     c.rolled.ensures
     ∙ ap (λ (th : Throttling). rolled a.clock th c.averaged-t.result) b.before_averages-th.ensures

@@ -17,7 +17,7 @@ overflow_cast-slots c = omega (arith, c.shared_slice_known-in-loop-i-1.given c.l
 
 pub loop-i-smaller : goal.loop-i-smaller
 loop-i-smaller c =
-    let at_if1 = c.before.before in
+    let at_if1 = c.before.before.before in
     let m = at_if1.before.before in
     let a = m.args in
     let h : m.loop-i.i < length a.slots.now = ltb-true m.loop-i.i (length a.slots.now) at_if1.if-i-slots.true-raw in
@@ -25,7 +25,7 @@ loop-i-smaller c =
 
 pub loop-i-preserved : goal.loop-i-preserved
 loop-i-preserved c =
-    let at_if1 = c.before.before in
+    let at_if1 = c.before.before.before in
     let m = at_if1.before.before in
     let a = m.args in
     let h : m.loop-i.i < length a.slots.now = ltb-true m.loop-i.i (length a.slots.now) at_if1.if-i-slots.true-raw in (
@@ -35,7 +35,7 @@ loop-i-preserved c =
 
 pub returns-else-i-slots : goal.returns-else-i-slots
 returns-else-i-slots c =
-    let m = c.before.before in
+    let m = c.before.before.before in
     let a = m.args in
     let h : length a.slots.now ≤ m.loop-i.i = ltb-false m.loop-i.i (length a.slots.now) c.if-i-slots.false-raw in
     let end = part_out a.slots.now m.loop-i.i a.n (omega arith) in
@@ -43,7 +43,7 @@ returns-else-i-slots c =
 
 pub returns-after-loop-i : goal.returns-after-loop-i
 returns-after-loop-i c =
-    let m = c.before in
+    let m = c.before.before in
     let a = m.args in
     let end = part_end a.slots.now m.loop-i.i a.n (omega arith) in
     sym (m.loop-i.invariant.1 ∙ none_left m.loop-i.after (drop m.loop-i.i (take a.n a.slots.now)) end)

@@ -18,14 +18,14 @@ pub put_at-end-requires : goal.put_at-end-requires
 put_at-end-requires c =
     let e = c.place_at in
     let l = c.loop-i in
-    let start = c.before.before.before.before.before.before in
+    let start = c.before.before.before.before.before.before.before in
     let a = start.args in
     write_room (table (whole a.words.now)) a.buffer.now a.at l.buffer l.end l.i l.invariant.1 e.result
     (rw (table-length a.words.now start.requires.words_len) c.loop-i-test.true) e.ensures start.requires.words_in_bounds
 
 pub loop-i-preserved : goal.loop-i-preserved
 loop-i-preserved c =
-    let at_put = c.before.before in
+    let at_put = c.before.before.before in
     let e = at_put.place_at in
     let in_loop = at_put.before.before.before in
     let l = in_loop.loop-i in
@@ -43,7 +43,7 @@ shape_of-buffer c = c.loop-i.invariant.1.size
 pub returns : goal.returns
 returns c =
     let l = c.loop-i in
-    let start = c.before.before.before.before in
+    let start = c.before.before.before.before.before in
     let a = start.args in
     let es = table (whole a.words.now) in
     let h : length es ≤ l.i = rw (table-length a.words.now start.requires.words_len) c.loop-i-test.false in record { bytes = write_same es a.buffer.now a.at l.buffer l.end l.i l.invariant.1 h; end = write_end es a.buffer.now a.at l.buffer l.end l.i l.invariant.1 h }

@@ -9,7 +9,7 @@ use Rattle.snapshot_parts.proofs.stored.used_slot.Goals as goal
 
 pub returns-then-incoming : goal.returns-then-incoming
 returns-then-incoming c =
-    let at_used = c.before.before in
+    let at_used = c.before.before.before in
     let a = at_used.args in
     let slot = get_or (whole a.words.now).incoming a.s no_incoming in
     c.incoming_at.ensures ∙ ap (λ (b : Bool). pick b slot no_incoming) (sym c.if-incoming.true ∙ at_used.incoming.ensures)
@@ -17,7 +17,7 @@ returns-then-incoming c =
 pub returns : goal.returns
 unfolding no_incoming
 returns c =
-    let at_used = c.before in
+    let at_used = c.before.before in
     let a = at_used.args in
     let slot = get_or (whole a.words.now).incoming a.s no_incoming in
     ap (λ (b : Bool). pick b slot no_incoming) (sym c.if-incoming.false ∙ at_used.incoming.ensures)

@@ -10,7 +10,7 @@ returns-then-self c =
 
 pub returns-then-raised-self : goal.returns-then-raised-self
 returns-then-raised-self c =
-    let at_if2 = c.before.before.before in
+    let at_if2 = c.before.before.before.before in
     let steady = lt-leb _ _ at_if2.if-self.false in
     let quick = le-leb _ _ at_if2.if-sample-self.true in
     let sum = sym c.wrapping_add_u32-raised.ensures.value in
@@ -19,7 +19,7 @@ returns-then-raised-self c =
 
 pub returns-else-raised-self : goal.returns-else-raised-self
 returns-else-raised-self c =
-    let at_if2 = c.before.before.before in
+    let at_if2 = c.before.before.before.before in
     let steady = lt-leb _ _ at_if2.if-self.false in
     let quick = le-leb _ _ at_if2.if-sample-self.true in
     let sum = sym c.wrapping_add_u32-raised.ensures.value in
@@ -28,7 +28,7 @@ returns-else-raised-self c =
 
 pub returns-then-self-2 : goal.returns-then-self-2
 returns-then-self-2 c =
-    let at_if4 = c.before.before.before in
+    let at_if4 = c.before.before.before.before in
     let at_if2 = at_if4.before.before.before in
     let steady = lt-leb _ _ at_if2.if-self.false in
     let quick = lt-leb _ _ at_if2.if-sample-self.false in
@@ -40,7 +40,7 @@ returns-then-self-2 c =
 
 pub returns-else-self-2 : goal.returns-else-self-2
 returns-else-self-2 c =
-    let at_wrapping_add_u322 = c.before.before.before in
+    let at_wrapping_add_u322 = c.before.before.before.before in
     let at_if2 = at_wrapping_add_u322.before.before in
     let steady = lt-leb _ _ at_if2.if-self.false in
     let quick = lt-leb _ _ at_if2.if-sample-self.false in
@@ -52,7 +52,7 @@ returns-else-self-2 c =
 
 pub returns : goal.returns
 returns c =
-    let at_if2 = c.before.before.before in
+    let at_if2 = c.before.before.before.before in
     let steady = lt-leb _ _ at_if2.if-self.false in
     let quick = lt-leb _ _ at_if2.if-sample-self.false in
     let twice = sym c.double-twice.ensures in

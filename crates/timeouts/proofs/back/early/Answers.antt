@@ -14,7 +14,7 @@ loop-j-init c = (omega arith, c.count-n.ensures, omega arith)
 
 pub returns-then-is_due : goal.returns-then-is_due
 returns-then-is_due c =
-    let at_due = c.before in
+    let at_due = c.before.before in
     let at_sent = at_due.before in
     let at_slot = at_sent.before in
     let at_loop = at_slot.before.before in
@@ -27,7 +27,7 @@ returns-then-is_due c =
 
 pub loop-j-preserved : goal.loop-j-preserved
 loop-j-preserved c =
-    let at_due = c.before in
+    let at_due = c.before.before in
     let at_sent = at_due.before in
     let at_slot = at_sent.before in
     let at_loop = at_slot.before.before in
@@ -40,7 +40,7 @@ loop-j-preserved c =
 
 pub returns : goal.returns
 returns c =
-    let at_loop = c.before in
+    let at_loop = c.before.before in
     let a = at_loop.args in
     let p = whole a.words.now in
     let i = at_loop.loop-j.invariant in

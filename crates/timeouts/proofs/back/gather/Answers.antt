@@ -25,7 +25,7 @@ loop-k-init c =
 
 pub loop-k-preserved : goal.loop-k-preserved
 loop-k-preserved c =
-    let at_loop = c.before.before.before in
+    let at_loop = c.before.before.before.before in
     let at_count = at_loop.before in
     let a = at_count.args in
     let i = at_loop.loop-k.invariant in
@@ -38,7 +38,7 @@ loop-k-preserved c =
 
 pub returns : goal.returns
 returns c =
-    let at_loop = c.before in
+    let at_loop = c.before.before in
     let at_count = at_loop.before in
     let a = at_count.args in
     let i = at_loop.loop-k.invariant in record { slots = gathered a.mark a.words.now a.marks.now a.cells.now at_loop.loop-k.cells at_loop.loop-k.k at_loop.loop-k.m (omega (arith, at_count.count-n.ensures)) (omega arith) i.4; fits = omega arith }

@@ -8,7 +8,7 @@ use Rattle.timeouts.proofs.back.send_back.Goals as goal
 
 pub returns : goal.returns
 returns c =
-    let at_sent = c.before.before in
+    let at_sent = c.before.before.before in
     let at_kept = at_sent.before.before.before.before in
     let at_outgoing = at_kept.before.before.before.before.before in
     let at_others = at_outgoing.before.before.before.before in
@@ -16,8 +16,8 @@ returns c =
     let at_packets = at_reliable.before.before.before.before in
     let at_start = at_packets.before.before.before.before.before in
     let a = at_start.args in
-    sent_back (whole a.words.now) (whole at_reliable.prepend.new.0) (whole at_outgoing.prepend2.new.0) (whole at_sent.replace.new.0) a.marks.now
-    (map low (take at_packets.gather.result at_packets.gather.new.1.1.1.0)) (map low (take at_others.gather2.result at_others.gather2.new.1.1.1.0))
-    (map low (take at_kept.gather-kept.result at_kept.gather-kept.new.1.1.1.0))
-    at_packets.gather.ensures.0 at_reliable.prepend.ensures at_others.gather2.ensures.0 at_outgoing.prepend2.ensures at_kept.gather-kept.ensures.slots
+    sent_back (whole a.words.now) (whole at_reliable.prepend.new.words) (whole at_outgoing.prepend-2.new.words) (whole at_sent.replace.new.words) a.marks.now
+    (map low (take at_packets.gather-packets.result at_packets.gather-packets.new.cells)) (map low (take at_others.gather-others.result at_others.gather-others.new.cells))
+    (map low (take at_kept.gather-kept.result at_kept.gather-kept.new.cells))
+    at_packets.gather-packets.ensures.slots at_reliable.prepend.ensures at_others.gather-others.ensures.slots at_outgoing.prepend-2.ensures at_kept.gather-kept.ensures.slots
     at_sent.replace.ensures

@@ -9,7 +9,7 @@ use Rattle.timeouts.proofs.back.turn.Goals as goal
 
 pub returns : goal.returns
 returns c =
-    let at_put = c.before.before in
+    let at_put = c.before.before.before in
     let at_step = at_put.before.before.before in
     let at_sent = at_step.before in
     let a = at_sent.args in

@@ -19,7 +19,7 @@ returns-in-7 c =
 pub returns-in-8 : goal.returns-in-8
 unfolding shaped_by
 returns-in-8 c =
-    let at_low16 = c.before.before.before in
+    let at_low16 = c.before.before.before.before in
     let e : at_low16.args.kind ≡ 8 = c.in-8.is in
     rw (e, at_low16.low16-first.ensures, c.fragment_from-fragment.ensures)
 

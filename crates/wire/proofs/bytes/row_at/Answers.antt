@@ -14,30 +14,30 @@ use Rattle.wire.proofs.bytes.row_at.Goals as goal
 
 pub number_at-requires : goal.number_at-requires
 number_at-requires c =
-    let at_loop = c.before.before in
+    let at_loop = c.before.before.before in
     let l = at_loop.loop-j in
     let k = at_loop.args.kind in
-    let e = c.width_of_lem.ensures in
+    let e = c.width_of-width.ensures in
     (omega (arith, total_step (layout k) l.j), omega (arith, width_le k l.j))
 
 pub overflow_add-place : goal.overflow_add-place
 overflow_add-place c =
-    let at_loop = c.before.before.before in
+    let at_loop = c.before.before.before.before in
     let l = at_loop.loop-j in
     let k = at_loop.args.kind in
-    let e = c.width_of_lem.ensures in
+    let e = c.width_of-width.ensures in
     omega (arith, total_step (layout k) l.j)
 
 pub loop-j-preserved : goal.loop-j-preserved
 loop-j-preserved c =
-    let at_loop = c.before.before.before in
+    let at_loop = c.before.before.before.before in
     let l = at_loop.loop-j in
     let a = at_loop.args in
-    let e = c.width_of_lem.ensures in (
+    let e = c.width_of-width.ensures in (
       search rules,
       simp length-set (omega arith),
-      total_turn (layout a.kind) l.place c.width_of_lem.result l.j e ∙ l.invariant.2,
-      row_turn a.s.now (layout a.kind) l.row l.place c.width_of_lem.result l.j c.number_at.result e c.number_at.ensures.0 (omega arith) (omega arith) ∙ l.invariant.3,
+      total_turn (layout a.kind) l.place c.width_of-width.result l.j e ∙ l.invariant.2,
+      row_turn a.s.now (layout a.kind) l.row l.place c.width_of-width.result l.j c.number_at.result e c.number_at.ensures.0 (omega arith) (omega arith) ∙ l.invariant.3,
     )
 
 pub returns : goal.returns

@@ -9,30 +9,29 @@ use Rattle.wire.specs.Reading.{kind_at}
 use Rattle.wire.specs.Steps.{placed}
 use Rattle.wire.proofs.ReadLaws.{whole_none, whole_some, whole_kind_lem, whole_room, read_found}
 use native.Mathlib.Omega.{arith}
-use Rattle.wire.proofs.reader.read.Lts as lts
 use Rattle.wire.proofs.reader.read.Goals as goal
 
 -- the places before `type_size`
-abbrev to_whole_kind : lts.After-size_of → lts.After-whole_kind-kind
+abbrev to_whole_kind : goal.After-size_of → goal.After-whole_kind-kind
 to_whole_kind c = c.before.before.before
 
-abbrev to_shared_slice_known : lts.After-size_of → lts.After-shared_slice_known-1
+abbrev to_shared_slice_known : goal.After-size_of → goal.After-shared_slice_known-1
 to_shared_slice_known c = (to_whole_kind c).before
 
-abbrev to_start : lts.After-size_of → lts.Start
+abbrev to_start : goal.After-size_of → goal.Start
 to_start c = (to_shared_slice_known c).before
 
 pub returns-then-kind-eq0 : goal.returns-then-kind-eq0
 returns-then-kind-eq0 c =
     let a = c.args in
-    let e = c.whole_kind_lem.ensures in
+    let e = c.whole_kind-kind.ensures in
     whole_none a.s.now a.at (omega arith)
 
 pub row_at-row-requires : goal.row_at-row-requires
 row_at-row-requires c =
     let s = c.args.s.now in
     let i = c.args.at in
-    let e = c.whole_kind_lem.ensures in
+    let e = c.whole_kind-kind.ensures in
     let r = whole_some s i (λ z. omega arith) in
     let q = ap size_of (e ∙ whole_kind_lem s i r) in
     omega (arith, whole_room s i r)
@@ -41,7 +40,7 @@ pub overflow_add-next : goal.overflow_add-next
 overflow_add-next c =
     let s = (to_start c).args.s.now in
     let i = (to_start c).args.at in
-    let e = (to_whole_kind c).whole_kind_lem.ensures in
+    let e = (to_whole_kind c).whole_kind-kind.ensures in
     let r = whole_some s i (λ z. omega arith) in
     let q = c.type_size.ensures ∙ ap size_of (e ∙ whole_kind_lem s i r) in
     omega (arith, whole_room s i r)
@@ -51,13 +50,13 @@ returns c =
     let at_size_of = c.before in
     let s = (to_start at_size_of).args.s.now in
     let i = (to_start at_size_of).args.at in
-    let k = (to_whole_kind at_size_of).whole_kind_lem.result in
-    let e = (to_whole_kind at_size_of).whole_kind_lem.ensures in
+    let k = (to_whole_kind at_size_of).whole_kind-kind.result in
+    let e = (to_whole_kind at_size_of).whole_kind-kind.ensures in
     let n = i + at_size_of.type_size.result in
     let r = whole_some s i (λ z. omega arith) in
     let q : k ≡ kind_at s i = e ∙ whole_kind_lem s i r in
     let bytes : Bytes s = λ j. omega (arith, (to_shared_slice_known at_size_of).shared_slice_known-1.given j) in
     c.found.ensures
-    ∙ ap (λ (l : List ℕ). placed n (built_from k l)) at_size_of.row_at_lem.ensures
+    ∙ ap (λ (l : List ℕ). placed n (built_from k l)) at_size_of.row_at-row.ensures
     ∙ ap (λ (x : ℕ). placed n (built_from x (pad 16 (row_at s i (layout x))))) q
     ∙ read_found s i n bytes r (ap (λ (x : ℕ). i + x) (at_size_of.type_size.ensures ∙ ap size_of q))

@@ -3,11 +3,10 @@ use Rattle.wire.specs.Reading.{kind_at}
 use Rattle.command.proofs.LayoutLaws.{known_size, size_known}
 use Rattle.wire.proofs.ReadLaws.{kind_past, kind_unknown, kind_short, kind_whole}
 use native.Mathlib.Omega.{arith}
-use Rattle.wire.proofs.reader.whole_kind.Lts as lts
 use Rattle.wire.proofs.reader.whole_kind.Goals as goal
 
 -- the places before `type_size`
-abbrev to_start : lts.After-size_of-size → lts.Start
+abbrev to_start : goal.After-size_of-size → goal.Start
 to_start c = c.before.before.before.before
 
 pub returns-then-s-at : goal.returns-then-s-at
