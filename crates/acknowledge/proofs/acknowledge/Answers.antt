@@ -12,21 +12,10 @@ use Rattle.acknowledge.proofs.Hearing.{passed_over, heard_by}
 use Rattle.acknowledge.proofs.Changes.{trip_is}
 use Rattle.acknowledge.proofs.acknowledge.Goals as goal
 
--- the places before `heard-in`
-abbrev to_enum_told : goal.After-heard_in-trip → goal.In_default
-to_enum_told c = c.before.before.before.before
-
-abbrev to_ask : goal.After-heard_in-trip → goal.After-ask-gate
-to_ask c = (to_enum_told c).before.before
-
-abbrev to_start : goal.After-heard_in-trip → goal.Start
-to_start c = (to_ask c).before.before.before
-
 pub returns-in-Shut : goal.returns-in-Shut
 returns-in-Shut c =
-    let at_ask = c.before.before.before in
-    let k = at_ask.ask-gate in
-    let a = at_ask.args in
+    let k = c.ask-gate in
+    let a = c.args in
     let p = whole a.words.now in
     let q : AtGate a.settings Nothing p = record { gate = k.result; is = k.ensures } in
     let s = c.gate-1.given in
@@ -34,30 +23,27 @@ returns-in-Shut c =
 
 pub returns-in_default-trip : goal.returns-in_default-trip
 returns-in_default-trip c =
-    let at_heard_in = c.before.before in
-    let k = (to_ask at_heard_in).ask-gate in
-    let a = (to_start at_heard_in).args in
+    let k = c.ask-gate in
+    let a = c.args in
     let p = whole a.words.now in
     let q : AtGate a.settings Nothing p = record { gate = k.result; is = k.ensures } in
-    let s = at_heard_in.standing-standing in
-    let t = at_heard_in.heard_in-trip in
-    passed_over a.settings a.channel a.number.0 a.sent a.clock p q (to_enum_told at_heard_in).in_default.is
+    let s = c.standing-standing in
+    let t = c.heard_in-trip in
+    passed_over a.settings a.channel a.number.0 a.sent a.clock p q c.in_default.is
     t.result (trip_is p s.result s.ensures a.clock a.sent t.result t.ensures) c.in_default-trip.is
 
 pub returns : goal.returns
 returns c =
-    let at_trip = c.before.before.before in
-    let at_heard_in = at_trip.before.before in
-    let k = (to_ask at_heard_in).ask-gate in
-    let a = (to_start at_heard_in).args in
+    let k = c.ask-gate in
+    let a = c.args in
     let p = whole a.words.now in
     let q : AtGate a.settings Nothing p = record { gate = k.result; is = k.ensures } in
-    let s = at_heard_in.standing-standing in
-    let t = at_heard_in.heard_in-trip in
-    let z = at_trip.trip-1.given in
+    let s = c.standing-standing in
+    let t = c.heard_in-trip in
+    let z = c.trip-1.given in
     let sent = look_of true a.number.0 a.channel in
     let queued = look_of false a.number.0 a.channel in
-    heard_by a.settings a.channel a.number.0 a.sent a.clock p q (to_enum_told at_heard_in).in_default.is
+    heard_by a.settings a.channel a.number.0 a.sent a.clock p q c.in_default.is
     t.result (trip_is p s.result s.ensures a.clock a.sent t.result t.ensures) z.0.0 z.1 (map sent p.outgoing)
     (map queued p.outgoing) (length-map p.outgoing sent ∙ pool_size a.words.now) (spot_in p.outgoing a.number.0 a.channel p.lists) refl refl refl
-    c.heard.result (whole c.heard.new.0) c.heard.ensures
+    c.heard.result (whole c.heard.new.words) c.heard.ensures

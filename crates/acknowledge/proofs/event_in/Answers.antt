@@ -7,49 +7,35 @@ use Rattle.acknowledge.proofs.event_in.Goals as goal
 
 pub returns-then-standing-eq-ACKNOWLEDGING_CONNECT : goal.returns-then-standing-eq-ACKNOWLEDGING_CONNECT
 returns-then-standing-eq-ACKNOWLEDGING_CONNECT c =
-    let at_standing = c.before.before.before.before in
-    let a = at_standing.args in
-    let s = at_standing.standing-standing in
+    let a = c.args in
+    let s = c.standing-standing in
     event_is (whole a.words.now) s.result s.ensures a.command c.removed_or.result
     (rw (eq-eqb _ _ c.if-standing-eq-ACKNOWLEDGING_CONNECT.true) c.removed_or.ensures)
 
 pub returns-then-standing-eq-DISCONNECTING : goal.returns-then-standing-eq-DISCONNECTING
 returns-then-standing-eq-DISCONNECTING c =
-    let at_if1 = c.before.before.before.before in
-    let at_standing = at_if1.before.before in
-    let a = at_standing.args in
-    let s = at_standing.standing-standing in
+    let a = c.args in
+    let s = c.standing-standing in
     event_is (whole a.words.now) s.result s.ensures a.command c.removed_or-then-standing-eq-DISCONNECTING.result
-    (rw (ne_eqb _ _ at_if1.if-standing-eq-ACKNOWLEDGING_CONNECT.false, eq-eqb _ _ c.if-standing-eq-DISCONNECTING.true) c.removed_or-then-standing-eq-DISCONNECTING.ensures)
+    (rw (ne_eqb _ _ c.if-standing-eq-ACKNOWLEDGING_CONNECT.false, eq-eqb _ _ c.if-standing-eq-DISCONNECTING.true) c.removed_or-then-standing-eq-DISCONNECTING.ensures)
 
 pub returns-then-standing-ne-DISCONNECT_LATER : goal.returns-then-standing-ne-DISCONNECT_LATER
 returns-then-standing-ne-DISCONNECT_LATER c =
-    let at_if2 = c.before.before.before in
-    let at_if1 = at_if2.before.before in
-    let at_standing = at_if1.before.before in
-    let a = at_standing.args in
-    let s = at_standing.standing-standing in
+    let a = c.args in
+    let s = c.standing-standing in
     event_is (whole a.words.now) s.result s.ensures a.command vr.Done
-    (rw (ne_eqb _ _ at_if1.if-standing-eq-ACKNOWLEDGING_CONNECT.false, ne_eqb _ _ at_if2.if-standing-eq-DISCONNECTING.false, ne_eqb _ _ c.if-standing-ne-DISCONNECT_LATER.true))
+    (rw (ne_eqb _ _ c.if-standing-eq-ACKNOWLEDGING_CONNECT.false, ne_eqb _ _ c.if-standing-eq-DISCONNECTING.false, ne_eqb _ _ c.if-standing-ne-DISCONNECT_LATER.true))
 
 pub returns-then-is_empty : goal.returns-then-is_empty
 returns-then-is_empty c =
-    let at_if3 = c.before.before.before in
-    let at_if2 = at_if3.before.before in
-    let at_if1 = at_if2.before.before in
-    let at_standing = at_if1.before.before in
-    let a = at_standing.args in
-    let s = at_standing.standing-standing in
+    let a = c.args in
+    let s = c.standing-standing in
     event_is (whole a.words.now) s.result s.ensures a.command vr.DisconnectNow
-    (rw (ne_eqb _ _ at_if1.if-standing-eq-ACKNOWLEDGING_CONNECT.false, ne_eqb _ _ at_if2.if-standing-eq-DISCONNECTING.false, eq-eqb _ _ at_if3.if-standing-ne-DISCONNECT_LATER.false, sym c.is_empty.ensures ∙ c.if-is_empty.true))
+    (rw (ne_eqb _ _ c.if-standing-eq-ACKNOWLEDGING_CONNECT.false, ne_eqb _ _ c.if-standing-eq-DISCONNECTING.false, eq-eqb _ _ c.if-standing-ne-DISCONNECT_LATER.false, sym c.is_empty.ensures ∙ c.if-is_empty.true))
 
 pub returns : goal.returns
 returns c =
-    let at_if3 = c.before.before.before in
-    let at_if2 = at_if3.before.before in
-    let at_if1 = at_if2.before.before in
-    let at_standing = at_if1.before.before in
-    let a = at_standing.args in
-    let s = at_standing.standing-standing in
+    let a = c.args in
+    let s = c.standing-standing in
     event_is (whole a.words.now) s.result s.ensures a.command vr.Done
-    (rw (ne_eqb _ _ at_if1.if-standing-eq-ACKNOWLEDGING_CONNECT.false, ne_eqb _ _ at_if2.if-standing-eq-DISCONNECTING.false, eq-eqb _ _ at_if3.if-standing-ne-DISCONNECT_LATER.false, sym c.is_empty.ensures ∙ c.if-is_empty.false))
+    (rw (ne_eqb _ _ c.if-standing-eq-ACKNOWLEDGING_CONNECT.false, ne_eqb _ _ c.if-standing-eq-DISCONNECTING.false, eq-eqb _ _ c.if-standing-ne-DISCONNECT_LATER.false, sym c.is_empty.ensures ∙ c.if-is_empty.false))

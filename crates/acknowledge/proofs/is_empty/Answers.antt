@@ -12,17 +12,15 @@ returns-then-count-ne0 c =
 
 pub returns-then-count-ne0-2 : goal.returns-then-count-ne0-2
 returns-then-count-ne0-2 c =
-    let at_count = c.before.before.before.before in
     let m = c.count-2 in
-    let n = at_count.count in
-    let l = (whole at_count.args.words.now).lists in
+    let n = c.count in
+    let l = (whole c.args.words.now).lists in
     some_second (out_items l.sent) (out_items l.send_reliable) (out_items l.outgoing) n.result n.ensures c.if-count-ne0.false m.result m.ensures c.if-count-ne0-2.true
 
 pub returns : goal.returns
 returns c =
-    let at_if1 = c.before.before.before.before in
     let m = c.count-2 in
-    let n = at_if1.count in
-    let l = (whole at_if1.args.words.now).lists in
-    by_third (out_items l.sent) (out_items l.send_reliable) (out_items l.outgoing) n.result n.ensures at_if1.if-count-ne0.false m.result m.ensures c.if-count-ne0-2.false
+    let n = c.count in
+    let l = (whole c.args.words.now).lists in
+    by_third (out_items l.sent) (out_items l.send_reliable) (out_items l.outgoing) n.result n.ensures c.if-count-ne0.false m.result m.ensures c.if-count-ne0-2.false
     c.count-3.result c.count-3.ensures

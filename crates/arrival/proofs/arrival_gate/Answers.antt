@@ -12,18 +12,16 @@ returns-then-not-is_receiving c =
 
 pub returns-then-not-is_whole : goal.returns-then-not-is_whole
 returns-then-not-is_whole c =
-    let r = c.before.before.before in
     rw (
-      eq-eqb _ _ r.if-a-command.false,
-      sym r.is_receiving.ensures ∙ not-false _ r.if-not-is_receiving.false-raw,
+      eq-eqb _ _ c.if-a-command.false,
+      sym c.is_receiving.ensures ∙ not-false _ c.if-not-is_receiving.false-raw,
       sym c.is_whole.ensures ∙ not-true _ c.if-not-is_whole.true-raw,
     )
 
 pub returns : goal.returns
 returns c =
-    let r = c.before.before.before in
     rw (
-      eq-eqb _ _ r.if-a-command.false,
-      sym r.is_receiving.ensures ∙ not-false _ r.if-not-is_receiving.false-raw,
+      eq-eqb _ _ c.if-a-command.false,
+      sym c.is_receiving.ensures ∙ not-false _ c.if-not-is_receiving.false-raw,
       sym c.is_whole.ensures ∙ not-false _ c.if-not-is_whole.false-raw,
     )

@@ -11,5 +11,4 @@ returns-then-a-gt-CELL c = rw (le-leb _ _ c.if-settings-a.false, lt-leb _ _ c.if
 
 pub returns : goal.returns
 returns c =
-    let at_if2 = c.before.before.before in
-    rw (le-leb _ _ at_if2.if-settings-a.false, le-leb _ _ at_if2.if-a-gt-CELL.false)
+    rw (le-leb _ _ c.if-settings-a.false, le-leb _ _ c.if-a-gt-CELL.false)

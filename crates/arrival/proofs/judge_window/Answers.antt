@@ -4,13 +4,10 @@ use Rattle.arrival.proofs.judge_window.Goals as goal
 
 pub returns-in-Taken : goal.returns-in-Taken
 returns-in-Taken c =
-    let v = c.before.before.before.before in
-    let w = v.before.before in
-    let a = w.args in
-    judged_taken a.unsequenced a.group a.room w.judge-seen.result w.judge-seen.ensures v.in-Taken.is c.taken_at.result c.taken_at.ensures
+    let a = c.args in
+    judged_taken a.unsequenced a.group a.room c.judge-seen.result c.judge-seen.ensures c.in-Taken.is c.taken_at.result c.taken_at.ensures
 
 pub returns : goal.returns
 returns c =
-    let w = c.before.before in
-    let a = w.args in
-    judged_passed a.unsequenced a.group a.room w.judge-seen.result w.judge-seen.ensures c.in_default.keys2
+    let a = c.args in
+    judged_passed a.unsequenced a.group a.room c.judge-seen.result c.judge-seen.ensures c.in_default.keys2

@@ -12,10 +12,8 @@ returns-then-settings-total c = rw (ne_eqb _ _ c.if-state-eq-DISCONNECT_LATER.fa
 
 pub returns-in-Lowest : goal.returns-in-Lowest
 returns-in-Lowest c =
-    let i = c.before.before.before.before in
-    rw (ne_eqb _ _ i.if-state-eq-DISCONNECT_LATER.false, lt-leb _ _ i.if-settings-total.false) (sym (ap in_slot c.in-Lowest.is))
+    rw (ne_eqb _ _ c.if-state-eq-DISCONNECT_LATER.false, lt-leb _ _ c.if-settings-total.false) (sym (ap in_slot c.in-Lowest.is))
 
 pub returns-in-Full : goal.returns-in-Full
 returns-in-Full c =
-    let i = c.before.before.before in
-    rw (ne_eqb _ _ i.if-state-eq-DISCONNECT_LATER.false, lt-leb _ _ i.if-settings-total.false) (sym (ap in_slot c.in-Full.is))
+    rw (ne_eqb _ _ c.if-state-eq-DISCONNECT_LATER.false, lt-leb _ _ c.if-settings-total.false) (sym (ap in_slot c.in-Full.is))

@@ -9,5 +9,4 @@ returns-in-NoRoom c = rw (c.in-NoRoom.is, c.shift-in-NoRoom.ensures)
 
 pub returns-in-Stored : goal.returns-in-Stored
 returns-in-Stored c =
-    let s = c.before.before in
-    rw (s.in-Stored.is, c.flagged.ensures, s.shift-in-Stored.ensures, s.marking-in-Stored.ensures)
+    rw (c.in-Stored.is, c.flagged.ensures, c.shift-in-Stored.ensures, c.marking-in-Stored.ensures)

@@ -12,22 +12,15 @@ returns-then-standing-eq-DISCONNECT_LATER c =
 
 pub returns-in-Empty : goal.returns-in-Empty
 returns-in-Empty c =
-    let at_unfinished = c.before.before.before.before in
-    let at_if1 = at_unfinished.before.before in
-    let at_standing = at_if1.before.before in
-    let standing = at_standing.standing-standing in
-    let a = at_standing.args in
-    fate_by_lem a.settings a.a (whole a.words.now) standing.result standing.ensures at_if1.if-standing-eq-DISCONNECT_LATER.false
-    at_unfinished.unfinished-block.result Empty at_unfinished.unfinished-block.ensures c.in-Empty.is c.first_fate.result c.first_fate.ensures
+    let standing = c.standing-standing in
+    let a = c.args in
+    fate_by_lem a.settings a.a (whole a.words.now) standing.result standing.ensures c.if-standing-eq-DISCONNECT_LATER.false
+    c.unfinished-block.result Empty c.unfinished-block.ensures c.in-Empty.is c.first_fate.result c.first_fate.ensures
 
 pub returns-in-Slot : goal.returns-in-Slot
 returns-in-Slot c =
-    let at_block = c.before.before.before in
-    let at_unfinished = at_block.before.before in
-    let at_if1 = at_unfinished.before.before in
-    let at_standing = at_if1.before.before in
-    let standing = at_standing.standing-standing in
-    let a = at_standing.args in
-    let k = at_block.block-1.given in
-    fate_by_lem a.settings a.a (whole a.words.now) standing.result standing.ensures at_if1.if-standing-eq-DISCONNECT_LATER.false
-    at_unfinished.unfinished-block.result (Slot k.0.0) at_unfinished.unfinished-block.ensures k.1 c.later_fate.result c.later_fate.ensures
+    let standing = c.standing-standing in
+    let a = c.args in
+    let k = c.block-1.given in
+    fate_by_lem a.settings a.a (whole a.words.now) standing.result standing.ensures c.if-standing-eq-DISCONNECT_LATER.false
+    c.unfinished-block.result (Slot k.0.0) c.unfinished-block.ensures k.1 c.later_fate.result c.later_fate.ensures

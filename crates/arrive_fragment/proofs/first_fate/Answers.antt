@@ -16,18 +16,14 @@ returns-then-not-fields_fit c =
 pub returns : goal.returns
 returns c =
     let any = c.any_block in
-    let at_room = c.before.before.before in
-    let room = at_room.room_for-room in
-    let free = at_room.free_slot-free in
-    let waiting = at_room.waiting-waiting in
-    let at_standing = at_room.before.before.before in
-    let standing = at_standing.standing-standing in
-    let at_if2 = at_standing.before in
-    let fit = at_if2.fields_fit in
-    let at_if1 = at_if2.before.before in
-    let passed = at_if1.is_passed in
-    let a = at_if1.args in
+    let room = c.room_for-room in
+    let free = c.free_slot-free in
+    let waiting = c.waiting-waiting in
+    let standing = c.standing-standing in
+    let fit = c.fields_fit in
+    let passed = c.is_passed in
+    let a = c.args in
     let p = whole a.words.now in
-    rw (← passed.ensures, at_if1.if-is_passed.false, ← fit.ensures, not-false fit.result at_if2.if-not-fields_fit.false-raw)
+    rw (← passed.ensures, c.if-is_passed.false, ← fit.ensures, not-false fit.result c.if-not-fields_fit.false-raw)
     (opened_by a.settings p standing.result waiting.result free.result room.result any.result c.opens.result
     standing.ensures waiting.ensures free.ensures room.ensures any.ensures c.opens.ensures)

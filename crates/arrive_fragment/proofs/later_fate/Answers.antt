@@ -11,26 +11,23 @@ pub returns-then-not-like_first : goal.returns-then-not-like_first
 returns-then-not-like_first c =
     let like = c.like_first in
     let slot = c.incoming_at-slot in
-    let at_fit = c.before.before.before.before.before in
-    let fit = at_fit.fields_fit in
+    let fit = c.fields_fit in
     rw (← fit.ensures, ← slot.ensures, ← like.ensures, not-false fit.result c.if-not-fields_fit.false-raw, not-true like.result c.if-not-like_first.true-raw)
 
 pub returns-then-piece_marked : goal.returns-then-piece_marked
 returns-then-piece_marked c =
     let marked = c.piece_marked in
     let marks = c.marks in
-    let at_like = c.before.before.before.before.before in
-    let like = at_like.like_first in
-    let slot = at_like.incoming_at-slot in
-    let fit = at_like.fields_fit in
-    rw (← fit.ensures, ← slot.ensures, ← like.ensures, ← marks.ensures, ← marked.ensures, not-false fit.result at_like.if-not-fields_fit.false-raw, not-false like.result c.if-not-like_first.false-raw, c.if-piece_marked.true)
+    let like = c.like_first in
+    let slot = c.incoming_at-slot in
+    let fit = c.fields_fit in
+    rw (← fit.ensures, ← slot.ensures, ← like.ensures, ← marks.ensures, ← marked.ensures, not-false fit.result c.if-not-fields_fit.false-raw, not-false like.result c.if-not-like_first.false-raw, c.if-piece_marked.true)
 
 pub returns : goal.returns
 returns c =
     let marked = c.piece_marked in
     let marks = c.marks in
-    let at_like = c.before.before.before.before.before in
-    let like = at_like.like_first in
-    let slot = at_like.incoming_at-slot in
-    let fit = at_like.fields_fit in
-    rw (← fit.ensures, ← slot.ensures, ← like.ensures, ← marks.ensures, ← marked.ensures, not-false fit.result at_like.if-not-fields_fit.false-raw, not-false like.result c.if-not-like_first.false-raw, c.if-piece_marked.false)
+    let like = c.like_first in
+    let slot = c.incoming_at-slot in
+    let fit = c.fields_fit in
+    rw (← fit.ensures, ← slot.ensures, ← like.ensures, ← marks.ensures, ← marked.ensures, not-false fit.result c.if-not-fields_fit.false-raw, not-false like.result c.if-not-like_first.false-raw, c.if-piece_marked.false)

@@ -5,13 +5,11 @@ use Rattle.arrive_reliable.proofs.fate_on.Goals as goal
 
 pub returns : goal.returns
 returns c =
-    let at_room_for = c.before.before.before.before in
-    let at_standing = at_room_for.before.before.before in
-    let r = at_room_for.room_for-room in
-    let f = at_room_for.free_slot-free in
-    let w = at_room_for.waiting-waiting in
-    let t = at_standing.standing-standing in
+    let r = c.room_for-room in
+    let f = c.free_slot-free in
+    let w = c.waiting-waiting in
+    let t = c.standing-standing in
     let k = c.is_passed-passed in
-    let a = at_standing.args in
+    let a = c.args in
     fate_read a.settings a.a (whole a.words.now) t.result w.result f.result r.result k.result c.fate_of.result t.ensures w.ensures f.ensures r.ensures
     k.ensures c.fate_of.ensures

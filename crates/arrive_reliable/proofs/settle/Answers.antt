@@ -7,16 +7,11 @@ use Rattle.arrive_reliable.proofs.settle.Goals as goal
 
 pub returns : goal.returns
 returns c =
-    let at_dispatch = c.before.before.before in
-    let at_put_waiting = at_dispatch.before.before.before.before in
-    let at_put_incoming = at_put_waiting.before.before.before.before in
-    let at_hold = at_put_incoming.before.before.before.before in
-    let d = at_dispatch.dispatch in
-    let w = at_put_waiting.put_waiting in
-    let i = at_put_incoming.put_incoming in
-    let h = at_hold.hold in
-    let b = at_hold.before.before.before in
-    let a = b.args in
+    let d = c.dispatch in
+    let w = c.put_waiting in
+    let i = c.put_incoming in
+    let h = c.hold in
+    let a = c.args in
     let ws = a.words.now in
     settled (whole ws) (whole h.new.words) (whole i.new.words) (whole w.new.words) (whole d.new.words) a.i a.number.0 a.s a.slot a.waiting
-    (omega (arith, (sized ws).channels, b.requires.i_lt_channels)) h.ensures i.ensures w.ensures d.ensures
+    (omega (arith, (sized ws).channels, c.requires.i_lt_channels)) h.ensures i.ensures w.ensures d.ensures

@@ -5,15 +5,7 @@ use Rattle.arrive_unsequenced.proofs.judge_on.Goals as goal
 
 pub returns : goal.returns
 returns c =
-    let at_put_groups = c.before.before.before in
-    let at_judge_window = at_put_groups.before.before.before in
-    let at_start = at_judge_window.before.before.before.before.before.before.before.before.before.before.before in
-    let g = at_judge_window.before in
-    let r = g.before.before in
-    let w = r.before in
-    let t = w.before.before in
-    let f = t.before.before in
-    let a = at_start.args in
-    judged_lent a.settings a.group (whole a.words.now) (whole at_put_groups.put_unsequenced.new.words)
-    f.free_slot-free.result t.standing-standing.result w.waiting-waiting.result r.room_for-room.result g.unsequenced-own.result at_judge_window.judge_window-judged.result
-    f.free_slot-free.ensures t.standing-standing.ensures w.waiting-waiting.ensures r.room_for-room.ensures g.unsequenced-own.ensures at_judge_window.judge_window-judged.ensures at_put_groups.put_unsequenced.ensures
+    let a = c.args in
+    judged_lent a.settings a.group (whole a.words.now) (whole c.put_unsequenced.new.words)
+    c.free_slot-free.result c.standing-standing.result c.waiting-waiting.result c.room_for-room.result c.unsequenced-own.result c.judge_window-judged.result
+    c.free_slot-free.ensures c.standing-standing.ensures c.waiting-waiting.ensures c.room_for-room.ensures c.unsequenced-own.ensures c.judge_window-judged.ensures c.put_unsequenced.ensures

@@ -16,35 +16,27 @@ returns-then-slot-gt-BYTES c = simp (lt-leb _ _ c.if-slot-gt-BYTES.true, both_wi
 
 pub returns-then-slot : goal.returns-then-slot
 returns-then-slot c =
-    let at_start = c.before.before.before.before.before.before.before.before.before in
-    let a = at_start.args in
+    let a = c.args in
     let more = c.if-slot.true in
     simp (ne_eqb (a.slot.remaining + marked_count a.m) a.slot.fragments (λ e. omega arith), both_with_false)
 
 pub returns-then-marked_count-slot : goal.returns-then-marked_count-slot
 returns-then-marked_count-slot c =
-    let counted = c.before.before.before in
-    let at_start = counted.before.before.before.before.before.before.before.before.before in
-    let a = at_start.args in
+    let a = c.args in
     let other = c.if-marked_count-slot.true in
-    let count = counted.marked_count.ensures in
+    let count = c.marked_count.ensures in
     simp (ne_eqb (a.slot.remaining + marked_count a.m) a.slot.fragments (λ e. other (omega arith)), both_with_false)
 
 pub returns : goal.returns
 returns c =
-    let counted = c.before.before.before.before in
-    let enough = counted.before in
-    let small = enough.before.before in
-    let some = small.before.before in
-    let few = some.before.before in
-    let a = few.args in
+    let a = c.args in
     let same = c.if-marked_count-slot.false in
-    let count = counted.marked_count.ensures in
-    let no_more = enough.if-slot.false in
+    let count = c.marked_count.ensures in
+    let no_more = c.if-slot.false in
     c.none_from.ensures
     ∙ simp (
-      le-leb _ _ few.if-slot-gt-PIECES.false,
-      le-leb _ _ some.if-slot-lt1.false,
-      le-leb _ _ small.if-slot-gt-BYTES.false,
+      le-leb _ _ c.if-slot-gt-PIECES.false,
+      le-leb _ _ c.if-slot-lt1.false,
+      le-leb _ _ c.if-slot-gt-BYTES.false,
       eq-eqb (a.slot.remaining + marked_count a.m) a.slot.fragments (omega arith),
     )

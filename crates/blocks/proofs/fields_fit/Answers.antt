@@ -34,11 +34,5 @@ returns-then-f-2 c = simp (le-ltb _ _ c.if-f-2.true, both_with_false)
 
 pub returns : goal.returns
 returns c =
-    let inside = c.before.before.before in
-    let short = inside.before.before in
-    let small = short.before.before in
-    let below = small.before.before in
-    let few = below.before.before in
-    let some = few.before.before in
-    let a = some.args in
-    last_rule a.packet a.f some.if-f-lt1.false few.if-f-gt-PIECES.false below.if-f.false small.if-f-gt-BYTES.false short.if-packet-f.false inside.if-f-2.false
+    let a = c.args in
+    last_rule a.packet a.f c.if-f-lt1.false c.if-f-gt-PIECES.false c.if-f.false c.if-f-gt-BYTES.false c.if-packet-f.false c.if-f-2.false

@@ -6,9 +6,8 @@ use Rattle.cells.proofs.append.Goals as goal
 
 pub returns-then-cells-m : goal.returns-then-cells-m
 returns-then-cells-m c =
-    let at_least_lem = c.before.before.before.before in
-    let a = at_least_lem.args in
-    let m = at_least_lem.least-m in
+    let a = c.args in
+    let m = c.least-m in
     let p = c.least in
     let h = c.least-h in
     rw (clip a.cells.now a.n m.result m.ensures, clip_take a.run.now a.p p.result p.ensures a.k h.result h.ensures)
@@ -16,14 +15,11 @@ returns-then-cells-m c =
 
 pub returns : goal.returns
 returns c =
-    let at_lay = c.before.before.before in
-    let at_least3 = at_lay.before.before.before in
-    let at_least_lem = at_least3.before.before in
-    let a = at_least_lem.args in
-    let m = at_least_lem.least-m in
-    let p = at_least3.least in
-    let h = at_least3.least-h in
-    let laid = at_lay.lay in
+    let a = c.args in
+    let m = c.least-m in
+    let p = c.least in
+    let h = c.least-h in
+    let laid = c.lay in
     rw (clip a.cells.now a.n m.result m.ensures, clip_take a.run.now a.p p.result p.ensures a.k h.result h.ensures)
     (append_room a.cells.now m.result (omega arith)
     a.run.now laid.new.cells h.result (omega arith) (omega arith) laid.ensures)

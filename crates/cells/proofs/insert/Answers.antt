@@ -10,16 +10,12 @@ returns-then-cells-n c =
 
 pub returns-then-n-i : goal.returns-then-n-i
 returns-then-n-i c =
-    let at_push = c.before.before.before in
-    let at_start = at_push.before.before.before.before.before in
-    let a = at_start.args in
+    let a = c.args in
     insert_end a.cells.now a.n (omega arith)
-    at_push.push.new.cells a.i a.s at_push.push.result (omega arith) at_push.push.ensures
+    c.push.new.cells a.i a.s c.push.result (omega arith) c.push.ensures
 
 pub returns : goal.returns
 returns c =
-    let at_raise = c.before.before.before in
-    let at_start = at_raise.before.before.before.before.before in
-    let a = at_start.args in
+    let a = c.args in
     insert_room a.cells.now a.n (omega arith)
-    at_raise.raise.new.cells a.i a.s (omega arith) (omega arith) at_raise.raise.ensures
+    c.raise.new.cells a.i a.s (omega arith) (omega arith) c.raise.ensures

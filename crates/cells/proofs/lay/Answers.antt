@@ -8,15 +8,13 @@ use Rattle.cells.proofs.lay.Goals as goal
 
 pub loop-j-preserved : goal.loop-j-preserved
 loop-j-preserved c =
-    let m = c.before.before.before in
-    let a = m.args in (
+    let a = c.args in (
       omega arith,
-      simp length-set m.loop-j.invariant.1,
-      lay_turn a.cells.now a.run.now m.loop-j.cells a.at m.loop-j.j (omega arith) m.loop-j.invariant.2,
+      simp length-set c.loop-j.invariant.1,
+      lay_turn a.cells.now a.run.now c.loop-j.cells a.at c.loop-j.j (omega arith) c.loop-j.invariant.2,
     )
 
 pub returns : goal.returns
 returns c =
-    let m = c.before.before in
-    let e : m.loop-j.j ≡ m.args.k = omega arith in
-    rw e at m.loop-j.invariant.2
+    let e : c.loop-j.j ≡ c.args.k = omega arith in
+    rw e at c.loop-j.invariant.2

@@ -14,16 +14,14 @@ loop-j-init c =
 
 pub loop-j-preserved : goal.loop-j-preserved
 loop-j-preserved c =
-    let m = c.before.before.before in
-    let a = m.args in (
+    let a = c.args in (
       omega arith,
       omega arith,
-      simp length-set m.loop-j.invariant.2,
-      lower_turn a.cells.now m.loop-j.cells a.from a.k m.loop-j.j (omega arith) (omega arith) (omega arith) m.loop-j.invariant.3,
+      simp length-set c.loop-j.invariant.2,
+      lower_turn a.cells.now c.loop-j.cells a.from a.k c.loop-j.j (omega arith) (omega arith) (omega arith) c.loop-j.invariant.3,
     )
 
 pub returns : goal.returns
 returns c =
-    let m = c.before.before in
-    let e : m.loop-j.j ≡ m.args.n = omega arith in
-    rw e at m.loop-j.invariant.3
+    let e : c.loop-j.j ≡ c.args.n = omega arith in
+    rw e at c.loop-j.invariant.3

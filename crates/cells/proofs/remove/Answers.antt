@@ -13,9 +13,7 @@ returns-then-m-i c =
 
 pub returns : goal.returns
 returns c =
-    let at_lower = c.before.before.before in
-    let at_least_lem = at_lower.before.before.before in
-    let a = at_least_lem.args in
-    let m = at_least_lem.least-m in
+    let a = c.args in
+    let m = c.least-m in
     rw (clip a.cells.now a.n m.result m.ensures)
-    (remove_in a.cells.now m.result (omega arith) at_lower.lower.new.cells a.i (omega arith) at_lower.lower.ensures)
+    (remove_in a.cells.now m.result (omega arith) c.lower.new.cells a.i (omega arith) c.lower.ensures)

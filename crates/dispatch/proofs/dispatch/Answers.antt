@@ -14,18 +14,10 @@ use Rattle.dispatch.specs.Calls.{dispatches, dispatches_sound}
 use Rattle.dispatch.proofs.Calling.{dispatch_refused, channel_exists, dispatch_done}
 use Rattle.dispatch.proofs.dispatch.Goals as goal
 
--- the places before `struct_known`
-abbrev to_enum_told : goal.After-struct_known-1 → goal.In_default
-to_enum_told c = c.before.before.before.before
-
-abbrev to_start : goal.After-struct_known-1 → goal.Start
-to_start c = (to_enum_told c).before.before.before.before.before
-
 pub returns-in-Shut : goal.returns-in-Shut
 returns-in-Shut c =
-    let at_ask = c.before.before.before in
-    let k = at_ask.ask-asked in
-    let a = at_ask.args in
+    let k = c.ask-asked in
+    let a = c.args in
     let p = whole a.words.now in
     let q : AtGate a.settings Nothing p = record { gate = k.result; is = k.ensures } in
     let s = c.asked-1.given in
@@ -33,39 +25,32 @@ returns-in-Shut c =
 
 pub returns-then-standing-channel : goal.returns-then-standing-channel
 returns-then-standing-channel c =
-    let at_struct_known = c.before in
-    let t = at_struct_known.standing-standing in
-    let o = to_enum_told at_struct_known in
-    let k = o.ask-asked in
-    let a = (to_start at_struct_known).args in
+    let t = c.standing-standing in
+    let k = c.ask-asked in
+    let a = c.args in
     let p = whole a.words.now in
     let q : AtGate a.settings Nothing p = record { gate = k.result; is = k.ensures } in
     let h : p.standing.channels ≤ a.channel = omega (arith, ap (λ (x : Standing). x.channels) t.ensures, c.if-standing-channel.true) in
-    dispatch_refused a.settings a.channel p q o.in_default.is h
+    dispatch_refused a.settings a.channel p q c.in_default.is h
 
 pub dispatch-requires : goal.dispatch-requires
 dispatch-requires c =
-    let at_struct_known = c.before.before in
-    let t = at_struct_known.standing-standing in
-    let o = to_enum_told at_struct_known in
-    let k = o.ask-asked in
-    let a = (to_start at_struct_known).args in
+    let t = c.standing-standing in
+    let k = c.ask-asked in
+    let a = c.args in
     let p = whole a.words.now in
     let q : AtGate a.settings Nothing p = record { gate = k.result; is = k.ensures } in
     let h : a.channel < p.standing.channels = omega (arith, ap (λ (x : Standing). x.channels) t.ensures, c.if-standing-channel.false) in
-    (search rules, channel_exists a.settings a.channel p q o.in_default.is h)
+    (search rules, channel_exists a.settings a.channel p q c.in_default.is h)
 
 pub returns : goal.returns
 returns c =
-    let at_if1 = c.before.before in
-    let at_struct_known = at_if1.before in
-    let t = at_struct_known.standing-standing in
-    let o = to_enum_told at_struct_known in
-    let k = o.ask-asked in
-    let a = (to_start at_struct_known).args in
+    let t = c.standing-standing in
+    let k = c.ask-asked in
+    let a = c.args in
     let p = whole a.words.now in
     let q : AtGate a.settings Nothing p = record { gate = k.result; is = k.ensures } in
-    let h : a.channel < p.standing.channels = omega (arith, ap (λ (x : Standing). x.channels) t.ensures, at_if1.if-standing-channel.false) in
+    let h : a.channel < p.standing.channels = omega (arith, ap (λ (x : Standing). x.channels) t.ensures, c.if-standing-channel.false) in
     subst (λ (y : Peer). Came answer_of (dispatches a.settings a.channel p) Done y) (sym c.dispatch.ensures)
-    (dispatch_done a.settings a.channel p q o.in_default.is h (channel_at p a.channel)
+    (dispatch_done a.settings a.channel p q c.in_default.is h (channel_at p a.channel)
     (dispatched_by p.incoming (channel_at p a.channel) p.lists p.unsequenced) refl refl)

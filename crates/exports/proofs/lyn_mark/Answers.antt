@@ -9,15 +9,12 @@ use Rattle.exports.proofs.lyn_mark.Goals as goal
 
 pub returns-then-words-eq-WINDOW_BYTES : goal.returns-then-words-eq-WINDOW_BYTES
 returns-then-words-eq-WINDOW_BYTES c =
-    let at_write_words = c.before.before.before in
-    let at_marking = at_write_words.before.before.before in
-    let at_if1 = at_marking.before.before.before in
-    let full = eq-eqb _ _ at_if1.if-words-eq-WINDOW_BYTES.true in
-    let marked = at_marking.marking-marked in
+    let full = eq-eqb _ _ c.if-words-eq-WINDOW_BYTES.true in
+    let marked = c.marking-marked in
     let long : length marked.result ≡ window_words = search rules in
-    let write = at_write_words.write_words in
-    let wrote = put_all 0 window_words at_if1.args.words.now marked.result write.new.out long write.ensures in
-    record { reply = simp full; buffer = wrote ∙ simp (full, marked.ensures, at_marking.read_words-marks.ensures) }
+    let write = c.write_words in
+    let wrote = put_all 0 window_words c.args.words.now marked.result write.new.out long write.ensures in
+    record { reply = simp full; buffer = wrote ∙ simp (full, marked.ensures, c.read_words-marks.ensures) }
 
 pub returns : goal.returns
 returns c =

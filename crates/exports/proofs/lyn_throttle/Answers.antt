@@ -20,10 +20,9 @@ overflow_add-result c =
 
 pub returns : goal.returns
 returns c =
-    let at_roll = c.before.before.before in
-    let a = at_roll.args in
+    let a = c.args in
     let t = throttle_of a.value a.limit a.acceleration a.deceleration a.last a.variance in
-    let roll = at_roll.roll-rolled in
+    let roll = c.roll-rolled in
     let value : roll.result.throttle.value ≡ value_after t a.sample = ap (λ (u : Throttle). u.value) roll.ensures.throttle in
     let code : c.turn_code.result ≡ by_tests t a.sample 0 1 2 0 =
     c.turn_code.ensures ∙ turn_code_lem t a.sample roll.result.turn roll.ensures.answer

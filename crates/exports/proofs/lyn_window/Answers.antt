@@ -13,15 +13,8 @@ use Rattle.exports.proofs.lyn_window.Tie as tie
 use Rattle.exports.proofs.lyn_window.Goals as goal
 
 -- places of the code that the helpers below speak of
-abbrev AfterJudge : Type 0
-AfterJudge = lts.After-judge tie.the-claims tie.handed_pre tie.handed_post
-
 abbrev AfterVerdictCode : Type 0
 AfterVerdictCode = lts.After-verdict_code tie.the-claims tie.handed_pre tie.handed_post
-
--- the places before `verdict_code_lem`
-abbrev to_judge : AfterVerdictCode → AfterJudge
-to_judge c = c.before.before.before.before.before.before.before.before.before
 
 pub returns-then-words-ne-WINDOW_BYTES : goal.returns-then-words-ne-WINDOW_BYTES
 returns-then-words-ne-WINDOW_BYTES c =
@@ -33,31 +26,28 @@ write_words-requires c = let long : length c.judge-judged.result.words ≡ windo
 
 pub overflow_mul-result-2 : goal.overflow_mul-result-2
 overflow_mul-result-2 c =
-    let judge = (to_judge c).judge-judged in
+    let judge = c.judge-judged in
     omega (arith, c.verdict_code.ensures, verdict_small judge.result.verdict)
 
 pub overflow_add-result : goal.overflow_add-result
 overflow_add-result c =
-    let judge = (to_judge c).judge-judged in
+    let judge = c.judge-judged in
     omega (arith, c.verdict_code.ensures, verdict_small judge.result.verdict)
 
 -- the window's words after its judgement
-long : (c : AfterVerdictCode) → length (to_judge c).judge-judged.result.words ≡ window_words
+long : (c : AfterVerdictCode) → length c.judge-judged.result.words ≡ window_words
 long c = search rules
 
 pub returns : goal.returns
 returns c =
-    let at_write_words = c.before.before.before.before.before.before in
-    let at_judge = at_write_words.before.before.before.before in
-    let at_if1 = at_judge.before.before.before in
-    let args = at_if1.args in
-    let full = eq-eqb _ _ at_if1.if-words-ne-WINDOW_BYTES.false in
-    let before = at_judge.read_words-before in
-    let judge = at_judge.judge-judged in
+    let args = c.args in
+    let full = eq-eqb _ _ c.if-words-ne-WINDOW_BYTES.false in
+    let before = c.read_words-before in
+    let judge = c.judge-judged in
     let moved : judge.result.base.0 ≡ base_after args.base before.result args.group = judge.ensures.base in
     let code : c.verdict_code.result ≡ by_tests args.base before.result args.group 0 2 1 2 =
     c.verdict_code.ensures ∙ verdict_code_lem args.base before.result args.group judge.result.verdict judge.ensures.answer
     in
-    let write = at_write_words.write_words in
+    let write = c.write_words in
     let wrote = put_all 0 window_words args.words.now judge.result.words write.new.out (long c.before) write.ensures in
     record { reply = rw (moved, code, before.ensures, full); buffer = wrote ∙ simp (full, judge.ensures.words, before.ensures) }

@@ -9,11 +9,7 @@ use Rattle.exports.proofs.put_command.Goals as goal
 pub returns : goal.returns
 unfolding put_row
 returns c =
-    let at_write_words = c.before.before.before in
-    let at_of = at_write_words.before.before.before in
-    let at_put_word2 = at_of.before.before.before in
-    let at_put_word = at_put_word2.before.before.before.before.before in
-    let row = at_of.of-row.result in
+    let row = c.of-row.result in
     let long : length row ≡ 16 = search rules in
-    put_all 8 16 _ row at_write_words.write_words.new.out long at_write_words.write_words.ensures
-    ∙ rw (at_put_word2.put_word-2.ensures, at_put_word.put_word.ensures, at_put_word2.kind_of.ensures, at_of.of-row.ensures)
+    put_all 8 16 _ row c.write_words.new.out long c.write_words.ensures
+    ∙ rw (c.put_word-2.ensures, c.put_word.ensures, c.kind_of.ensures, c.of-row.ensures)

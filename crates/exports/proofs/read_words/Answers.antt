@@ -12,13 +12,12 @@ pub loop-i-init : goal.loop-i-init
 loop-i-init c = (search rules, search rules, read_start c.args.s.now window_words (replicate window_words 0))
 
 pub loop-i-preserved : goal.loop-i-preserved
-loop-i-preserved c =
-    let at_loop = c.before.before.before in (
-      search rules,
-      simp length-set at_loop.loop-i.invariant.1,
-      read_step at_loop.args.s.now window_words at_loop.loop-i.words at_loop.loop-i.i c.word_at.result (omega arith) (omega arith) c.word_at.ensures
-          ∙ at_loop.loop-i.invariant.2,
-    )
+loop-i-preserved c = (
+  search rules,
+  simp length-set c.loop-i.invariant.1,
+  read_step c.args.s.now window_words c.loop-i.words c.loop-i.i c.word_at.result (omega arith) (omega arith) c.word_at.ensures
+      ∙ c.loop-i.invariant.2,
+)
 
 pub returns : goal.returns
 returns c = sym (read_done c.args.s.now window_words c.loop-i.words c.loop-i.i (omega arith) (omega arith)) ∙ c.loop-i.invariant.2

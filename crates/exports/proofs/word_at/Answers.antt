@@ -8,6 +8,5 @@ use Rattle.exports.proofs.word_at.Goals as goal
 pub returns : goal.returns
 unfolding number_at
 returns c =
-    let at_start = c.before.before.before.before.before.before.before.before.before.before in
-    let first : at_start.args.at + 0 ≡ at_start.args.at = omega arith in
+    let first : c.args.at + 0 ≡ c.args.at = omega arith in
     rw first (omega arith)

@@ -14,17 +14,14 @@ loop-i-init c = (search rules, search rules, put_start c.args.at c.args.words.no
 
 pub loop-i-preserved : goal.loop-i-preserved
 loop-i-preserved c =
-    let at_put_word = c.before.before.before in
-    let at_loop = at_put_word.before.before.before.before in
-    let at_start = at_loop.before.before.before in
-    let e = at_put_word.put_word.ensures in
-    let i = at_loop.loop-i.i in
-    let out = at_loop.loop-i.out in
-    let at = at_start.args.at in
-    let words = at_start.args.words.now in (
+    let e = c.put_word.ensures in
+    let i = c.loop-i.i in
+    let out = c.loop-i.out in
+    let at = c.args.at in
+    let words = c.args.words.now in (
       search rules,
-      ap length e ∙ put-length out (at + 4 * i) 4 (get_or words i 0) ∙ at_loop.loop-i.invariant.1,
-      ap (λ (l : List ℕ). rest at words l (i + 1)) e ∙ put_step at words out i (omega arith) ∙ at_loop.loop-i.invariant.2,
+      ap length e ∙ put-length out (at + 4 * i) 4 (get_or words i 0) ∙ c.loop-i.invariant.1,
+      ap (λ (l : List ℕ). rest at words l (i + 1)) e ∙ put_step at words out i (omega arith) ∙ c.loop-i.invariant.2,
     )
 
 pub returns : goal.returns

@@ -8,17 +8,12 @@ returns-then-not-mtu_fits c = rw (sym c.mtu_fits.ensures ∙ not-true _ c.if-not
 
 pub returns-then-count-lt1 : goal.returns-then-count-lt1
 returns-then-count-lt1 c =
-    let mtu = c.before.before in
-    rw (sym mtu.mtu_fits.ensures ∙ not-false _ mtu.if-not-mtu_fits.false-raw, lt-leb _ _ c.if-count-lt1.true)
+    rw (sym c.mtu_fits.ensures ∙ not-false _ c.if-not-mtu_fits.false-raw, lt-leb _ _ c.if-count-lt1.true)
 
 pub returns-then-count-gt-CHANNELS : goal.returns-then-count-gt-CHANNELS
 returns-then-count-gt-CHANNELS c =
-    let low = c.before.before in
-    let mtu = low.before in
-    rw (sym mtu.mtu_fits.ensures ∙ not-false _ mtu.if-not-mtu_fits.false-raw, le-leb _ _ low.if-count-lt1.false, lt-leb _ _ c.if-count-gt-CHANNELS.true)
+    rw (sym c.mtu_fits.ensures ∙ not-false _ c.if-not-mtu_fits.false-raw, le-leb _ _ c.if-count-lt1.false, lt-leb _ _ c.if-count-gt-CHANNELS.true)
 
 pub returns : goal.returns
 returns c =
-    let low = c.before.before in
-    let mtu = low.before in
-    rw (sym mtu.mtu_fits.ensures ∙ not-false _ mtu.if-not-mtu_fits.false-raw, le-leb _ _ low.if-count-lt1.false, le-leb _ _ c.if-count-gt-CHANNELS.false)
+    rw (sym c.mtu_fits.ensures ∙ not-false _ c.if-not-mtu_fits.false-raw, le-leb _ _ c.if-count-lt1.false, le-leb _ _ c.if-count-gt-CHANNELS.false)

@@ -12,15 +12,13 @@ loop-j-init c = (omega arith, refl, paste-zero c.args.words.now c.args.at (repli
 
 pub loop-j-preserved : goal.loop-j-preserved
 loop-j-preserved c =
-    let m = c.before.before in
-    let a = m.args in (
+    let a = c.args in (
       omega arith,
-      simp length-set m.loop-j.invariant.1,
-      clear_turn a.words.now m.loop-j.words a.at a.n m.loop-j.j m.requires c.loop-j-test.true m.loop-j.invariant.2,
+      simp length-set c.loop-j.invariant.1,
+      clear_turn a.words.now c.loop-j.words a.at a.n c.loop-j.j c.requires c.loop-j-test.true c.loop-j.invariant.2,
     )
 
 pub returns : goal.returns
 returns c =
-    let m = c.before.before in
-    let e : m.loop-j.j ≡ m.args.n = omega arith in
-    rw e at m.loop-j.invariant.2
+    let e : c.loop-j.j ≡ c.args.n = omega arith in
+    rw e at c.loop-j.invariant.2

@@ -5,10 +5,5 @@ use Rattle.lifecycle.proofs.kept.Goals as goal
 
 pub returns : goal.returns
 returns c =
-    let at_start = c.before.before.before.before.before.before.before.before.before.before.before in
-    let d = c.before.before in
-    let b = d.before.before in
-    let o = b.before.before in
-    let a = o.before.before in
-    sym (kept_is at_start.args.words.now a.low16-incoming_peer.result o.low8-outgoing_session.result b.low8-incoming_session.result d.low16-reserved.result
-    a.low16-incoming_peer.ensures o.low8-outgoing_session.ensures b.low8-incoming_session.ensures d.low16-reserved.ensures)
+    sym (kept_is c.args.words.now c.low16-incoming_peer.result c.low8-outgoing_session.result c.low8-incoming_session.result c.low16-reserved.result
+    c.low16-incoming_peer.ensures c.low8-outgoing_session.ensures c.low8-incoming_session.ensures c.low16-reserved.ensures)

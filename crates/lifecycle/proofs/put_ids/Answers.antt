@@ -8,9 +8,7 @@ bounds-words-4 c = search rules depth 12
 
 pub returns : goal.returns
 returns c =
-    let at_wide16 = c.before.before.before.before in
-    let b = at_wide16.before.before in
     let o = c.wide8-outgoing in
     let f = c.wide16-from in
-    put_ids_lem b.args.words.now b.requires b.args.keep at_wide16.wide16-to.result f.result o.result c.wide8-incoming.result
-    at_wide16.wide16-to.ensures.is f.ensures.is f.ensures.low o.ensures.is o.ensures.low c.wide8-incoming.ensures.is c.wide8-incoming.ensures.low
+    put_ids_lem c.args.words.now c.requires c.args.keep c.wide16-to.result f.result o.result c.wide8-incoming.result
+    c.wide16-to.ensures.is f.ensures.is f.ensures.low o.ensures.is o.ensures.low c.wide8-incoming.ensures.is c.wide8-incoming.ensures.low

@@ -14,15 +14,11 @@ returns-then-not-is_fit c =
 
 pub refresh-requires : goal.refresh-requires
 refresh-requires c =
-    let at_kept = c.before.before.before.before in
-    let at_start = at_kept.before.before.before.before.before in
-    let l : length at_start.args.words.now ≡ 1236 = search rules in
-    (search rules, c.clear.ensures ∙ cleared at_start.args.words.now 1236 l)
+    let l : length c.args.words.now ≡ 1236 = search rules in
+    (search rules, c.clear.ensures ∙ cleared c.args.words.now 1236 l)
 
 pub returns : goal.returns
 returns c =
-    let at_kept = c.before.before.before.before.before in
-    let at_if1 = at_kept.before.before.before in
-    let a = at_if1.args in
-    let fit = sym at_if1.is_fit.ensures ∙ not-false _ at_if1.if-not-is_fit.false-raw in
-    record { answer = simp fit; after = simp fit (c.refresh.ensures ∙ ap (fresh_peer a.settings.mtu) at_kept.kept-keep.ensures) }
+    let a = c.args in
+    let fit = sym c.is_fit.ensures ∙ not-false _ c.if-not-is_fit.false-raw in
+    record { answer = simp fit; after = simp fit (c.refresh.ensures ∙ ap (fresh_peer a.settings.mtu) c.kept-keep.ensures) }

@@ -13,32 +13,27 @@ use Rattle.lifecycle.proofs.set_state.Goals as goal
 
 pub returns-in-Shut : goal.returns-in-Shut
 returns-in-Shut c =
-    let at_ask = c.before.before.before in
-    let a = at_ask.args in
+    let a = c.args in
     let p = whole a.words.now in
-    let g = at_ask.ask-asked in
+    let g = c.ask-asked in
     let asked : AtGate a.settings Nothing p = record { gate = g.result; is = g.ensures } in
     let k = c.asked-1.given in
     came_shut asked p (sets_state_sound a.state p) answer_of _ k.0.0 refl k.1
 
 pub returns-then-state-gt-ZOMBIE : goal.returns-then-state-gt-ZOMBIE
 returns-then-state-gt-ZOMBIE c =
-    let at_ask = c.before.before.before in
-    let a = at_ask.args in
+    let a = c.args in
     let p = whole a.words.now in
-    let g = at_ask.ask-asked in
+    let g = c.ask-asked in
     let asked : AtGate a.settings Nothing p = record { gate = g.result; is = g.ensures } in
     let high = lt-leb _ _ c.if-state-gt-ZOMBIE.true in
     came_open asked p (sets_state_sound a.state p) answer_of _ p c.in_default.is (record { answer = rw high; after = rw high })
 
 pub returns : goal.returns
 returns c =
-    let at_standing = c.before.before in
-    let at_if1 = at_standing.before.before.before in
-    let at_ask = at_if1.before.before.before in
-    let a = at_ask.args in
+    let a = c.args in
     let p = whole a.words.now in
-    let asked : AtGate a.settings Nothing p = record { gate = at_ask.ask-asked.result; is = at_ask.ask-asked.ensures } in
-    let high = le-leb _ _ at_if1.if-state-gt-ZOMBIE.false in
-    let done = c.put_standing.ensures ∙ ap (λ (s : Standing). with_standing p (with_state s a.state)) at_standing.standing-standing.ensures in
-    came_open asked p (sets_state_sound a.state p) answer_of _ _ at_if1.in_default.is (record { answer = rw high; after = rw high done })
+    let asked : AtGate a.settings Nothing p = record { gate = c.ask-asked.result; is = c.ask-asked.ensures } in
+    let high = le-leb _ _ c.if-state-gt-ZOMBIE.false in
+    let done = c.put_standing.ensures ∙ ap (λ (s : Standing). with_standing p (with_state s a.state)) c.standing-standing.ensures in
+    came_open asked p (sets_state_sound a.state p) answer_of _ _ c.in_default.is (record { answer = rw high; after = rw high done })

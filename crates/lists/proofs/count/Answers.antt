@@ -5,6 +5,5 @@ use Rattle.lists.proofs.count.Goals as goal
 
 pub returns : goal.returns
 returns c =
-    let b = c.before.before.before.before.before in
-    let a = b.args in
-    c.least.ensures ∙ rw c.low16.ensures (sym (items_length a.words.now a.at a.size b.requires))
+    let a = c.args in
+    c.least.ensures ∙ rw c.low16.ensures (sym (items_length a.words.now a.at a.size c.requires))

@@ -13,7 +13,6 @@ returns-then-count-eq0 c =
 
 pub returns : goal.returns
 returns c =
-    let at_count = c.before.before.before in
-    let a = at_count.args in
+    let a = c.args in
     ap Slot c.slot_at.ensures
-    ∙ sym (first_at (items_of (row_at a.at a.size a.words.now)) (λ e. c.if-count-eq0.false (at_count.count.ensures ∙ e)))
+    ∙ sym (first_at (items_of (row_at a.at a.size a.words.now)) (λ e. c.if-count-eq0.false (c.count.ensures ∙ e)))

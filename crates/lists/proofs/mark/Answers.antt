@@ -14,11 +14,9 @@ loop-k-init c = (omega arith, c.count-n.ensures, refl, refl)
 
 pub loop-k-preserved : goal.loop-k-preserved
 loop-k-preserved c =
-    let at_loop = c.before.before.before.before in
-    let at_start = at_loop.before.before.before.before in
     let s = c.slot_at-s in
-    let l = at_loop.loop-k in
-    let a = at_start.args in
+    let l = c.loop-k in
+    let a = c.args in
     let xs = items_of (row_at a.at a.size a.words.now) in
     let turn = l.invariant.3 ∙ marks_turn xs l.k l.marks (omega (arith, l.invariant.1)) in
     ⊎_elim
@@ -28,8 +26,7 @@ loop-k-preserved c =
 
 pub returns : goal.returns
 returns c =
-    let at_start = c.before.before.before.before.before.before in
     let l = c.loop-k in
-    let a = at_start.args in
+    let a = c.args in
     let xs = items_of (row_at a.at a.size a.words.now) in
     sym (l.invariant.3 ∙ marks_end xs l.k l.marks (omega (arith, l.invariant.1)))

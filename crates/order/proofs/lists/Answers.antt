@@ -5,12 +5,10 @@ use Rattle.order.proofs.lists.Goals as goal
 
 pub returns-then-j : goal.returns-then-j
 returns-then-j c =
-    let start = c.before.before.before.before in
-    let a = start.args in
-    c.list.ensures ∙ lists_place a.words.now start.requires.words_len a.j c.if-j.true
+    let a = c.args in
+    c.list.ensures ∙ lists_place a.words.now c.requires.words_len a.j c.if-j.true
 
 pub returns : goal.returns
 returns c =
-    let start = c.before.before.before.before in
-    let a = start.args in
-    c.list-2.ensures ∙ dispatched_place a.words.now start.requires.words_len a.j c.if-j.false
+    let a = c.args in
+    c.list-2.ensures ∙ dispatched_place a.words.now c.requires.words_len a.j c.if-j.false

@@ -7,24 +7,20 @@ use Rattle.order.proofs.things.Goals as goal
 
 pub returns-then-j : goal.returns-then-j
 returns-then-j c =
-    let start = c.before.before.before.before in
-    let a = start.args in
-    c.channel.ensures ∙ channels_place a.words.now start.requires a.j c.if-j.true
+    let a = c.args in
+    c.channel.ensures ∙ channels_place a.words.now c.requires a.j c.if-j.true
 
 pub returns-then-j-2 : goal.returns-then-j-2
 returns-then-j-2 c =
-    let start = c.before.before.before.before.before in
-    let a = start.args in
-    c.outgoing.ensures ∙ outgoing_place a.words.now start.requires a.j (a.j - 136) (omega arith) (omega arith)
+    let a = c.args in
+    c.outgoing.ensures ∙ outgoing_place a.words.now c.requires a.j (a.j - 136) (omega arith) (omega arith)
 
 pub returns-then-j-3 : goal.returns-then-j-3
 returns-then-j-3 c =
-    let start = c.before.before.before.before.before.before in
-    let a = start.args in
-    c.incoming.ensures ∙ incoming_place a.words.now start.requires a.j (a.j - 968) (omega arith) (omega arith)
+    let a = c.args in
+    c.incoming.ensures ∙ incoming_place a.words.now c.requires a.j (a.j - 968) (omega arith) (omega arith)
 
 pub returns : goal.returns
 returns c =
-    let start = c.before.before.before.before.before.before in
-    let a = start.args in
-    c.mark.ensures ∙ marks_place a.words.now start.requires a.j (a.j - 1040) (omega arith)
+    let a = c.args in
+    c.mark.ensures ∙ marks_place a.words.now c.requires a.j (a.j - 1040) (omega arith)

@@ -8,12 +8,9 @@ use Rattle.outbox.proofs.counters_at.Goals as goal
 pub returns-then-channel-ge-CHANNELS : goal.returns-then-channel-ge-CHANNELS
 unfolding no_channel
 returns-then-channel-ge-CHANNELS c =
-    let at_flow = c.before.before.before.before in
-    let a = at_flow.args in
-    rw (at_flow.flow-flow.ensures, c.outgoing_group-group.ensures, none_there (whole a.words.now) (sized a.words.now) a.channel c.if-channel-ge-CHANNELS.true)
+    let a = c.args in
+    rw (c.flow-flow.ensures, c.outgoing_group-group.ensures, none_there (whole a.words.now) (sized a.words.now) a.channel c.if-channel-ge-CHANNELS.true)
 
 pub returns : goal.returns
 returns c =
-    let at_numbers_of = c.before.before.before in
-    let at_outgoing_group = at_numbers_of.before.before in
-    rw (at_outgoing_group.flow-flow.ensures, at_outgoing_group.outgoing_group-group.ensures, at_numbers_of.numbers_of-numbers.ensures)
+    rw (c.flow-flow.ensures, c.outgoing_group-group.ensures, c.numbers_of-numbers.ensures)

@@ -3,8 +3,4 @@ use Rattle.outbox.proofs.open.Goals as goal
 
 pub returns : goal.returns
 returns c =
-    let m = c.before.before.before in
-    let k = m.before.before in
-    let t = k.before.before in
-    let b = t.before.before.before in
-    rw (t.totals-totals.ensures, k.waiting-waiting.ensures, k.counters_at-counters.ensures, m.mark.ensures, b.requires.marks_value)
+    rw (c.totals-totals.ensures, c.waiting-waiting.ensures, c.counters_at-counters.ensures, c.mark.ensures, c.requires.marks_value)

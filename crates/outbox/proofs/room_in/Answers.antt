@@ -9,24 +9,15 @@ use Rattle.outbox.proofs.room_in.Tie as tie
 use Rattle.outbox.proofs.room_in.Goals as goal
 
 -- places of the code that the helpers below speak of
-abbrev Start : Type 0
-Start = lts.Start tie.the-claims tie.handed_pre tie.handed_post
-
 abbrev AfterCount3 : Type 0
 AfterCount3 = lts.After-count3 tie.the-claims tie.handed_pre tie.handed_post
 
--- where the three are counted: the call as it begins
-abbrev begun : AfterCount3 → Start
-begun c = c.before.before.before.before
-
 abbrev free : AfterCount3 → ℕ
-free c = room_in (whole (begun c).args.words.now).lists
+free c = room_in (whole c.args.words.now).lists
 
 left : (c : AfterCount3) → free c + (c.count-sent.result + (c.count-reliable.result + c.count-waiting.result)) ≡ outgoing
 left c =
-    let n = c.before.before in
-    let m = c.before in
-    room_left (whole (begun c).args.words.now) (begun c).requires.words_value n.count-sent.result m.count-reliable.result c.count-waiting.result n.count-sent.ensures m.count-reliable.ensures c.count-waiting.ensures
+    room_left (whole c.args.words.now) c.requires.words_value c.count-sent.result c.count-reliable.result c.count-waiting.result c.count-sent.ensures c.count-reliable.ensures c.count-waiting.ensures
 
 pub overflow_sub-result : goal.overflow_sub-result
 overflow_sub-result c = omega (arith, left c.before)

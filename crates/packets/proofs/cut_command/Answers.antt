@@ -6,12 +6,10 @@ use Rattle.packets.proofs.cut_command.Goals as goal
 
 pub returns-in-Reliable : goal.returns-in-Reliable
 returns-in-Reliable c =
-    let at_start = c.before.before.before in
-    let a = at_start.args in
-    c.blank.ensures ∙ ap (λ (s : Start). cut_command s a.channel a.fragment) (sym at_start.in-Reliable.is)
+    let a = c.args in
+    c.blank.ensures ∙ ap (λ (s : Start). cut_command s a.channel a.fragment) (sym c.in-Reliable.is)
 
 pub returns-in-Unreliable : goal.returns-in-Unreliable
 returns-in-Unreliable c =
-    let at_start2 = c.before.before.before in
-    let a = at_start2.args in
-    c.blank-in-Unreliable.ensures ∙ ap (λ (s : Start). cut_command s a.channel a.fragment) (sym at_start2.in-Unreliable.is)
+    let a = c.args in
+    c.blank-in-Unreliable.ensures ∙ ap (λ (s : Start). cut_command s a.channel a.fragment) (sym c.in-Unreliable.is)

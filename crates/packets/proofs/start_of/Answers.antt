@@ -8,18 +8,16 @@ use Rattle.packets.proofs.start_of.Goals as goal
 
 pub returns-then-unreliable-lt-LAST : goal.returns-then-unreliable-lt-LAST
 returns-then-unreliable-lt-LAST c =
-    let at_if2 = c.before.before.before.before in
-    let loose = sym at_if2.is_set.ensures ∙ at_if2.if-is_set.true in
-    let quiet = sym at_if2.is_set-then-is_set.ensures ∙ not-true _ at_if2.if-not-is_set.true-raw in
+    let loose = sym c.is_set.ensures ∙ c.if-is_set.true in
+    let quiet = sym c.is_set-then-is_set.ensures ∙ not-true _ c.if-not-is_set.true-raw in
     let fresh = lt-leb _ _ c.if-unreliable-lt-LAST.true in
     rw (loose, quiet, fresh) (ap (λ (n : ℕ). start.Unreliable (record { 0 = n })) c.next.ensures)
 
 pub returns : goal.returns
 returns c =
-    let m = c.before.before in
-    let set = sym m.is_set.ensures in
+    let set = sym c.is_set.ensures in
     let number = ap (λ (n : ℕ). start.Reliable (record { 0 = n })) c.next-2.ensures in
     ⊎_elim
     (λ w. rw (set ∙ w.0.taken, sym w.1.ensures ∙ not-true _ w.2.taken, le-leb _ _ w.4.left) number)
     (⊎_elim (λ w. rw (set ∙ w.0.taken, sym w.1.ensures ∙ not-false _ w.2.left) number) (λ w. rw (set ∙ w.left) number))
-    m.if-is_set.branch
+    c.if-is_set.branch

@@ -8,20 +8,15 @@ returns-then-unsequenced c = rw (sym c.unsequenced.ensures ∙ c.if-unsequenced.
 
 pub returns-then-is_set : goal.returns-then-is_set
 returns-then-is_set c =
-    let at_if1 = c.before.before.before.before in
-    let sequenced = sym at_if1.unsequenced.ensures ∙ at_if1.if-unsequenced.false in
+    let sequenced = sym c.unsequenced.ensures ∙ c.if-unsequenced.false in
     rw (sequenced, sym c.is_set.ensures ∙ c.if-is_set.true) c.blank-then-is_set.ensures
 
 pub returns-then-unreliable-ge-LAST : goal.returns-then-unreliable-ge-LAST
 returns-then-unreliable-ge-LAST c =
-    let at_if2 = c.before.before.before.before in
-    let m = at_if2.before in
-    let sequenced = sym m.unsequenced.ensures ∙ m.if-unsequenced.false in
-    rw (sequenced, sym m.is_set.ensures ∙ at_if2.if-is_set.false, le-leb _ _ c.if-unreliable-ge-LAST.true) c.blank-then-unreliable-ge-LAST.ensures
+    let sequenced = sym c.unsequenced.ensures ∙ c.if-unsequenced.false in
+    rw (sequenced, sym c.is_set.ensures ∙ c.if-is_set.false, le-leb _ _ c.if-unreliable-ge-LAST.true) c.blank-then-unreliable-ge-LAST.ensures
 
 pub returns : goal.returns
 returns c =
-    let at_if2 = c.before.before.before.before in
-    let m = at_if2.before in
-    let sequenced = sym m.unsequenced.ensures ∙ m.if-unsequenced.false in
-    rw (sequenced, sym m.is_set.ensures ∙ at_if2.if-is_set.false, lt-leb _ _ c.if-unreliable-ge-LAST.false) c.blank-2.ensures
+    let sequenced = sym c.unsequenced.ensures ∙ c.if-unsequenced.false in
+    rw (sequenced, sym c.is_set.ensures ∙ c.if-is_set.false, lt-leb _ _ c.if-unreliable-ge-LAST.false) c.blank-2.ensures

@@ -12,6 +12,5 @@ returns-then-i-ge-OUTGOING c =
 
 pub returns : goal.returns
 returns c =
-    let t = c.before.before.before in
-    let a = t.args in
-    c.brief_from.ensures ∙ ap brief_of (rows_part slot_from 26 32 a.pool.now a.i no_outgoing t.if-i-ge-OUTGOING.false)
+    let a = c.args in
+    c.brief_from.ensures ∙ ap brief_of (rows_part slot_from 26 32 a.pool.now a.i no_outgoing c.if-i-ge-OUTGOING.false)

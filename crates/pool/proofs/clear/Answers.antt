@@ -12,18 +12,16 @@ loop-i-init c = (omega arith, refl, refl, paste-zero c.args.bytes.now 0 (replica
 
 pub loop-i-preserved : goal.loop-i-preserved
 loop-i-preserved c =
-    let m = c.before.before in
-    let s = m.args.bytes.now in
-    let z : 0 + m.loop-i.i ≡ m.loop-i.i = omega arith in (
+    let s = c.args.bytes.now in
+    let z : 0 + c.loop-i.i ≡ c.loop-i.i = omega arith in (
       omega arith,
-      m.loop-i.invariant.1,
-      simp length-set m.loop-i.invariant.2,
-      ap (λ (k : ℕ). set m.loop-i.bytes k 0) (sym z) ∙ clear_turn s m.loop-i.bytes 0 (length s) m.loop-i.i (omega (arith, m.loop-i.invariant.1)) c.loop-i-test.true m.loop-i.invariant.3,
+      c.loop-i.invariant.1,
+      simp length-set c.loop-i.invariant.2,
+      ap (λ (k : ℕ). set c.loop-i.bytes k 0) (sym z) ∙ clear_turn s c.loop-i.bytes 0 (length s) c.loop-i.i (omega (arith, c.loop-i.invariant.1)) c.loop-i-test.true c.loop-i.invariant.3,
     )
 
 pub returns : goal.returns
 returns c =
-    let m = c.before.before in
-    let s = m.args.bytes.now in
-    let e : m.loop-i.i ≡ length s = omega (arith, m.loop-i.invariant.1) in
-    rw e at m.loop-i.invariant.3 ∙ cleared s (length s) refl
+    let s = c.args.bytes.now in
+    let e : c.loop-i.i ≡ length s = omega (arith, c.loop-i.invariant.1) in
+    rw e at c.loop-i.invariant.3 ∙ cleared s (length s) refl

@@ -7,5 +7,4 @@ returns-then-byte-kind_from c = rw (← c.kind_from.ensures, ne_eqb _ _ c.if-byt
 
 pub returns : goal.returns
 returns c =
-    let low = c.before.before in
-    rw (c.on_channel.ensures, low.low8.ensures, ← low.kind_from.ensures, eq-eqb _ _ low.if-byte-kind_from.false)
+    rw (c.on_channel.ensures, c.low8.ensures, ← c.kind_from.ensures, eq-eqb _ _ c.if-byte-kind_from.false)

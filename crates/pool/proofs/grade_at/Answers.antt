@@ -5,6 +5,5 @@ use Rattle.pool.proofs.grade_at.Goals as goal
 
 pub returns : goal.returns
 returns c =
-    let at_start = c.before.before.before.before.before.before.before in
-    let a = at_start.args in
-    c.grade_of.ensures ∙ grade_at_lem a.pool.now a.count a.s at_start.requires.s_lt_outgoing
+    let a = c.args in
+    c.grade_of.ensures ∙ grade_at_lem a.pool.now a.count a.s c.requires.s_lt_outgoing

@@ -13,6 +13,5 @@ returns-then-i-ge-INCOMING c =
 
 pub returns : goal.returns
 returns c =
-    let t = c.before.before.before in
-    let a = t.args in
-    c.in_slot_from.ensures ∙ rows_part in_slot_from 6 12 a.pool.now a.i no_incoming t.if-i-ge-INCOMING.false
+    let a = c.args in
+    c.in_slot_from.ensures ∙ rows_part in_slot_from 6 12 a.pool.now a.i no_incoming c.if-i-ge-INCOMING.false

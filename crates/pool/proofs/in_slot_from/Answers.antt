@@ -5,6 +5,4 @@ use Rattle.pool.proofs.in_slot_from.Goals as goal
 pub returns : goal.returns
 unfolding in_slot_from
 returns c =
-    let h = c.before.before.before.before in
-    let b = h.before.before in
-    rw (b.low8.ensures, h.low8-2.ensures, b.low16.ensures)
+    rw (c.low8.ensures, c.low8-2.ensures, c.low16.ensures)

@@ -14,12 +14,9 @@ returns-then-i-ge-OUTGOING c =
 
 pub returns : goal.returns
 returns c =
-    let at_copy = c.before.before.before in
-    let at_words = at_copy.before.before.before in
-    let b = at_words.before.before.before in
-    let a = b.args in
-    let part = at_words.words-part.result in
-    let l : length part ≡ 26 = ap length at_words.words-part.ensures.0 ∙ words_length a.slot in
-    ap slots_of at_copy.copy.ensures
-    ∙ slots_put a.pool.now a.i part at_words.if-i-ge-OUTGOING.false b.requires l
-    ∙ ap (set (slots_of a.pool.now) a.i) at_words.words-part.ensures.1
+    let a = c.args in
+    let part = c.words-part.result in
+    let l : length part ≡ 26 = ap length c.words-part.ensures.0 ∙ words_length a.slot in
+    ap slots_of c.copy.ensures
+    ∙ slots_put a.pool.now a.i part c.if-i-ge-OUTGOING.false c.requires l
+    ∙ ap (set (slots_of a.pool.now) a.i) c.words-part.ensures.1

@@ -13,10 +13,6 @@ returns-then-i-ge-INCOMING c =
 
 pub returns : goal.returns
 returns c =
-    let at_copy = c.before.before.before in
-    let at_struct_known = at_copy.before.before.before.before.before.before in
-    let t = at_struct_known.before in
-    let s = t.before.before in
-    let a = s.args in
-    ap in_slots_of at_copy.copy.ensures
-    ∙ in_slots_put a.pool.now a.i a.slot t.if-i-ge-INCOMING.false s.requires (in_widths a.slot at_struct_known.struct_known-1.given)
+    let a = c.args in
+    ap in_slots_of c.copy.ensures
+    ∙ in_slots_put a.pool.now a.i a.slot c.if-i-ge-INCOMING.false c.requires (in_widths a.slot c.struct_known-1.given)

@@ -17,8 +17,6 @@ returns-then-i-ge-OUTGOING c =
 
 pub returns : goal.returns
 returns c =
-    let k = c.before.before.before in
-    let b = k.before.before in
-    let a = b.args in
-    let e : k.copy.new.to ≡ row_at 26 a.pool.now a.i = k.copy.ensures ∙ paste_over (replicate 26 0) (drop (a.i * 26) a.pool.now) 26 refl in
-    c.slot_from.ensures ∙ ap slot_from e ∙ sym (rows_at slot_from 26 32 a.pool.now a.i no_outgoing b.if-i-ge-OUTGOING.false)
+    let a = c.args in
+    let e : c.copy.new.to ≡ row_at 26 a.pool.now a.i = c.copy.ensures ∙ paste_over (replicate 26 0) (drop (a.i * 26) a.pool.now) 26 refl in
+    c.slot_from.ensures ∙ ap slot_from e ∙ sym (rows_at slot_from 26 32 a.pool.now a.i no_outgoing c.if-i-ge-OUTGOING.false)

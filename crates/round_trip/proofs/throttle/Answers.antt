@@ -9,26 +9,18 @@ use Rattle.round_trip.proofs.throttle.Goals as goal
 
 pub returns-in-Shut : goal.returns-in-Shut
 returns-in-Shut c =
-    let at_ask = c.before.before.before.before in
-    let a = at_ask.args in
+    let a = c.args in
     let p = whole a.words.now in
-    let g = at_ask.ask-asked in
+    let g = c.ask-asked in
     let asked : AtGate a.settings Nothing p = record { gate = g.result; is = g.ensures } in
     let k = c.asked-1.given in
     came_shut asked p (throttles_sound a.sample p) answer_of _ k.0.0 refl k.1
 
 pub returns : goal.returns
 returns c =
-    let at_throttling = c.before.before.before.before.before.before.before.before in
-    let at_enum_told = at_throttling.before.before.before in
-    let at_start = at_enum_told.before.before.before.before.before in
-    let w = c.before.before in
-    let t = w.before.before in
-    let u = t.before in
-    let g = at_enum_told.before.before in
-    let a = at_start.args in
+    let a = c.args in
     let p = whole a.words.now in
-    let asked : AtGate a.settings Nothing p = record { gate = g.ask-asked.result; is = g.ask-asked.ensures } in
-    came_open asked p (throttles_sound a.sample p) answer_of _ _ at_enum_told.in_default.is
-    (throttles_by a.sample p _ _ at_throttling.throttling-throttling.ensures u.trips-trips.ensures t.throttle-rolled.result.throttling t.throttle-rolled.ensures.throttling
-    t.throttle-rolled.result.turn t.throttle-rolled.ensures.turn _ c.reply_of.ensures _ w.put_throttling.ensures)
+    let asked : AtGate a.settings Nothing p = record { gate = c.ask-asked.result; is = c.ask-asked.ensures } in
+    came_open asked p (throttles_sound a.sample p) answer_of _ _ c.in_default.is
+    (throttles_by a.sample p _ _ c.throttling-throttling.ensures c.trips-trips.ensures c.throttle-rolled.result.throttling c.throttle-rolled.ensures.throttling
+    c.throttle-rolled.result.turn c.throttle-rolled.ensures.turn _ c.reply_of.ensures _ c.put_throttling.ensures)

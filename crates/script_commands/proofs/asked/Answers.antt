@@ -11,9 +11,8 @@ use Rattle.script_commands.proofs.asked.Goals as goal
 
 pub loop-j-preserved : goal.loop-j-preserved
 loop-j-preserved c =
-    let at_loop = c.before.before.before.before in
-    let l = at_loop.loop-j in
-    let a = at_loop.args in
+    let l = c.loop-j in
+    let a = c.args in
     let x : c.number.result ≡ number_at a.input.now (place_of a.head a.tail l.j) =
     c.number.ensures ∙ ap (λ (p : ℕ). number_at a.input.now (p + l.j)) c.from.ensures
     in (

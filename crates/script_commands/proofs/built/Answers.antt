@@ -13,8 +13,7 @@ returns-then-kind-gt-KINDS c =
 
 pub returns : goal.returns
 returns c =
-    let at_number = c.before.before.before.before in
-    let a = at_number.args in
-    let k = at_number.number-kind in
+    let a = c.args in
+    let k = c.number-kind in
     let row = c.asked in
     c.build.ensures ∙ built_at_lem a.input.now a.head a.tail k.result row.result k.ensures row.ensures

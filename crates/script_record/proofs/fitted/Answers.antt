@@ -16,33 +16,29 @@ loop-j-init c = (search rules, refl)
 
 pub loop-j-preserved : goal.loop-j-preserved
 loop-j-preserved c =
-    let at_width_of = c.before.before.before in
-    let m = at_width_of.before.before in
-    let a = m.args in
+    let a = c.args in
     let n = length (layout a.kind) in
-    let e : length a.t3 ≡ 16 = search rules in
-    let w = at_width_of.width_of in
+    let e : length a.numbers ≡ 16 = search rules in
+    let w = c.width_of in
     let some : 0 < w.result = ltb-true 0 w.result c.if-width_of-gt0.true-raw in
-    let h = has_number a.kind m.loop-j.j w.result w.ensures some in (
+    let h = has_number a.kind c.loop-j.j w.result w.ensures some in (
       omega arith,
-      m.loop-j.invariant.1 ∙ first_turn m.loop-j.after c.put-after.result a.t3 m.loop-j.j c.put-after.ensures n h (omega arith),
+      c.loop-j.invariant.1 ∙ first_turn c.loop-j.after c.put-after.result a.numbers c.loop-j.j c.put-after.ensures n h (omega arith),
     )
 
 pub returns-else-width_of-gt0 : goal.returns-else-width_of-gt0
 returns-else-width_of-gt0 c =
-    let m = c.before.before.before.before in
-    let a = m.args in
+    let a = c.args in
     let n = length (layout a.kind) in
     let w = c.width_of in
     let none : w.result ≤ 0 = ltb-false 0 w.result c.if-width_of-gt0.false-raw in
-    let end = part_end a.t3 m.loop-j.j n (has_none a.kind m.loop-j.j w.result w.ensures none) in
-    sym (m.loop-j.invariant.1 ∙ none_left m.loop-j.after (drop m.loop-j.j (take n a.t3)) end)
+    let end = part_end a.numbers c.loop-j.j n (has_none a.kind c.loop-j.j w.result w.ensures none) in
+    sym (c.loop-j.invariant.1 ∙ none_left c.loop-j.after (drop c.loop-j.j (take n a.numbers)) end)
 
 pub returns-after-loop-j : goal.returns-after-loop-j
 returns-after-loop-j c =
-    let m = c.before.before in
-    let a = m.args in
+    let a = c.args in
     let n = length (layout a.kind) in
-    let e : length a.t3 ≡ 16 = search rules in
-    let end = part_out a.t3 m.loop-j.j n (omega arith) in
-    sym (m.loop-j.invariant.1 ∙ none_left m.loop-j.after (drop m.loop-j.j (take n a.t3)) end)
+    let e : length a.numbers ≡ 16 = search rules in
+    let end = part_out a.numbers c.loop-j.j n (omega arith) in
+    sym (c.loop-j.invariant.1 ∙ none_left c.loop-j.after (drop c.loop-j.j (take n a.numbers)) end)

@@ -11,13 +11,11 @@ use Rattle.script_record.proofs.outgoing_slot.Goals as goal
 
 pub returns : goal.returns
 returns c =
-    let at_put_all = c.before.before.before in
-    let at_start = at_put_all.before.before.before.before.before.before.before.before.before in
-    let a = at_start.args in
+    let a = c.args in
     let s = a.s in
     let row : ℕ → List ℕ → List ℕ = λ x rest.
     s.reliable.0 ∷ s.unreliable.0 ∷ s.sent ∷ s.timeout ∷ s.queued ∷ s.offset ∷ s.length ∷ s.attempts ∷ x ∷ rest
     in
-    let p = at_put_all.put_all-row in
+    let p = c.put_all-row in
     told_then a.row p.result c.command.result (row (bool_byte s.packet) []) (row_of s.command) p.ensures c.command.ensures
     ∙ ap (λ (x : ℕ). told a.row (row x (row_of s.command))) (bit s.packet)

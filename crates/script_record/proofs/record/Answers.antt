@@ -19,9 +19,8 @@ loop-i-init c = (search rules, refl)
 
 pub loop-i-preserved : goal.loop-i-preserved
 loop-i-preserved c =
-    let at_loop = c.before.before.before.before in
-    let ws = at_loop.args.words.now in
-    let l = at_loop.loop-i in
+    let ws = c.args.words.now in
+    let l = c.loop-i in
     let n : length (table (whole ws)) ≡ 1236 = table-length ws (search rules) in
     let e : c.place_at.result ≡ get_or (table (whole ws)) l.i nowhere = c.place_at.ensures in (
       omega arith,

@@ -17,9 +17,8 @@ loop-j-init c =
 
 pub returns-then-not-fits_at : goal.returns-then-not-fits_at
 returns-then-not-fits_at c =
-    let at_loop = c.before.before.before.before.before in
-    let a = at_loop.args in
-    let l = at_loop.loop-j in
+    let a = c.args in
+    let l = c.loop-j in
     let f = c.fits_at in
     let no : f.result ≡ false = not-true _ c.if-not-fits_at.true-raw in
     sym (l.invariant.1 ∙ fit_none (whole a.words.now) a.input.now a.i a.k a.n l.j (omega arith)
@@ -27,9 +26,8 @@ returns-then-not-fits_at c =
 
 pub loop-j-preserved : goal.loop-j-preserved
 loop-j-preserved c =
-    let at_loop = c.before.before.before.before.before in
-    let a = at_loop.args in
-    let l = at_loop.loop-j in
+    let a = c.args in
+    let l = c.loop-j in
     let f = c.fits_at in
     let yes : f.result ≡ true = not-false _ c.if-not-fits_at.false-raw in (
       omega arith,

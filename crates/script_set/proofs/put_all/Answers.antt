@@ -12,9 +12,8 @@ loop-j-init c = (search rules, refl, put_start c.args.words.now c.args.input.now
 
 pub loop-j-preserved : goal.loop-j-preserved
 loop-j-preserved c =
-    let at_loop = c.before.before.before in
-    let a = at_loop.args in
-    let l = at_loop.loop-j in (
+    let a = c.args in
+    let l = c.loop-j in (
       omega arith,
       simp length-set l.invariant.1,
       l.invariant.2 ∙ put_turn l.words a.input.now a.i a.k a.n l.j c.number.result (omega arith) c.number.ensures,

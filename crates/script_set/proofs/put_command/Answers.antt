@@ -13,11 +13,9 @@ use Rattle.script_set.proofs.put_command.Goals as goal
 
 pub returns : goal.returns
 returns c =
-    let at_copy = c.before.before.before in
-    let at_kind = at_copy.before.before.before in
-    let a = at_kind.args in
-    let o = at_kind.of-row in
-    let k = at_kind.kind_of-kind in
+    let a = c.args in
+    let o = c.of-row in
+    let k = c.kind_of-kind in
     let row : length o.result ≡ 16 = search rules in
-    command_put a.words.now o.result (pad 16 (row_of a.c)) at_copy.copy.new.to a.i k.result (omega arith) row o.ensures at_copy.copy.ensures
+    command_put a.words.now o.result (pad 16 (row_of a.c)) c.copy.new.to a.i k.result (omega arith) row o.ensures c.copy.ensures
     ∙ ap (λ (n : ℕ). sets a.words.now a.i (pad 16 (row_of a.c) ++ (n ∷ []))) k.ensures

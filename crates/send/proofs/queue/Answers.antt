@@ -7,9 +7,6 @@ use Rattle.send.proofs.queue.Goals as goal
 
 pub returns : goal.returns
 returns c =
-    let at_queue = c.before.before.before.before.before in
-    let q = at_queue.queue in
-    let at_piece = at_queue.before in
-    let at_start = at_piece.before.before.before.before.before in
-    let a = at_start.args in
-    subst (λ (x : Piece). Sets (whole a.words.now) a.o a.marks.now x q.result q.new.marks (whole q.new.words)) at_piece.piece_at.ensures q.ensures
+    let q = c.queue in
+    let a = c.args in
+    subst (λ (x : Piece). Sets (whole a.words.now) a.o a.marks.now x q.result q.new.marks (whole q.new.words)) c.piece_at.ensures q.ensures

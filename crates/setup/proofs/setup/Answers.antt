@@ -18,73 +18,46 @@ use Rattle.setup.proofs.setup.Tie as tie
 use Rattle.setup.proofs.setup.Goals as goal
 
 -- places of the code that the helpers below speak of
-abbrev Start : Type 0
-Start = lts.Start tie.the-claims tie.handed_pre tie.handed_post
-
 abbrev AfterEnumTold : Type 0
 AfterEnumTold = lts.After-enum_told tie.the-claims tie.handed_pre tie.handed_post
-
-abbrev AfterStanding : Type 0
-AfterStanding = lts.After-standing tie.the-claims tie.handed_pre tie.handed_post
 
 abbrev AfterSetupGate : Type 0
 AfterSetupGate = lts.After-setup_gate tie.the-claims tie.handed_pre tie.handed_post
 
--- where the gate of every call is passed: the call as it begins, the record as it was lent, and what the gate answered
-abbrev begun : AfterEnumTold → Start
-begun c = c.before.before.before.before.before
-
 abbrev peer : AfterEnumTold → Peer
-peer c = whole (begun c).args.words.now
+peer c = whole c.args.words.now
 
-abbrev asked : (c : AfterEnumTold) → AtGate (begun c).args.settings Nothing (peer c)
-asked c = let g = c.ask-gate in record { gate = g.result; is = g.ensures }
+abbrev asked : (c : AfterEnumTold) → AtGate c.args.settings Nothing (peer c)
+asked c = let g = c.before.before.ask in record { gate = g.result; is = g.ensures }
 
-abbrev passed : AfterStanding → AfterEnumTold
-passed c = c.before.before.before.before
-
--- where the call's own gate has answered
-abbrev stood : AfterSetupGate → AfterStanding
-stood c = c.before.before.before.before
-
-judged : (c : AfterSetupGate) → let t = passed (stood c) in c.setup_gate-may.result ≡ setup_gate (begun t).args.x (peer t).standing.channels (room (peer t))
+judged : (c : AfterSetupGate) → c.setup_gate-may.result ≡ setup_gate c.args.x (peer c.before.before.before.before.before.before.before.before).standing.channels (room (peer c.before.before.before.before.before.before.before.before))
 judged c =
-    let t = passed (stood c) in
     let free = c.room_in in
     c.setup_gate-may.ensures
-    ∙ ap (λ (s : Standing). setup_gate (begun t).args.x s.channels free.result) (stood c).standing-standing.ensures
-    ∙ ap (setup_gate (begun t).args.x (peer t).standing.channels) free.ensures
+    ∙ ap (λ (s : Standing). setup_gate c.args.x s.channels free.result) c.standing-standing.ensures
+    ∙ ap (setup_gate c.args.x (peer c.before.before.before.before.before.before.before.before).standing.channels) free.ensures
 
 pub returns-in-Shut : goal.returns-in-Shut
 returns-in-Shut c =
     let k = c.gate-1.given in
-    let at_ask = c.before.before.before.before in
-    let g = at_ask.ask-gate in
-    let a = at_ask.args in
+    let g = c.ask-gate in
+    let a = c.args in
     let p = whole a.words.now in
     let b : AtGate a.settings Nothing p = record { gate = g.result; is = g.ensures } in
     came_shut b p (sets_up_sound a.x p) answer_of _ k.0.0 refl k.1
 
 pub room_in-requires : goal.room_in-requires
 room_in-requires c =
-    let t = passed c.before.before.before in
-    let h : sound (peer t) ≡ true = open_sound (asked t) t.in_default.is in
+    let h : sound (peer c.before.before.before.before.before.before.before) ≡ true = open_sound (asked c.before.before.before.before.before.before.before) c.in_default.is in
     search rules
 
 pub returns-in-Shut-may : goal.returns-in-Shut-may
 returns-in-Shut-may c =
     let k = c.may-1.given in
-    let j = c.before.before.before.before in
-    let t = passed (stood j) in
-    one_shut (begun t).args.settings (begun t).args.x (peer t) (asked t) t.enum_told.given.1 (setup_gate (begun t).args.x (peer t).standing.channels (room (peer t))) j.setup_gate-may.result (judged j) k.0.0 k.1
+    one_shut c.args.settings c.args.x (peer c.before.before.before.before.before.before.before.before.before.before.before.before) (asked c.before.before.before.before.before.before.before.before.before.before.before.before) c.in_default.is (setup_gate c.args.x (peer c.before.before.before.before.before.before.before.before.before.before.before.before).standing.channels (room (peer c.before.before.before.before.before.before.before.before.before.before.before.before))) c.setup_gate-may.result (judged c.before.before.before.before) k.0.0 k.1
 
 pub returns : goal.returns
 returns c =
-    let q = c.before.before.before.before in
-    let o = q.before.before.before.before in
-    let u = o.before.before.before.before in
-    let j = u.before.before in
-    let t = passed (stood j) in
-    lent_left (begun t).args.settings (begun t).args.x (peer t) (asked t) t.enum_told.given.1 (setup_gate (begun t).args.x (peer t).standing.channels (room (peer t))) j.setup_gate-may.result (judged j) (setup_some (begun t).args.x (peer t)) u.in_default-may.is
-    o.open-o.result o.open-o.new.marks o.open-o.ensures q.queue-after.result q.queue-after.new.marks (whole q.queue-after.new.words) (whole c.close.new.words)
-    q.queue-after.ensures c.close.ensures
+    lent_left c.args.settings c.args.x (peer c.before.before.before.before.before.before.before.before.before.before.before.before.before.before.before.before.before.before.before.before.before.before) (asked c.before.before.before.before.before.before.before.before.before.before.before.before.before.before.before.before.before.before.before.before.before.before) c.in_default.is (setup_gate c.args.x (peer c.before.before.before.before.before.before.before.before.before.before.before.before.before.before.before.before.before.before.before.before.before.before).standing.channels (room (peer c.before.before.before.before.before.before.before.before.before.before.before.before.before.before.before.before.before.before.before.before.before.before))) c.setup_gate-may.result (judged c.before.before.before.before.before.before.before.before.before.before.before.before.before.before) (setup_some c.args.x (peer c.before.before.before.before.before.before.before.before.before.before.before.before.before.before.before.before.before.before.before.before.before.before)) c.in_default-may.is
+    c.open-o.result c.open-o.new.marks c.open-o.ensures c.queue-after.result c.queue-after.new.marks (whole c.queue-after.new.words) (whole c.close.new.words)
+    c.queue-after.ensures c.close.ensures

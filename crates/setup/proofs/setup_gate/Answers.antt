@@ -12,18 +12,16 @@ returns-then-free-lt1 c =
 
 pub returns-then-not-names_fields : goal.returns-then-not-names_fields
 returns-then-not-names_fields c =
-    let m = c.before.before.before in
     simp (
-      sym m.on_channel.ensures ∙ not-false _ m.if-not-on_channel.false-raw,
-      le-leb _ _ m.if-free-lt1.false,
+      sym c.on_channel.ensures ∙ not-false _ c.if-not-on_channel.false-raw,
+      le-leb _ _ c.if-free-lt1.false,
       sym c.names_fields.ensures ∙ not-true _ c.if-not-names_fields.true-raw,
     )
 
 pub returns : goal.returns
 returns c =
-    let m = c.before.before.before in
     simp (
-      sym m.on_channel.ensures ∙ not-false _ m.if-not-on_channel.false-raw,
-      le-leb _ _ m.if-free-lt1.false,
+      sym c.on_channel.ensures ∙ not-false _ c.if-not-on_channel.false-raw,
+      le-leb _ _ c.if-free-lt1.false,
       sym c.names_fields.ensures ∙ not-false _ c.if-not-names_fields.false-raw,
     )

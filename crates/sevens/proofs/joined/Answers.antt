@@ -16,5 +16,4 @@ overflow_add-result-in-Number c = omega (arith, ap groups_of c.in-Number.is)
 
 pub returns-else-value-eq0 : goal.returns-else-value-eq0
 returns-else-value-eq0 c =
-    let m = c.before.before.before in
-    sym (ap (below m.args.b) m.in-Number.is ∙ below_some _ _ _ c.if-value-eq0.false)
+    sym (ap (below c.args.b) c.in-Number.is ∙ below_some _ _ _ c.if-value-eq0.false)

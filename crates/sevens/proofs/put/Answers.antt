@@ -15,9 +15,8 @@ overflow_add-i c = omega (arith, in_room c.loop-rest.invariant)
 
 pub loop-rest-preserved : goal.loop-rest-preserved
 loop-rest-preserved c =
-    let m = c.before.before in
-    let a = m.args in
-    turn a.buffer.now a.at a.x m.loop-rest.buffer m.loop-rest.rest m.loop-rest.i m.loop-rest.invariant c.loop-rest-test.true
+    let a = c.args in
+    turn a.buffer.now a.at a.x c.loop-rest.buffer c.loop-rest.rest c.loop-rest.i c.loop-rest.invariant c.loop-rest-test.true
 
 pub bounds-buffer-i-2 : goal.bounds-buffer-i-2
 bounds-buffer-i-2 c = omega (arith, in_room c.loop-rest.invariant)

@@ -7,40 +7,32 @@ use Rattle.peer.specs.Outcome.{State}
 use Rattle.places.specs.Whole.{whole}
 use Rattle.places.proofs.Sized.{sized}
 use Rattle.snapshot.proofs.WriteLaws.{numbers, total, edition_one, snapshot_length, put_is}
+use Rattle.snapshot.proofs.put.Lts as lts
+use Rattle.snapshot.proofs.put.Tie as tie
 use Rattle.snapshot.proofs.put.Goals as goal
 
--- the places before the first call
-abbrev to_start : goal.After-put-arg-1 → goal.Start
-to_start c = c.before.before.before.before.before
+-- places of the code that the helpers below speak of
+abbrev Start : Type 0
+Start = lts.Start tie.the-claims tie.handed_pre tie.handed_post
 
 -- what is written, and that there is room for it
-abbrev state : goal.Start → State
+abbrev state : Start → State
 state c = record { peer = whole c.args.words.now; store = c.args.store.now; second = c.args.second.now }
 
-room : (c : goal.Start) → 1 + length (numbers (state c)) + total (state c) ≤ length c.args.buffer.now
+room : (c : Start) → 1 + length (numbers (state c)) + total (state c) ≤ length c.args.buffer.now
 room c =
     let p = c.requires in
     omega (arith, p.1.1, snapshot_length (state c) (sized c.args.words.now).incoming p.1.0.0 p.1.0.1)
 
 pub put-requires : goal.put-requires
-put-requires c = omega (arith, edition_one, room (to_start c))
+put-requires c = omega (arith, edition_one, room c.before.before.before.before.before.before)
 
 pub put-end-requires : goal.put-end-requires
-put-end-requires c =
-    let at_first = c.before.before.before in
-    let start = to_start at_first.before in
-    (search rules, omega (arith, room start))
+put-end-requires c = record { words_len = search rules; words_in_bounds = omega (arith, room c.before.before.before.before.before.before.before.before.before.before) }
 
 pub put-requires-2 : goal.put-requires-2
-put-requires-2 c =
-    let at_second = c.before.before.before in
-    let at_first = at_second.before.before.before.before in
-    let start = to_start at_first.before in
-    (search rules, (search rules, omega (arith, at_second.put-end.ensures.end, room start)))
+put-requires-2 c = record { words_len = search rules; store_len = search rules; words_in_bounds = omega (arith, c.put-end.ensures.end, room c.before.before.before.before.before.before.before.before.before.before.before.before.before.before) }
 
 pub returns : goal.returns
 returns c =
-    let at_third = c.before.before in
-    let at_second = at_third.before.before.before.before in
-    let at_first = at_second.before.before.before.before in
-    put_is (state (to_start at_first.before)) _ _ _ _ _ at_first.put.ensures at_second.put-end.ensures.bytes at_second.put-end.ensures.end at_third.put-2.ensures.bytes
+    put_is (state c.before.before.before.before.before.before.before.before.before.before.before.before.before.before.before.before.before) _ _ _ _ _ c.put.ensures c.put-end.ensures.bytes c.put-end.ensures.end c.put-2.ensures.bytes

@@ -5,12 +5,7 @@ use Rattle.snapshot.proofs.replace.Goals as goal
 
 pub returns : goal.returns
 returns c =
-    let at_copy = c.before.before.before in
-    let at_lay = at_copy.before.before.before.before.before.before in
-    let at_clear2 = at_lay.before.before.before.before.before in
-    let at_clear = at_clear2.before.before.before.before in
-    let start = at_clear.before.before.before.before.before.before.before in
-    let a = start.args in
-    let p = start.requires in
-    let same = copied a.words.now a.fresh.now _ p.0.0 p.0.1 at_copy.copy.ensures in
-    replace_is a.fresh.now (drop a.at a.bytes.now) _ same _ _ _ _ _ _ p.1.0.0 p.1.0.1 at_clear.clear.ensures at_clear2.clear-2.ensures at_lay.lay.ensures
+    let a = c.args in
+    let p = c.requires in
+    let same = copied a.words.now a.fresh.now _ p.0.0 p.0.1 c.copy.ensures in
+    replace_is a.fresh.now (drop a.at a.bytes.now) _ same _ _ _ _ _ _ p.1.0.0 p.1.0.1 c.clear.ensures c.clear-2.ensures c.lay.ensures

@@ -7,10 +7,7 @@ use Rattle.timeouts.proofs.begin.Goals as goal
 
 pub returns : goal.returns
 returns c =
-    let at_flow = c.before.before in
-    let at_loss = at_flow.before in
-    let at_times = at_loss.before in
-    let a = at_times.args in
+    let a = c.args in
     ap (begun a.k)
-    (begin_is (whole a.words.now) c.at_entry-w.result at_times.times.result at_loss.loss.result at_flow.flow.result
-    at_times.times.ensures at_loss.loss.ensures at_flow.flow.ensures c.at_entry-w.ensures)
+    (begin_is (whole a.words.now) c.at_entry-w.result c.times.result c.loss.result c.flow.result
+    c.times.ensures c.loss.ensures c.flow.ensures c.at_entry-w.ensures)

@@ -9,11 +9,9 @@ use Rattle.timeouts.proofs.divide.Goals as goal
 
 pub returns-then-back : goal.returns-then-back
 returns-then-back c =
-    let at_back = c.before.before.before in
-    let at_if = at_back.before.before in
-    let a = at_if.args in
+    let a = c.args in
     let p = whole a.words.now in
-    at_back.send_back.ensures ∙ ap (λ (b : Bool). pick b (with_lists p (lists_by a.marks.now p.lists)) p) (sym at_if.if-back.true)
+    c.send_back.ensures ∙ ap (λ (b : Bool). pick b (with_lists p (lists_by a.marks.now p.lists)) p) (sym c.if-back.true)
 
 pub returns-else-back : goal.returns-else-back
 returns-else-back c =

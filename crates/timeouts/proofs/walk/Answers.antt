@@ -15,41 +15,30 @@ use Rattle.timeouts.proofs.walk.Goals as goal
 
 pub loop-j-init : goal.loop-j-init
 loop-j-init c =
-    let at_early = c.before.before.before in
-    let at_count = at_early.before.before in
-    let at_start = at_count.before.before.before.before.before.before in
-    let p = whole at_start.args.words.now in
-    let fits = sent_fits at_start.args.words.now in
-    let low = early_fits at_start.args.clock p.outgoing (out_items p.lists.sent) in (
-      omega (arith, at_count.count-n.ensures, at_early.early-j.ensures, low),
-      omega (arith, at_count.count-n.ensures, fits),
-      at_start.requires.words_len,
-      ap length at_start.requires.marks_value ∙ length-replicate {A = ℕ} 32 0,
-      going_begun at_count.limits-limits.result at_start.args.clock p at_start.args.marks.now at_early.early-j.result c.begin-w.result fits at_start.requires.marks_value at_early.early-j.ensures c.begin-w.ensures,
+    let p = whole c.args.words.now in
+    let fits = sent_fits c.args.words.now in
+    let low = early_fits c.args.clock p.outgoing (out_items p.lists.sent) in (
+      omega (arith, c.count-n.ensures, c.early-j.ensures, low),
+      omega (arith, c.count-n.ensures, fits),
+      c.requires.words_len,
+      ap length c.requires.marks_value ∙ length-replicate {A = ℕ} 32 0,
+      going_begun c.limits-limits.result c.args.clock p c.args.marks.now c.early-j.result c.begin-w.result fits c.requires.marks_value c.early-j.ensures c.begin-w.ensures,
     )
 
 pub loop-j-preserved : goal.loop-j-preserved
 loop-j-preserved c =
-    let at_turn = c.before.before.before.before in
-    let at_slot = at_turn.before.before in
-    let at_test = at_slot.before.before in
-    let at_loop = at_test.before in
-    let at_count = at_loop.before.before.before.before.before in
-    let i = at_loop.loop-j.invariant in (
+    let i = c.loop-j.invariant in (
       omega arith,
       i.1,
       search rules,
       search rules,
-      lent_turn i.4 at_slot.slot_at-s.result at_turn.turn-t.result.mark at_turn.turn-t.result.walk (whole at_turn.turn-t.new.words) (omega (arith, at_count.count-n.ensures, at_test.loop-j-test.true))
-          (omega (arith, at_count.count-n.ensures)) at_slot.slot_at-s.ensures at_turn.turn-t.ensures.walk at_turn.turn-t.ensures.mark at_turn.turn-t.ensures.slot,
+      lent_turn i.4 c.slot_at-s.result c.turn-t.result.mark c.turn-t.result.walk (whole c.turn-t.new.words) (omega (arith, c.count-n.ensures, c.loop-j-test.true))
+          (omega (arith, c.count-n.ensures)) c.slot_at-s.ensures c.turn-t.ensures.walk c.turn-t.ensures.mark c.turn-t.ensures.slot,
     )
 
 pub returns : goal.returns
 returns c =
-    let at_loop = c.before.before in
-    let at_count = at_loop.before.before.before.before.before in
-    let at_limits = at_count.before.before in
-    let p = whole at_limits.args.words.now in
-    let i = at_loop.loop-j.invariant in
-    let e : at_loop.loop-j.j ≡ length (out_items p.lists.sent) = omega (arith, at_count.count-n.ensures) in
-    let is = walk_end i.4 at_limits.limits-limits.ensures e in record { walk = ap (λ (x : Walked). x.walk) (sym is); marks = ap (λ (x : Walked). x.marks) (sym is); slots = slots_end i.4 at_limits.limits-limits.ensures e }
+    let p = whole c.args.words.now in
+    let i = c.loop-j.invariant in
+    let e : c.loop-j.j ≡ length (out_items p.lists.sent) = omega (arith, c.count-n.ensures) in
+    let is = walk_end i.4 c.limits-limits.ensures e in record { walk = ap (λ (x : Walked). x.walk) (sym is); marks = ap (λ (x : Walked). x.marks) (sym is); slots = slots_end i.4 c.limits-limits.ensures e }

@@ -10,25 +10,20 @@ returns-then-distant c =
 
 pub returns-then-first-base : goal.returns-then-first-base
 returns-then-first-base c =
-    let at_if1 = c.before.before.before.before.before in
-    let far = sym at_if1.distant.ensures ∙ at_if1.if-distant.false in
+    let far = sym c.distant.ensures ∙ c.if-distant.false in
     let here = ne_eqb _ _ c.if-first-base.true in
     record { base = simp (far, here); words = simp (far, here); answer = simp (far, here) }
 
 pub returns-then-marked : goal.returns-then-marked
 returns-then-marked c =
-    let at_if2 = c.before.before.before in
-    let at_if1 = at_if2.before.before.before.before in
-    let far = sym at_if1.distant.ensures ∙ at_if1.if-distant.false in
-    let here = eq-eqb _ _ at_if2.if-first-base.false in
+    let far = sym c.distant.ensures ∙ c.if-distant.false in
+    let here = eq-eqb _ _ c.if-first-base.false in
     let again = sym c.marked.ensures ∙ c.if-marked.true in
     record { base = simp (far, here, again); words = simp (far, here, again); answer = simp (far, here, again) }
 
 pub returns : goal.returns
 returns c =
-    let at_if2 = c.before.before.before in
-    let at_if1 = at_if2.before.before.before.before in
-    let far = sym at_if1.distant.ensures ∙ at_if1.if-distant.false in
-    let here = eq-eqb _ _ at_if2.if-first-base.false in
+    let far = sym c.distant.ensures ∙ c.if-distant.false in
+    let here = eq-eqb _ _ c.if-first-base.false in
     let again = sym c.marked.ensures ∙ c.if-marked.false in
     record { base = simp (far, here, again); words = simp (far, here, again); answer = simp (far, here, again) }

@@ -7,13 +7,11 @@ use Rattle.acknowledge.proofs.removal.flow_without.Goals as goal
 
 pub returns-then-slot : goal.returns-then-slot
 returns-then-slot c =
-    let p = c.before.before.before in
-    let m = p.before in
-    let a = m.args in
+    let a = c.args in
     let k = c.struct_known-1.given in
     rw (
-      m.in-Sent.is,
-      p.if-slot.true,
+      c.in-Sent.is,
+      c.if-slot.true,
       ← minus_of a.flow.transit a.slot.length _ (search rules) (search rules) (search rules) c.wrapping_sub_u32.ensures.value,
     )
 

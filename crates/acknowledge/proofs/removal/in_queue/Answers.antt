@@ -8,10 +8,8 @@ returns-then-not-is_acknowledged c = rw (sym c.is_acknowledged.ensures ∙ not-t
 
 pub returns-then-slot-lt1 : goal.returns-then-slot-lt1
 returns-then-slot-lt1 c =
-    let f = c.before.before.before in
-    rw (sym f.is_acknowledged.ensures ∙ not-false _ f.if-not-is_acknowledged.false-raw, lt-ltb _ _ c.if-slot-lt1.true)
+    rw (sym c.is_acknowledged.ensures ∙ not-false _ c.if-not-is_acknowledged.false-raw, lt-ltb _ _ c.if-slot-lt1.true)
 
 pub returns : goal.returns
 returns c =
-    let f = c.before.before.before.before in
-    rw (sym f.is_acknowledged.ensures ∙ not-false _ f.if-not-is_acknowledged.false-raw, le-ltb _ _ c.if-slot-lt1.false) c.in_sent.ensures
+    rw (sym c.is_acknowledged.ensures ∙ not-false _ c.if-not-is_acknowledged.false-raw, le-ltb _ _ c.if-slot-lt1.false) c.in_sent.ensures

@@ -7,29 +7,23 @@ use Rattle.acknowledge.proofs.removal.leave.Goals as goal
 
 pub returns-in-Sent : goal.returns-in-Sent
 returns-in-Sent c =
-    let at_remove = c.before.before.before in
-    let at_spot = at_remove.before.before.before in
-    let a = at_spot.args in
-    let g = at_spot.spot-1.given in
-    let r = at_remove.remove in
+    let a = c.args in
+    let g = c.spot-1.given in
+    let r = c.remove in
     left_is a.spot (spot.Sent g.0.0) (whole a.words.now) (whole r.new.words) g.1 r.ensures
 
 pub returns-in-Outgoing : goal.returns-in-Outgoing
 returns-in-Outgoing c =
-    let at_remove2 = c.before.before.before in
-    let at_spot2 = at_remove2.before.before.before in
-    let a = at_spot2.args in
-    let g = at_spot2.spot-in-Outgoing-1.given in
-    let r = at_remove2.remove-in-Outgoing in
+    let a = c.args in
+    let g = c.spot-in-Outgoing-1.given in
+    let r = c.remove-in-Outgoing in
     left_is a.spot (spot.Outgoing g.0.0) (whole a.words.now) (whole r.new.words) g.1 r.ensures
 
 pub returns-in-Reliable : goal.returns-in-Reliable
 returns-in-Reliable c =
-    let at_remove3 = c.before.before.before in
-    let at_spot3 = at_remove3.before.before.before in
-    let a = at_spot3.args in
-    let g = at_spot3.spot-in-Reliable-1.given in
-    let r = at_remove3.remove-in-Reliable in
+    let a = c.args in
+    let g = c.spot-in-Reliable-1.given in
+    let r = c.remove-in-Reliable in
     left_is a.spot (spot.Reliable g.0.0) (whole a.words.now) (whole r.new.words) g.1 r.ensures
 
 pub returns-in-Nowhere : goal.returns-in-Nowhere

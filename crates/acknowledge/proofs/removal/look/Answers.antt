@@ -9,16 +9,14 @@ returns-then-s-ge-OUTGOING c =
 
 pub returns-then-sent : goal.returns-then-sent
 returns-then-sent c =
-    let at_if1 = c.before.before.before.before in
-    let a = at_if1.args in
+    let a = c.args in
     let b = c.brief_at-slot in
-    look_brief a.words.now a.sent a.number.0 a.channel a.s at_if1.if-s-ge-OUTGOING.false b.result c.in_sent.result b.ensures
+    look_brief a.words.now a.sent a.number.0 a.channel a.s c.if-s-ge-OUTGOING.false b.result c.in_sent.result b.ensures
     (rw c.if-sent.true c.in_sent.ensures)
 
 pub returns : goal.returns
 returns c =
-    let at_if1 = c.before.before.before.before in
-    let a = at_if1.args in
+    let a = c.args in
     let b = c.brief_at-slot in
-    look_brief a.words.now a.sent a.number.0 a.channel a.s at_if1.if-s-ge-OUTGOING.false b.result c.in_queue.result b.ensures
+    look_brief a.words.now a.sent a.number.0 a.channel a.s c.if-s-ge-OUTGOING.false b.result c.in_queue.result b.ensures
     (rw c.if-sent.false c.in_queue.ensures)

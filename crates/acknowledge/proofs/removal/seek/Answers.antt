@@ -8,19 +8,7 @@ use Rattle.queues.specs.declared.Out.{Out}
 use Rattle.acknowledge.specs.Removal.{seek}
 use Rattle.acknowledge.specs.CodeSearches.{look_of, at}
 use Rattle.acknowledge.proofs.RemovalChanges.{turn_found, turn_ends, turn_goes_on, turn_end}
-use Rattle.acknowledge.proofs.removal.seek.Lts as lts
-use Rattle.acknowledge.proofs.removal.seek.Tie as tie
 use Rattle.acknowledge.proofs.removal.seek.Goals as goal
-
--- places of the code that the helpers below speak of
-abbrev Start : Type 0
-Start = lts.Start tie.the-claims tie.handed_pre tie.handed_post goal.the-invariant-loop-k goal.the-decreases-loop-k
-
-abbrev AtLoop : Type 0
-AtLoop = lts.At-loop tie.the-claims tie.handed_pre tie.handed_post goal.the-invariant-loop-k goal.the-decreases-loop-k
-
-abbrev AfterLook : Type 0
-AfterLook = lts.After-look tie.the-claims tie.handed_pre tie.handed_post goal.the-invariant-loop-k goal.the-decreases-loop-k
 
 -- the slots that the list names, and what the search makes of a slot
 abbrev named : List ℕ → Out → List ℕ
@@ -28,13 +16,6 @@ named ws list = out_items (out_of list (whole ws).lists)
 
 abbrev made : List ℕ → Reliable → ℕ → Bool → ℕ → ℕ
 made ws number channel sent s = at (map (look_of sent number.0 channel) (whole ws).outgoing) s
-
--- the places before `look`
-abbrev to_loop : AfterLook → AtLoop
-to_loop c = c.before.before.before
-
-abbrev to_start : AfterLook → Start
-to_start c = (to_loop c).before.before.before
 
 pub loop-k-init : goal.loop-k-init
 loop-k-init c =
@@ -45,33 +26,30 @@ loop-k-init c =
 
 pub returns-then-is-eq-FOUND : goal.returns-then-is-eq-FOUND
 returns-then-is-eq-FOUND c =
-    let at_look = c.before.before in
-    let l = at_look.look-is in
-    let s = at_look.slot_at-s in
-    let m = (to_loop at_look).loop-k in
-    let a = (to_start at_look).args in
+    let l = c.look-is in
+    let s = c.slot_at-s in
+    let m = c.loop-k in
+    let a = c.args in
     let ws = a.words.now in
     turn_found (made ws a.number a.channel a.sent) (named ws a.list) _ m.k m.inv.1 m.inv.2 (omega arith) s.result l.result
     s.ensures l.ensures c.if-is-eq-FOUND.true
 
 pub returns-then-is-ne-GOES_ON : goal.returns-then-is-ne-GOES_ON
 returns-then-is-ne-GOES_ON c =
-    let at_look = c.before.before.before in
-    let l = at_look.look-is in
-    let s = at_look.slot_at-s in
-    let m = (to_loop at_look).loop-k in
-    let a = (to_start at_look).args in
+    let l = c.look-is in
+    let s = c.slot_at-s in
+    let m = c.loop-k in
+    let a = c.args in
     let ws = a.words.now in
     turn_ends (made ws a.number a.channel a.sent) (named ws a.list) _ m.k m.inv.1 m.inv.2 (omega arith) s.result l.result
     s.ensures l.ensures c.if-is-eq-FOUND.false c.if-is-ne-GOES_ON.true
 
 pub loop-k-preserved : goal.loop-k-preserved
 loop-k-preserved c =
-    let at_look = c.before.before.before in
-    let l = at_look.look-is in
-    let s = at_look.slot_at-s in
-    let m = (to_loop at_look).loop-k in
-    let a = (to_start at_look).args in
+    let l = c.look-is in
+    let s = c.slot_at-s in
+    let m = c.loop-k in
+    let a = c.args in
     let ws = a.words.now in
     let on = turn_goes_on (made ws a.number a.channel a.sent) (named ws a.list) _ m.k m.inv.1 m.inv.2 (omega arith) s.result l.result
     s.ensures l.ensures c.if-is-ne-GOES_ON.false in

@@ -9,11 +9,10 @@ loop-i-init c = (search rules, refl, paste-zero c.args.store.now c.args.to (drop
 
 pub loop-i-preserved : goal.loop-i-preserved
 loop-i-preserved c =
-    let m = c.before.before.before in
-    let a = m.args in (
+    let a = c.args in (
       omega arith,
-      rw length-set m.loop-i.invariant.1,
-      copy_turn a.store.now m.loop-i.store a.datagram.now a.to a.from m.loop-i.i (omega arith) (omega arith) m.loop-i.invariant.2,
+      rw length-set c.loop-i.invariant.1,
+      copy_turn a.store.now c.loop-i.store a.datagram.now a.to a.from c.loop-i.i (omega arith) (omega arith) c.loop-i.invariant.2,
     )
 
 pub returns : goal.returns

@@ -10,12 +10,9 @@ use Rattle.arrival.proofs.storing.free_slot.Goals as goal
 
 pub returns : goal.returns
 returns c =
-    let h = c.before.before.before.before in
-    let t = h.before.before in
-    let m = t.before.before in
-    let a = m.args in
+    let a = c.args in
     let p = whole a.words.now in
-    let all : length h.mark_held.new.marks ≡ incoming = search rules in
+    let all : length c.mark_held.new.marks ≡ incoming = search rules in
     (rw all at c.lowest.ensures)
-    ∙ marks_of_all p.lists (below p.channels t.standing-standing.result.channels) m.mark.new.marks h.mark_held.new.marks m.mark.ensures h.mark_held.ensures
-    ∙ ap (λ (x : Standing). free_slot p.lists p.channels x.channels) t.standing-standing.ensures
+    ∙ marks_of_all p.lists (below p.channels c.standing-standing.result.channels) c.mark.new.marks c.mark_held.new.marks c.mark.ensures c.mark_held.ensures
+    ∙ ap (λ (x : Standing). free_slot p.lists p.channels x.channels) c.standing-standing.ensures

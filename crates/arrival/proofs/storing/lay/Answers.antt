@@ -15,8 +15,5 @@ returns-then-datagram-from c =
 
 pub returns : goal.returns
 returns c =
-    let at_copy = c.before.before.before in
-    let at_if2 = at_copy.before.before in
-    let at_start = at_if2.before.before.before.before in
-    let a = at_start.args in
-    rw (laid_is a.store.now a.to a.datagram.now a.place a.n at_if2.if-store-at.false at_if2.if-datagram-from.false) at_copy.copy.ensures
+    let a = c.args in
+    rw (laid_is a.store.now a.to a.datagram.now a.place a.n c.if-store-at.false c.if-datagram-from.false) c.copy.ensures

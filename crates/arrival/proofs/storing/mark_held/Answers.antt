@@ -12,32 +12,27 @@ loop-k-init c = (search rules, refl, refl)
 
 pub loop-k-preserved : goal.loop-k-preserved
 loop-k-preserved c =
-    let at_mark = c.before.before.before in
-    let at_if1 = at_mark.before.before in
-    let at_loop = at_if1.before.before in
-    let a = at_loop.args in
-    let k = at_mark.mark in
+    let a = c.args in
+    let k = c.mark in
     let cs = (whole a.words.now).channels in
-    let h : at_loop.loop-k.k < a.count = ltb-true at_loop.loop-k.k a.count at_if1.if-k-count.true-raw in
-    let low : at_loop.loop-k.k < length cs = rw (sized a.words.now).channels (search rules) in (
+    let h : c.loop-k.k < a.count = ltb-true c.loop-k.k a.count c.if-k-count.true-raw in
+    let low : c.loop-k.k < length cs = rw (sized a.words.now).channels (search rules) in (
       search rules,
       search rules,
-      at_loop.loop-k.invariant.2 ∙ marks_turn at_loop.loop-k.marks k.new.marks cs a.count at_loop.loop-k.k no_channel h low k.ensures,
+      c.loop-k.invariant.2 ∙ marks_turn c.loop-k.marks k.new.marks cs a.count c.loop-k.k no_channel h low k.ensures,
     )
 
 pub returns-else-k-count : goal.returns-else-k-count
 returns-else-k-count c =
-    let at_loop = c.before.before.before in
-    let a = at_loop.args in
+    let a = c.args in
     let cs = take a.count (whole a.words.now).channels in
-    let end = part_end (whole a.words.now).channels at_loop.loop-k.k a.count (ltb-false at_loop.loop-k.k a.count c.if-k-count.false-raw) in
-    sym (at_loop.loop-k.invariant.2 ∙ marks_end at_loop.loop-k.marks (drop at_loop.loop-k.k cs) end)
+    let end = part_end (whole a.words.now).channels c.loop-k.k a.count (ltb-false c.loop-k.k a.count c.if-k-count.false-raw) in
+    sym (c.loop-k.invariant.2 ∙ marks_end c.loop-k.marks (drop c.loop-k.k cs) end)
 
 pub returns-after-loop-k : goal.returns-after-loop-k
 returns-after-loop-k c =
-    let m = c.before.before in
-    let a = m.args in
+    let a = c.args in
     let cs = take a.count (whole a.words.now).channels in
     let e : length (whole a.words.now).channels ≡ 8 = (sized a.words.now).channels in
-    let end = part_out (whole a.words.now).channels m.loop-k.k a.count (omega (arith, e)) in
-    sym (m.loop-k.invariant.2 ∙ marks_end m.loop-k.marks (drop m.loop-k.k cs) end)
+    let end = part_out (whole a.words.now).channels c.loop-k.k a.count (omega (arith, e)) in
+    sym (c.loop-k.invariant.2 ∙ marks_end c.loop-k.marks (drop c.loop-k.k cs) end)

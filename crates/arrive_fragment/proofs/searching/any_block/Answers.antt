@@ -24,11 +24,10 @@ returns-then-block_in c =
 
 pub returns : goal.returns
 returns c =
-    let at_if1 = c.before.before in
-    let b = at_if1.block_in in
-    let ws = at_if1.args.words.now in
+    let b = c.block_in in
+    let ws = c.args.words.now in
     let p = whole ws in
     let rest = held (below p.channels p.standing.channels) in
     let e = c.block_held.ensures ∙ ap (λ (s : Standing). not (eqb (blocks p.incoming (held (below p.channels s.channels))) 0)) c.standing-standing.ensures in
-    in_second p.incoming (items_of (row_at 142 12 ws)) rest (sym b.ensures ∙ at_if1.if-block_in.false) c.block_held.result e
+    in_second p.incoming (items_of (row_at 142 12 ws)) rest (sym b.ensures ∙ c.if-block_in.false) c.block_held.result e
     ∙ sym (ap (λ (l : InList). not (eqb (blocks p.incoming (in_items l ++ rest)) 0)) (dispatched_is ws))

@@ -12,6 +12,5 @@ returns-then-slot-eq0 c =
 
 pub returns : goal.returns
 returns c =
-    let at_if2 = c.before.before.before.before in
-    let block = at_if2.is_block in
-    rw (← block.ensures, not-false block.result at_if2.if-not-is_block.false-raw, ne_eqb _ 0 at_if2.if-slot-eq0.false)
+    let block = c.is_block in
+    rw (← block.ensures, not-false block.result c.if-not-is_block.false-raw, ne_eqb _ 0 c.if-slot-eq0.false)

@@ -4,10 +4,8 @@ use Rattle.arrive_fragment.proofs.storing.finish.Goals as goal
 
 pub returns-then-slot-eq0 : goal.returns-then-slot-eq0
 returns-then-slot-eq0 c =
-    let at_dispatch = c.before.before.before in
-    let at_if1 = at_dispatch.before.before.before in
-    let slot = at_if1.incoming_at-slot in
-    rw (← slot.ensures, eq-eqb _ 0 at_if1.if-slot-eq0.true) at_dispatch.dispatch.ensures
+    let slot = c.incoming_at-slot in
+    rw (← slot.ensures, eq-eqb _ 0 c.if-slot-eq0.true) c.dispatch.ensures
 
 pub returns-else-slot-eq0 : goal.returns-else-slot-eq0
 returns-else-slot-eq0 c = rw (← c.incoming_at-slot.ensures, ne_eqb _ 0 c.if-slot-eq0.false)

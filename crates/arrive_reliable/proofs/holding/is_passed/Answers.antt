@@ -2,45 +2,29 @@
 use Rattle.places.specs.Whole.{whole}
 use Rattle.places.specs.Updates.{channel_at}
 use Rattle.arrive_reliable.proofs.HoldingPlaces.{passed_same, passed_far, passed_asked}
-use Rattle.arrive_reliable.proofs.holding.is_passed.Lts as lts
-use Rattle.arrive_reliable.proofs.holding.is_passed.Tie as tie
 use Rattle.arrive_reliable.proofs.holding.is_passed.Goals as goal
-
--- places of the code that the helpers below speak of
-abbrev Start : Type 0
-Start = lts.Start tie.the-claims tie.handed_pre tie.handed_post
-
-abbrev AfterNumberDistance : Type 0
-AfterNumberDistance = lts.After-number_distance tie.the-claims tie.handed_pre tie.handed_post
-
--- the places before `number-distance`
-abbrev to_start : AfterNumberDistance → Start
-to_start c = c.before.before.before
 
 pub returns-then-d-eq0 : goal.returns-then-d-eq0
 returns-then-d-eq0 c =
-    let at_number_distance = c.before.before in
-    let d = at_number_distance.number_distance-d in
-    let o = at_number_distance.numbers_of-own in
-    let a = (to_start at_number_distance).args in
+    let d = c.number_distance-d in
+    let o = c.numbers_of-own in
+    let a = c.args in
     let p = whole a.words.now in
     passed_same p.incoming (channel_at p a.i) a.number.0 d.result o.result o.ensures d.ensures c.if-d-eq0.true
 
 pub returns-then-d-gt-FARTHEST : goal.returns-then-d-gt-FARTHEST
 returns-then-d-gt-FARTHEST c =
-    let at_number_distance = c.before.before.before in
-    let d = at_number_distance.number_distance-d in
-    let o = at_number_distance.numbers_of-own in
-    let a = (to_start at_number_distance).args in
+    let d = c.number_distance-d in
+    let o = c.numbers_of-own in
+    let a = c.args in
     let p = whole a.words.now in
     passed_far p.incoming (channel_at p a.i) a.number.0 d.result o.result o.ensures d.ensures c.if-d-eq0.false c.if-d-gt-FARTHEST.true
 
 pub returns : goal.returns
 returns c =
-    let at_number_distance = c.before.before.before.before in
-    let d = at_number_distance.number_distance-d in
-    let o = at_number_distance.numbers_of-own in
-    let a = (to_start at_number_distance).args in
+    let d = c.number_distance-d in
+    let o = c.numbers_of-own in
+    let a = c.args in
     let p = whole a.words.now in
     passed_asked p.incoming (channel_at p a.i) a.number.0 d.result o.result o.ensures d.ensures c.if-d-eq0.false c.if-d-gt-FARTHEST.false
     c.holds.result c.holds.ensures

@@ -17,39 +17,34 @@ pub returns-then-size_of-eq0 : goal.returns-then-size_of-eq0
 returns-then-size_of-eq0 c =
     let a = c.args in
     let e = c.size_of.ensures in
-    sym (ap (λ (b : Bool). both b (fits (layout a.kind) a.t2)) (known_size a.kind (omega arith)))
+    sym (ap (λ (b : Bool). both b (fits (layout a.kind) a.row)) (known_size a.kind (omega arith)))
 
 pub returns-then-not-is_within : goal.returns-then-not-is_within
 returns-then-not-is_within c =
-    let at_width_of = c.before.before.before in
-    let at_loop = at_width_of.before.before in
-    let a = at_loop.args in
-    let l = at_loop.loop-j in
-    let w = at_width_of.width_of in
+    let a = c.args in
+    let l = c.loop-j in
+    let w = c.width_of in
     let r = c.is_within in
-    let t = fits_turn (layout a.kind) a.t2 l.j w.result r.result (layout-narrow a.kind) (omega arith) w.ensures r.ensures in
+    let t = fits_turn (layout a.kind) a.row l.j w.result r.result (layout-narrow a.kind) (omega arith) w.ensures r.ensures in
     let n = not-true r.result c.if-not-is_within.true-raw in
-    sym (both_false (known a.kind) (fits (layout a.kind) a.t2) (l.invariant.1 ∙ t ∙ rw n))
+    sym (both_false (known a.kind) (fits (layout a.kind) a.row) (l.invariant.1 ∙ t ∙ rw n))
 
 pub loop-j-preserved : goal.loop-j-preserved
 loop-j-preserved c =
-    let at_width_of = c.before.before.before in
-    let at_loop = at_width_of.before.before in
-    let a = at_loop.args in
-    let l = at_loop.loop-j in
-    let w = at_width_of.width_of in
+    let a = c.args in
+    let l = c.loop-j in
+    let w = c.width_of in
     let r = c.is_within in
-    let t = fits_turn (layout a.kind) a.t2 l.j w.result r.result (layout-narrow a.kind) (omega arith) w.ensures r.ensures in
+    let t = fits_turn (layout a.kind) a.row l.j w.result r.result (layout-narrow a.kind) (omega arith) w.ensures r.ensures in
     let n = not-false r.result c.if-not-is_within.false-raw in
     (omega arith, l.invariant.1 ∙ t ∙ rw n)
 
 pub returns : goal.returns
 returns c =
-    let at_size_of = c.before.before.before.before in
-    let a = at_size_of.args in
+    let a = c.args in
     let l = c.loop-j in
-    let e = at_size_of.size_of.ensures in
+    let e = c.size_of.ensures in
     let h = layout-length a.kind in
     sym
-    (both_true (known a.kind) (fits (layout a.kind) a.t2) (size_known a.kind (λ z. omega arith))
-    (l.invariant.1 ∙ fits_end (layout a.kind) (drop l.j a.t2) l.j (omega arith)))
+    (both_true (known a.kind) (fits (layout a.kind) a.row) (size_known a.kind (λ z. omega arith))
+    (l.invariant.1 ∙ fits_end (layout a.kind) (drop l.j a.row) l.j (omega arith)))

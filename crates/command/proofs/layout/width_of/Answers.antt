@@ -23,10 +23,8 @@ returns-then-j-ge16 c =
 pub returns : goal.returns
 unfolding layout pad
 returns c =
-    let at_wide = c.before.before.before in
-    let at_start = at_wide.before.before.before in
-    let k = at_start.args.kind in
-    let j = at_start.args.j in
-    let e : at_wide.wide.result ≡ k = at_wide.wide.ensures in
+    let k = c.args.kind in
+    let j = c.args.j in
+    let e : c.wide.result ≡ k = c.wide.ensures in
     c.wide-2.ensures
     ∙ rw e (ap (λ (ws : List ℕ). get_or ws j 0) (entry (λ n. pad 16 (layout n)) [] 16 k (omega arith)) ∙ pad_at 16 (layout k) j (omega arith))

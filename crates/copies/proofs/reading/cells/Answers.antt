@@ -12,10 +12,8 @@ loop-k-init c = (search rules, refl, refl)
 
 pub loop-k-preserved : goal.loop-k-preserved
 loop-k-preserved c =
-    let at_loop = c.before.before.before.before in
-    let l = at_loop.loop-k in
-    let b = at_loop.before.before.before in
-    let a = b.args in (
+    let l = c.loop-k in
+    let a = c.args in (
       omega arith,
       rw length-set l.invariant.1,
       cells_turn a.words.now l.slots a.at l.k c.low16-s.result (search rules) (search rules) l.invariant.2 c.low16-s.ensures,

@@ -4,6 +4,4 @@ use Rattle.copies.proofs.reading.in_list.Goals as goal
 
 pub returns : goal.returns
 returns c =
-    let at_cells = c.before.before.before.before in
-    let b = at_cells.before.before.before in
-    in_made b.args.words.now b.args.at c.low16-len.result at_cells.cells.new.slots c.low16-len.ensures b.requires at_cells.cells.ensures
+    in_made c.args.words.now c.args.at c.low16-len.result c.cells.new.slots c.low16-len.ensures c.requires c.cells.ensures

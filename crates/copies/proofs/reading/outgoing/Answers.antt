@@ -14,9 +14,8 @@ loop-i-init c = (omega arith, refl, refl)
 
 pub loop-i-preserved : goal.loop-i-preserved
 loop-i-preserved c =
-    let at_loop = c.before.before.before in
-    let l = at_loop.loop-i in
-    let ws = at_loop.args.words.now in
+    let l = c.loop-i in
+    let ws = c.args.words.now in
     let m : length (whole ws).outgoing ≡ 32 = outgoing-length ws in (
       omega arith,
       rw length-set l.invariant.1,

@@ -16,9 +16,8 @@ loop-k-init c =
 
 pub loop-k-preserved : goal.loop-k-preserved
 loop-k-preserved c =
-    let at_loop = c.before.before.before.before in
-    let l = at_loop.loop-k in
-    let a = at_loop.args in (
+    let l = c.loop-k in
+    let a = c.args in (
       omega arith,
       rw length-set l.invariant.1,
       cell_put a.words.now l.words a.slots.now a.at l.k c.wide16-s.result (omega arith) (omega arith) l.invariant.2 c.wide16-s.ensures.is,

@@ -28,25 +28,23 @@ zeros =
 pub loop-i-init : goal.loop-i-init
 loop-i-init c =
     let a = c.args in
-    (omega arith, c.requires, ap (with_channels (whole a.words.now)) (paste-zero (whole a.words.now).channels 0 a.t2))
+    (omega arith, c.requires, ap (with_channels (whole a.words.now)) (paste-zero (whole a.words.now).channels 0 a.all))
 
 pub loop-i-preserved : goal.loop-i-preserved
 loop-i-preserved c =
-    let at_put_channel = c.before.before.before in
-    let at_loop = at_put_channel.before.before.before.before in
-    let l = at_loop.loop-i in
-    let a = at_loop.args in
-    let m : length a.t2 ≡ 8 = search rules in (
+    let l = c.loop-i in
+    let a = c.args in
+    let m : length a.all ≡ 8 = search rules in (
       omega arith,
       search rules,
       put_turn (λ (p : Peer). p.channels) with_channels (λ (p : Peer) (x y : List Channel). refl) (λ (p : Peer) (x : List Channel). refl)
-          (whole a.words.now) (whole l.words) (whole at_put_channel.put_channel.new.words) a.t2 8 l.i zeros (get_or a.t2 l.i zeros) (sized a.words.now).channels m (omega arith) l.invariant.2 at_put_channel.put_channel.ensures refl,
+          (whole a.words.now) (whole l.words) (whole c.put_channel.new.words) a.all 8 l.i zeros (get_or a.all l.i zeros) (sized a.words.now).channels m (omega arith) l.invariant.2 c.put_channel.ensures refl,
     )
 
 pub returns : goal.returns
 returns c =
     let l = c.loop-i in
     let a = c.args in
-    let m : length a.t2 ≡ 8 = search rules in
+    let m : length a.all ≡ 8 = search rules in
     put-end (λ (p : Peer). p.channels) with_channels (λ (p : Peer) (x y : List Channel). refl) (λ (p : Peer) (x : List Channel). refl)
-    (whole a.words.now) (whole l.words) a.t2 8 l.i (sized a.words.now).channels m (omega arith) l.invariant.2
+    (whole a.words.now) (whole l.words) a.all 8 l.i (sized a.words.now).channels m (omega arith) l.invariant.2

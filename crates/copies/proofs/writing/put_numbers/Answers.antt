@@ -5,23 +5,16 @@ use Rattle.copies.proofs.writing.put_numbers.Goals as goal
 
 pub returns : goal.returns
 returns c =
-    let at_put_flow = c.before.before in
-    let at_put_trips = at_put_flow.before.before.before.before in
-    let at_put_throttling = at_put_trips.before.before.before.before in
-    let at_put_loss = at_put_throttling.before.before.before.before in
-    let at_put_times = at_put_loss.before.before.before.before in
-    let at_put_totals = at_put_times.before.before.before.before in
-    let at_put_standing = at_put_totals.before.before.before.before in
-    let a = at_put_standing.args in
+    let a = c.args in
     numbered_put
     (whole a.words.now)
-    (whole at_put_standing.put_standing.new.0)
-    (whole at_put_totals.put_totals.new.0)
-    (whole at_put_times.put_times.new.0)
-    (whole at_put_loss.put_loss.new.0)
-    (whole at_put_throttling.put_throttling.new.0)
-    (whole at_put_trips.put_trips.new.0)
-    (whole at_put_flow.put_flow.new.0)
+    (whole c.put_standing.new.words)
+    (whole c.put_totals.new.words)
+    (whole c.put_times.new.words)
+    (whole c.put_loss.new.words)
+    (whole c.put_throttling.new.words)
+    (whole c.put_trips.new.words)
+    (whole c.put_flow.new.words)
     a.standing
     a.totals
     a.times
@@ -29,10 +22,10 @@ returns c =
     a.throttling
     a.trips
     a.flow
-    at_put_standing.put_standing.ensures
-    at_put_totals.put_totals.ensures
-    at_put_times.put_times.ensures
-    at_put_loss.put_loss.ensures
-    at_put_throttling.put_throttling.ensures
-    at_put_trips.put_trips.ensures
-    at_put_flow.put_flow.ensures
+    c.put_standing.ensures
+    c.put_totals.ensures
+    c.put_times.ensures
+    c.put_loss.ensures
+    c.put_throttling.ensures
+    c.put_trips.ensures
+    c.put_flow.ensures

@@ -18,26 +18,24 @@ use Rattle.copies.proofs.writing.put_outgoing.Goals as goal
 pub loop-i-init : goal.loop-i-init
 loop-i-init c =
     let a = c.args in
-    (omega arith, c.requires, ap (with_outgoing (whole a.words.now)) (paste-zero (whole a.words.now).outgoing 0 a.t2))
+    (omega arith, c.requires, ap (with_outgoing (whole a.words.now)) (paste-zero (whole a.words.now).outgoing 0 a.all))
 
 pub loop-i-preserved : goal.loop-i-preserved
 unfolding no_outgoing
 loop-i-preserved c =
-    let at_put_outgoing = c.before.before.before in
-    let at_loop = at_put_outgoing.before.before.before.before in
-    let l = at_loop.loop-i in
-    let a = at_loop.args in
-    let m : length a.t2 ≡ 32 = search rules in (
+    let l = c.loop-i in
+    let a = c.args in
+    let m : length a.all ≡ 32 = search rules in (
       omega arith,
       search rules,
       put_turn (λ (p : Peer). p.outgoing) with_outgoing (λ (p : Peer) (x y : List Outgoing). refl) (λ (p : Peer) (x : List Outgoing). refl)
-          (whole a.words.now) (whole l.words) (whole at_put_outgoing.put_outgoing.new.words) a.t2 32 l.i no_outgoing (get_or a.t2 l.i no_outgoing) (outgoing-length a.words.now) m (omega arith) l.invariant.2 at_put_outgoing.put_outgoing.ensures refl,
+          (whole a.words.now) (whole l.words) (whole c.put_outgoing.new.words) a.all 32 l.i no_outgoing (get_or a.all l.i no_outgoing) (outgoing-length a.words.now) m (omega arith) l.invariant.2 c.put_outgoing.ensures refl,
     )
 
 pub returns : goal.returns
 returns c =
     let l = c.loop-i in
     let a = c.args in
-    let m : length a.t2 ≡ 32 = search rules in
+    let m : length a.all ≡ 32 = search rules in
     put-end (λ (p : Peer). p.outgoing) with_outgoing (λ (p : Peer) (x y : List Outgoing). refl) (λ (p : Peer) (x : List Outgoing). refl)
-    (whole a.words.now) (whole l.words) a.t2 32 l.i (outgoing-length a.words.now) m (omega arith) l.invariant.2
+    (whole a.words.now) (whole l.words) a.all 32 l.i (outgoing-length a.words.now) m (omega arith) l.invariant.2

@@ -5,8 +5,5 @@ use Rattle.dispatch.proofs.dispatching.flag.Goals as goal
 
 pub returns : goal.returns
 returns c =
-    let put = c.before.before.before in
-    let set = put.before in
-    let read = set.before.before in
-    let a = read.args in
-    flag_put (whole a.words.now) (whole put.put_flags.new.words) read.flags-flags.result set.flag_set.result read.flags-flags.ensures set.flag_set.ensures put.put_flags.ensures
+    let a = c.args in
+    flag_put (whole a.words.now) (whole c.put_flags.new.words) c.flags-flags.result c.flag_set.result c.flags-flags.ensures c.flag_set.ensures c.put_flags.ensures

@@ -7,5 +7,4 @@ returns-then-slot-ne0 c = rw (ne_eqb _ _ c.if-slot-ne0.true)
 
 pub returns : goal.returns
 returns c =
-    let at_next = c.before.before.before in
-    rw (eq-eqb _ _ at_next.if-slot-ne0.false, at_next.next-next.ensures)
+    rw (eq-eqb _ _ c.if-slot-ne0.false, c.next-next.ensures)

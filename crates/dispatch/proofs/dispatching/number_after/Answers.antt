@@ -8,6 +8,5 @@ returns-then-slot-eq0 c = rw (eq-eqb _ _ c.if-slot-eq0.true)
 
 pub returns : goal.returns
 returns c =
-    let at_if1 = c.before.before.before in
-    let i = at_if1.args.slot in
-    rw (ne_eqb i.fragments 0 at_if1.if-slot-eq0.false) (c.wrapping_add_u16.ensures.value ∙ sum_reduced i.number.0 (i.fragments - 1))
+    let i = c.args.slot in
+    rw (ne_eqb i.fragments 0 c.if-slot-eq0.false) (c.wrapping_add_u16.ensures.value ∙ sum_reduced i.number.0 (i.fragments - 1))

@@ -5,10 +5,8 @@ use Rattle.gate.proofs.incoming.block_at.Goals as goal
 
 pub returns-then-words-s-eq0 : goal.returns-then-words-s-eq0
 returns-then-words-s-eq0 c =
-    let b = c.before.before.before in
-    rw (← fragments_is b.args.words.now b.args.s b.requires.s_lt_incoming, eq-eqb _ 0 c.if-words-s-eq0.true)
+    rw (← fragments_is c.args.words.now c.args.s c.requires.s_lt_incoming, eq-eqb _ 0 c.if-words-s-eq0.true)
 
 pub returns : goal.returns
 returns c =
-    let b = c.before.before.before in
-    rw (← fragments_is b.args.words.now b.args.s b.requires.s_lt_incoming, ne_eqb _ 0 c.if-words-s-eq0.false)
+    rw (← fragments_is c.args.words.now c.args.s c.requires.s_lt_incoming, ne_eqb _ 0 c.if-words-s-eq0.false)

@@ -19,37 +19,24 @@ use Rattle.gate.proofs.incoming.held_sound.Tie as tie
 use Rattle.gate.proofs.incoming.held_sound.Goals as goal
 
 -- places of the code that the helpers below speak of
-abbrev Start : Type 0
-Start = lts.Start tie.the-claims tie.handed_pre tie.handed_post goal.the-invariant-loop-k goal.the-decreases-loop-k
-
-abbrev AtLoop : Type 0
-AtLoop = lts.At-loop tie.the-claims tie.handed_pre tie.handed_post goal.the-invariant-loop-k goal.the-decreases-loop-k
-
 abbrev AfterListSound : Type 0
 AfterListSound = lts.After-list_sound tie.the-claims tie.handed_pre tie.handed_post goal.the-invariant-loop-k goal.the-decreases-loop-k
-
--- the places before `list-sound`
-abbrev to_loop : AfterListSound → AtLoop
-to_loop c = c.before.before.before
-
-abbrev to_start : AfterListSound → Start
-to_start c = (to_loop c).before.before.before
 
 -- the turn there
 turned : (c : AfterListSound →
     let a = (to_start c).args in
     let p = whole a.words.now in
-    let m = (to_loop c).loop-k in
-    let w = c.list_sound-walk in
-    HeldTurn p.marks p.incoming a.count p.channels a.count m.k (row_at (194 + m.k * 17 + 4) 12 a.words.now) m.marks w.result.ok w.new.marks
+    let m = (to_loop c).loop in
+    let w = c.list-sound in
+    HeldTurn p.marks p.incoming a.count p.channels a.count m.k (row_at (194 + m.k * 17 + 4) 12 a.words.now) m.marks w.result.ok w.new.1.1.1.1.1.0
 turned c =
     let b = to_start c in
     let ws = b.args.words.now in
     record {
-      long = omega (arith, (sized ws).channels, b.requires.count_le_channels);
+      long = omega (arith, (sized ws).channels, b.pre.1.0);
       here = omega arith;
-      is = held_is ws (to_loop c).loop-k.k (omega (arith, b.requires.count_le_channels)) b.requires.words_len;
-      walk = c.list_sound-walk.ensures.walks;
+      is = held_is ws (to_loop c).loop.k (omega (arith, b.pre.1.0)) b.pre.0;
+      walk = c.list-sound.ensures.0;
     }
 
 pub loop-k-init : goal.loop-k-init
@@ -57,15 +44,13 @@ loop-k-init c = (search rules, search rules, refl, refl, search rules, refl, sea
 
 pub returns-then-not-walk : goal.returns-then-not-walk
 returns-then-not-walk c =
-    let at_list_sound = c.before.before.before.before.before in
-    rw ((to_loop at_list_sound).loop-k.invariant.2, held_stop (turned at_list_sound) (not-true _ c.if-not-walk.true))
+    rw (c.loop-k.invariant.2, held_stop (turned c) (not-true _ c.if-not-walk.true))
 
 pub loop-k-preserved : goal.loop-k-preserved
 loop-k-preserved c =
-    let at_list_sound = c.before.before.before.before.before in
-    let m = (to_loop at_list_sound).loop-k in
-    let w = at_list_sound.list_sound-walk in
-    let t = turned at_list_sound in
+    let m = c.loop-k in
+    let w = c.list_sound-walk in
+    let t = turned c in
     let ok = not-false w.result.ok c.if-not-walk.false in (
       omega arith,
       search rules,
@@ -78,30 +63,25 @@ loop-k-preserved c =
 
 pub returns-then-words-total : goal.returns-then-words-total
 returns-then-words-total c =
-    let at_loop = c.before.before.before.before in
-    let b = at_loop.before.before.before in
-    let a = b.args in
+    let a = c.args in
     let ws = a.words.now in
     let slots = (whole ws).incoming in
     let cs = (whole ws).channels in
-    let m = at_loop.loop-k in
+    let m = c.loop-k in
     let end = held_sum_end slots cs a.count m.k (omega arith) in
     let sum : a.from + lengths slots (held (take a.count cs)) ≡ m.total = omega arith in
     rw (m.invariant.2, held_end (whole ws).marks slots a.count cs a.count m.k m.marks (omega arith), sum, total_is ws, ne_eqb _ _ c.if-words-total.true)
 
 pub returns : goal.returns
 returns c =
-    let at_if2 = c.before.before.before in
-    let at_loop = at_if2.before.before.before in
-    let b = at_loop.before.before.before in
-    let a = b.args in
+    let a = c.args in
     let ws = a.words.now in
     let slots = (whole ws).incoming in
     let cs = (whole ws).channels in
-    let m = at_loop.loop-k in
+    let m = c.loop-k in
     let end = held_sum_end slots cs a.count m.k (omega arith) in
     let last = held_blocks_end slots cs a.count m.k (omega arith) in
     let sum : a.from + lengths slots (held (take a.count cs)) ≡ m.total = omega arith in
     let count : a.before + blocks slots (held (take a.count cs)) ≡ m.blocks = omega arith in
-    rw (m.invariant.2, held_end (whole ws).marks slots a.count cs a.count m.k m.marks (omega arith), sum, count, total_is ws, eq-eqb _ _ at_if2.if-words-total.false)
+    rw (m.invariant.2, held_end (whole ws).marks slots a.count cs a.count m.k m.marks (omega arith), sum, count, total_is ws, eq-eqb _ _ c.if-words-total.false)
     (c.one_block.ensures ∙ ap (λ (x : Marks). one_block x m.blocks) c.marks.ensures)

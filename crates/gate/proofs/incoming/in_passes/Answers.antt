@@ -11,26 +11,23 @@ returns-then-not-kind_fit c =
 
 pub returns-then-count-channel : goal.returns-then-count-channel
 returns-then-count-channel c =
-    let at_kind = c.before.before.before.before in
-    let kind = at_kind.kind_fit in
-    let marks = at_kind.marks-marks in
-    let slot = at_kind.incoming_at-slot in
+    let kind = c.kind_fit in
+    let marks = c.marks-marks in
+    let slot = c.incoming_at-slot in
     rw (← marks.ensures, ← slot.ensures, ← kind.ensures, not-false kind.result c.if-not-kind_fit.false-raw, le-ltb _ _ c.if-count-channel.true)
 
 pub returns-then-not-own : goal.returns-then-not-own
 returns-then-not-own c =
-    let at_kind = c.before.before.before.before.before in
-    let kind = at_kind.kind_fit in
-    let marks = at_kind.marks-marks in
-    let slot = at_kind.incoming_at-slot in
-    let a = at_kind.args in
+    let kind = c.kind_fit in
+    let marks = c.marks-marks in
+    let slot = c.incoming_at-slot in
+    let a = c.args in
     rw (← marks.ensures, ← slot.ensures, ← kind.ensures, not-false kind.result c.if-not-kind_fit.false-raw, lt-ltb _ _ c.if-count-channel.false, not-true a.own c.if-not-own.true-raw)
 
 pub returns : goal.returns
 returns c =
-    let at_kind = c.before.before.before.before.before in
-    let kind = at_kind.kind_fit in
-    let marks = at_kind.marks-marks in
-    let slot = at_kind.incoming_at-slot in
-    let a = at_kind.args in
+    let kind = c.kind_fit in
+    let marks = c.marks-marks in
+    let slot = c.incoming_at-slot in
+    let a = c.args in
     rw (← marks.ensures, ← slot.ensures, ← kind.ensures, not-false kind.result c.if-not-kind_fit.false-raw, lt-ltb _ _ c.if-count-channel.false, not-false a.own c.if-not-own.false-raw)

@@ -22,27 +22,11 @@ use Rattle.gate.proofs.incoming.list_sound.Goals as goal
 abbrev Start : Type 0
 Start = lts.Start tie.the-claims tie.handed_pre tie.handed_post goal.the-invariant-loop-j goal.the-decreases-loop-j
 
-abbrev AfterNarrow : Type 0
-AfterNarrow = lts.After-narrow tie.the-claims tie.handed_pre tie.handed_post goal.the-invariant-loop-j goal.the-decreases-loop-j
-
-abbrev AtLoop : Type 0
-AtLoop = lts.At-loop tie.the-claims tie.handed_pre tie.handed_post goal.the-invariant-loop-j goal.the-decreases-loop-j
-
 abbrev AfterNarrow2 : Type 0
 AfterNarrow2 = lts.After-narrow2 tie.the-claims tie.handed_pre tie.handed_post goal.the-invariant-loop-j goal.the-decreases-loop-j
 
 abbrev AfterInPasses : Type 0
 AfterInPasses = lts.After-in_passes tie.the-claims tie.handed_pre tie.handed_post goal.the-invariant-loop-j goal.the-decreases-loop-j
-
--- the places before `narrow2`
-abbrev to_loop : AfterNarrow2 → AtLoop
-to_loop c = c.before.before.before
-
-abbrev to_narrow : AfterNarrow2 → AfterNarrow
-to_narrow c = (to_loop c).before.before
-
-abbrev to_start : AfterNarrow2 → Start
-to_start c = (to_narrow c).before.before.before.before
 
 -- how the slots pass
 abbrev passing : Start → ℕ → Bool
@@ -52,43 +36,37 @@ passing b =
 
 -- the turn there
 turned : (c : AfterNarrow2
-    → Turn (passing (to_start c)) (to_start c).args.words.now (to_start c).args.at 12 (to_start c).args.marks.now (to_loop c).loop-j.marks (to_loop c).loop-j.j c.narrow-s.result
+    → Turn (passing c.before.before.before.before.before.before.before.before.before) c.args.words.now c.args.at 12 c.args.marks.now c.loop-j.marks c.loop-j.j c.narrow-s.result
 turned c =
-    let b = to_start c in
-    let v = (to_narrow c).narrow-n in
+    let v = c.narrow-n in
     record {
       long = v.result;
-      list = record { room = omega (arith, b.requires.words_len, b.requires.at_bound); is = v.ensures };
+      list = record { room = omega (arith, c.requires.words_len, c.requires.at_bound); is = v.ensures };
       few = omega arith;
-      left = (to_loop c).loop-j.invariant.2;
+      left = c.loop-j.invariant.2;
       here = omega arith;
       is = c.narrow-s.ensures;
     }
 
--- and from `in-passes` back to it
-abbrev to_turn : AfterInPasses → AfterNarrow2
-to_turn c = c.before.before.before.before
-
 -- what the test says of the slot
-tested : (c : AfterInPasses (b : Bool) → c.in_passes.result ≡ b → passing (to_start (to_turn c)) (to_turn c).narrow-s.result ≡ b
-tested c b e = says c.in_passes.result (passing (to_start (to_turn c)) (to_turn c).narrow-s.result) b c.in_passes.ensures e
+tested : (c : AfterInPasses (b : Bool) → c.in_passes.result ≡ b → passing c.before.before.before.before.before.before.before.before.before.before.before.before.before c.narrow-s.result ≡ b
+tested c b e = says c.in_passes.result (passing c.before.before.before.before.before.before.before.before.before.before.before.before.before c.narrow-s.result) b c.in_passes.ensures e
 
 -- a slot that passes is short
 short : (c : AfterInPasses → c.in_passes.result ≡ true
-    → (get_or (whole (to_start (to_turn c)).args.words.now).incoming (to_turn c).narrow-s.result no_incoming).length ≤ 32768
+    → (get_or (whole c.args.words.now).incoming c.narrow-s.result no_incoming).length ≤ 32768
 short c e =
-    let a = (to_start (to_turn c)).args in
+    let a = c.args in
     let p = whole a.words.now in
-    pass_short p.marks a.count a.own a.k (get_or p.incoming (to_turn c).narrow-s.result no_incoming) (tested c true e)
+    pass_short p.marks a.count a.own a.k (get_or p.incoming c.narrow-s.result no_incoming) (tested c true e)
 
 pub returns-then-n-gt-INCOMING : goal.returns-then-n-gt-INCOMING
 returns-then-n-gt-INCOMING c =
-    let at_start = c.before.before.before.before.before.before in
-    let a = at_start.args in
+    let a = c.args in
     let ws = a.words.now in
     let v = c.narrow-n in
-    let f = passing at_start in
-    let i : Listed ws a.at 12 v.result = record { room = omega (arith, at_start.requires.words_len, at_start.requires.at_bound); is = v.ensures } in
+    let f = passing c.before.before.before.before.before.before in
+    let i : Listed ws a.at 12 v.result = record { room = omega (arith, c.requires.words_len, c.requires.at_bound); is = v.ensures } in
     (long f ws a.at 12 v.result i a.marks.now a.marks.now c.if-n-gt-INCOMING.true, (sums_stop, sums_stop))
 
 pub loop-j-init : goal.loop-j-init
@@ -101,36 +79,30 @@ pub returns-then-marks-s-eq1 : goal.returns-then-marks-s-eq1
 returns-then-marks-s-eq1 c = record { walks = twice (turned c.before.before.before.before) (omega arith) c.if-marks-s-eq1.true; sums = sums_stop; counts = sums_stop }
 
 pub returns-then-not-in_passes : goal.returns-then-not-in_passes
-returns-then-not-in_passes c =
-    let at_in_passes = c.before.before in
-    (unfit (turned (to_turn at_in_passes)) (omega arith) at_in_passes.if-marks-s-eq1.false (tested at_in_passes false (not-true _ c.if-not-in_passes.true-raw)), (sums_stop, sums_stop))
+returns-then-not-in_passes c = record { walks = unfit (turned c.before.before.before.before.before.before) (omega arith) c.if-marks-s-eq1.false (tested c.before.before false (not-true _ c.if-not-in_passes.true-raw)); sums = sums_stop; counts = sums_stop }
 
 pub overflow_add-total : goal.overflow_add-total
 overflow_add-total c = omega (arith, c.length_at-total.ensures, short c.before.before.before (not-false _ c.if-not-in_passes.false-raw))
 
 pub overflow_add-blocks : goal.overflow_add-blocks
 overflow_add-blocks c =
-    let at_narrow2 = c.before.before.before.before.before.before.before.before in
-    let b = to_start at_narrow2 in
-    let slots = (whole b.args.words.now).incoming in
-    omega (arith, c.block_at-blocks.ensures, at_most_one (is_block (get_or slots at_narrow2.narrow-s.result no_incoming)))
+    let slots = (whole c.args.words.now).incoming in
+    omega (arith, c.block_at-blocks.ensures, at_most_one (is_block (get_or slots c.narrow-s.result no_incoming)))
 
 pub loop-j-preserved : goal.loop-j-preserved
 loop-j-preserved c =
-    let at_in_passes = c.before.before.before.before in
-    let at_narrow2 = to_turn at_in_passes in
-    let slots = (whole (to_start at_narrow2).args.words.now).incoming in
-    let m = (to_loop at_narrow2).loop-j in
+    let slots = (whole c.args.words.now).incoming in
+    let m = c.loop-j in
     let passed = not-false _ c.if-not-in_passes.false-raw in
-    let low = short at_in_passes passed in
-    let sum = summed (turned at_narrow2) slots in
-    let count = counted (turned at_narrow2) slots in
-    let few = at_most_one (is_block (get_or slots at_narrow2.narrow-s.result no_incoming)) in
+    let low = short c.before.before.before.before passed in
+    let sum = summed (turned c.before.before.before.before.before.before.before.before) slots in
+    let count = counted (turned c.before.before.before.before.before.before.before.before) slots in
+    let few = at_most_one (is_block (get_or slots c.narrow-s.result no_incoming)) in
     let block_is = c.block_at-blocks.ensures in
     let length_is = c.length_at-total.ensures in (
       omega arith,
       simp length-set m.inv.1,
-      turn (turned at_narrow2) (omega arith) at_in_passes.if-marks-s-eq1.false (tested at_in_passes true passed),
+      turn (turned c.before.before.before.before.before.before.before.before) (omega arith) c.if-marks-s-eq1.false (tested c.before.before.before.before true passed),
       omega arith,
       omega arith,
       omega arith,
@@ -139,14 +111,12 @@ loop-j-preserved c =
 
 pub returns : goal.returns
 returns c =
-    let at_narrow = c.before.before.before.before in
-    let at_start = at_narrow.before.before.before.before in
-    let a = at_start.args in
+    let a = c.args in
     let ws = a.words.now in
-    let v = at_narrow.narrow-n in
+    let v = c.narrow-n in
     let slots = (whole ws).incoming in
-    let f = passing at_start in
-    let i : Listed ws a.at 12 v.result = record { room = omega (arith, at_start.requires.words_len, at_start.requires.at_bound); is = v.ensures } in
+    let f = passing c.before.before.before.before.before.before.before.before in
+    let i : Listed ws a.at 12 v.result = record { room = omega (arith, c.requires.words_len, c.requires.at_bound); is = v.ensures } in
     let m = c.loop-j in
     let sum = summed_end f ws a.at 12 v.result i (omega arith) a.marks.now m.marks m.j m.invariant.2 slots (omega arith) in
     let count = counted_end f ws a.at 12 v.result i (omega arith) a.marks.now m.marks m.j m.invariant.2 slots (omega arith) in record { walks = end f ws a.at 12 v.result i (omega arith) a.marks.now m.marks m.j m.invariant.2 (omega arith); sums = record { is = λ q. omega arith; low = λ q. omega arith }; counts = record { is = λ q. omega arith; low = λ q. omega arith } }

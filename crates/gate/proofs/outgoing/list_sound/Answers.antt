@@ -19,27 +19,11 @@ use Rattle.gate.proofs.outgoing.list_sound.Goals as goal
 abbrev Start : Type 0
 Start = lts.Start tie.the-claims tie.handed_pre tie.handed_post goal.the-invariant-loop-j goal.the-decreases-loop-j
 
-abbrev AfterNarrow : Type 0
-AfterNarrow = lts.After-narrow tie.the-claims tie.handed_pre tie.handed_post goal.the-invariant-loop-j goal.the-decreases-loop-j
-
-abbrev AtLoop : Type 0
-AtLoop = lts.At-loop tie.the-claims tie.handed_pre tie.handed_post goal.the-invariant-loop-j goal.the-decreases-loop-j
-
 abbrev AfterNarrow2 : Type 0
 AfterNarrow2 = lts.After-narrow2 tie.the-claims tie.handed_pre tie.handed_post goal.the-invariant-loop-j goal.the-decreases-loop-j
 
 abbrev AfterEnough : Type 0
 AfterEnough = lts.After-enough tie.the-claims tie.handed_pre tie.handed_post goal.the-invariant-loop-j goal.the-decreases-loop-j
-
--- the places before `narrow2`
-abbrev to_loop : AfterNarrow2 → AtLoop
-to_loop c = c.before.before.before
-
-abbrev to_narrow : AfterNarrow2 → AfterNarrow
-to_narrow c = (to_loop c).before.before
-
-abbrev to_start : AfterNarrow2 → Start
-to_start c = (to_narrow c).before.before.before.before
 
 -- how the slots pass
 abbrev passing : Start → ℕ → Bool
@@ -47,39 +31,33 @@ passing b = grade_passes (map (slot_grade b.args.count) (whole b.args.words.now)
 
 -- the turn there
 turned : (c : AfterNarrow2
-    → Turn (passing (to_start c)) (to_start c).args.words.now (to_start c).args.at 32 (to_start c).args.marks.now (to_loop c).loop-j.marks (to_loop c).loop-j.j c.narrow-s.result
+    → Turn (passing c.before.before.before.before.before.before.before.before.before) c.args.words.now c.args.at 32 c.args.marks.now c.loop-j.marks c.loop-j.j c.narrow-s.result
 turned c =
-    let b = to_start c in
-    let v = (to_narrow c).narrow-n in
+    let v = c.narrow-n in
     record {
       long = v.result;
-      list = record { room = omega (arith, b.requires.words_len, b.requires.at_bound); is = v.ensures };
+      list = record { room = omega (arith, c.requires.words_len, c.requires.at_bound); is = v.ensures };
       few = omega arith;
-      left = (to_loop c).loop-j.invariant.2;
+      left = c.loop-j.invariant.2;
       here = omega arith;
       is = c.narrow-s.ensures;
     }
 
--- and from `enough` back to it
-abbrev to_turn : AfterEnough → AfterNarrow2
-to_turn c = c.before.before.before.before.before.before
-
 -- what the test says of the slot
-tested : (c : AfterEnough → passing (to_start (to_turn c)) (to_turn c).narrow-s.result ≡ c.enough.result
+tested : (c : AfterEnough → passing c.before.before.before.before.before.before.before.before.before.before.before.before.before.before.before c.narrow-s.result ≡ c.enough.result
 tested c =
-    let a = (to_start (to_turn c)).args in
-    ap (λ (o : List Outgoing). grade_passes (map (slot_grade a.count) o) a.sent (to_turn c).narrow-s.result) (pool_is a.words.now)
+    let a = c.args in
+    ap (λ (o : List Outgoing). grade_passes (map (slot_grade a.count) o) a.sent c.narrow-s.result) (pool_is a.words.now)
     ∙ ap (λ (w : ℕ). enough w a.sent) (sym c.grade_at-grade.ensures)
     ∙ sym c.enough.ensures
 
 pub returns-then-n-gt-OUTGOING : goal.returns-then-n-gt-OUTGOING
 returns-then-n-gt-OUTGOING c =
-    let at_start = c.before.before.before.before.before.before in
-    let a = at_start.args in
+    let a = c.args in
     let ws = a.words.now in
     let v = c.narrow-n in
-    let f = passing at_start in
-    let i : Listed ws a.at 32 v.result = record { room = omega (arith, at_start.requires.words_len, at_start.requires.at_bound); is = v.ensures } in
+    let f = passing c.before.before.before.before.before.before in
+    let i : Listed ws a.at 32 v.result = record { room = omega (arith, c.requires.words_len, c.requires.at_bound); is = v.ensures } in
     long f ws a.at 32 v.result i a.marks.now a.marks.now c.if-n-gt-OUTGOING.true
 
 pub returns-then-s-ge-OUTGOING : goal.returns-then-s-ge-OUTGOING
@@ -90,24 +68,19 @@ returns-then-marks-s-eq1 c = twice (turned c.before.before.before.before) (omega
 
 pub returns-then-not-enough : goal.returns-then-not-enough
 returns-then-not-enough c =
-    let at_enough = c.before.before in
-    unfit (turned (to_turn at_enough)) (omega arith) at_enough.if-marks-s-eq1.false (tested at_enough ∙ not-true _ c.if-not-enough.true-raw)
+    unfit (turned c.before.before.before.before.before.before.before.before) (omega arith) c.if-marks-s-eq1.false (tested c.before.before ∙ not-true _ c.if-not-enough.true-raw)
 
 pub loop-j-preserved : goal.loop-j-preserved
 loop-j-preserved c =
-    let at_enough = c.before.before in
-    let at_narrow2 = to_turn at_enough in
-    let good = tested at_enough ∙ not-false _ c.if-not-enough.false-raw in
-    (omega arith, simp length-set (to_loop at_narrow2).loop-j.inv.1, turn (turned at_narrow2) (omega arith) at_enough.if-marks-s-eq1.false good)
+    let good = tested c.before.before ∙ not-false _ c.if-not-enough.false-raw in
+    (omega arith, simp length-set c.loop-j.inv.1, turn (turned c.before.before.before.before.before.before.before.before) (omega arith) c.if-marks-s-eq1.false good)
 
 pub returns : goal.returns
 returns c =
-    let at_narrow = c.before.before.before.before in
-    let at_start = at_narrow.before.before.before.before in
-    let a = at_start.args in
+    let a = c.args in
     let ws = a.words.now in
-    let v = at_narrow.narrow-n in
-    let f = passing at_start in
-    let i : Listed ws a.at 32 v.result = record { room = omega (arith, at_start.requires.words_len, at_start.requires.at_bound); is = v.ensures } in
+    let v = c.narrow-n in
+    let f = passing c.before.before.before.before.before.before.before.before in
+    let i : Listed ws a.at 32 v.result = record { room = omega (arith, c.requires.words_len, c.requires.at_bound); is = v.ensures } in
     let m = c.loop-j in
     end f ws a.at 32 v.result i (omega arith) a.marks.now m.marks m.j m.invariant.2 (omega arith)

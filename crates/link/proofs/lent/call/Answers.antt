@@ -11,49 +11,34 @@ use Rattle.link.specs.declared.calls.Reply.TheVariants as vr
 use Rattle.link.proofs.Calling.{promised}
 use Rattle.link.proofs.lent.call.Goals as goal
 
--- the places before `call6`
-abbrev to_call5 : goal.After-call-reply-in-Inward → goal.In-Inward-2
-to_call5 c = c.before.before.before.before.before
-
 pub returns-in-Reset : goal.returns-in-Reset
 returns-in-Reset c =
-    let at_enum_told = c.before.before in
-    let at_start = at_enum_told.before.before.before.before.before in
-    let a = at_start.args in
+    let a = c.args in
     let x : State = record { peer = whole a.words.now; store = a.store.now; second = a.second.now } in
-    promised a.settings a.call a.datagram.now x plain.answer_of vr.Called _ at_enum_told.in-Reset.is _ refl refl tt _ refl _ (came_beside x _ c.reset-reply.ensures)
+    promised a.settings a.call a.datagram.now x plain.answer_of vr.Called _ c.in-Reset.is _ refl refl tt _ refl _ (came_beside x _ c.reset-reply.ensures)
 
 pub returns-in-Begin : goal.returns-in-Begin
 returns-in-Begin c =
-    let at_call = c.before.before.before in
-    let at_start = at_call.before.before.before.before.before in
-    let a = at_start.args in
+    let a = c.args in
     let x : State = record { peer = whole a.words.now; store = a.store.now; second = a.second.now } in
-    promised a.settings a.call a.datagram.now x plain.answer_of vr.Called _ at_call.in-Begin.is _ refl refl tt _ refl _ (came_beside x _ c.begin-reply.ensures)
+    promised a.settings a.call a.datagram.now x plain.answer_of vr.Called _ c.in-Begin.is _ refl refl tt _ refl _ (came_beside x _ c.begin-reply.ensures)
 
 pub returns-in-SetState : goal.returns-in-SetState
 returns-in-SetState c =
-    let at_call2 = c.before.before.before in
-    let at_start = at_call2.before.before.before.before.before in
-    let a = at_start.args in
+    let a = c.args in
     let x : State = record { peer = whole a.words.now; store = a.store.now; second = a.second.now } in
-    promised a.settings a.call a.datagram.now x plain.answer_of vr.Called _ at_call2.in-SetState.is _ refl refl tt _ refl _ (came_beside x _ c.set_state-reply.ensures)
+    promised a.settings a.call a.datagram.now x plain.answer_of vr.Called _ c.in-SetState.is _ refl refl tt _ refl _ (came_beside x _ c.set_state-reply.ensures)
 
 pub returns-in-Restore : goal.returns-in-Restore
 returns-in-Restore c =
-    let at_call3 = c.before.before.before in
-    let at_start = at_call3.before.before.before.before.before in
-    let a = at_start.args in
+    let a = c.args in
     let x : State = record { peer = whole a.words.now; store = a.store.now; second = a.second.now } in
-    let own = c.call4.ensures.1 in
-    promised a.settings a.call a.datagram.now x outward.answer_of vr.Outward _ at_call3.call3.given.1 _ refl (ap (λ (n : ℕ). 2 * n + 1) own.kind) own.named _ refl _ (came_beside x _ c.call4.ensures.0)
+    let own = c.call-reply.ensures.own in
+    promised a.settings a.call a.datagram.now x outward.answer_of vr.Outward _ c.call-in-Outward-1.given.1 _ refl (ap (λ (n : ℕ). 2 * n + 1) own.kind) own.named _ refl _ (came_beside x _ c.call-reply.ensures.came)
 
 pub returns-in-Outward : goal.returns-in-Outward
 returns-in-Outward c =
-    let at_call6 = c.before.before.before.before in
-    let at_call5 = to_call5 at_call6 in
-    let at_start = at_call5.before.before.before.before.before in
-    let a = at_start.args in
+    let a = c.args in
     let x : State = record { peer = whole a.words.now; store = a.store.now; second = a.second.now } in
-    let own = at_call6.call6.ensures.1 in
-    promised a.settings a.call a.datagram.now x inward.answer_of vr.Inward _ at_call5.in-Inward.is _ refl (ap (λ (n : ℕ). 2 * n + 2) own.kind) tt _ refl _ at_call6.call6.ensures.0
+    let own = c.call-reply-in-Inward.ensures.own in
+    promised a.settings a.call a.datagram.now x inward.answer_of vr.Inward _ c.call-in-Inward-1.given.1 _ refl (ap (λ (n : ℕ). 2 * n + 2) own.kind) tt _ refl _ c.call-reply-in-Inward.ensures.came

@@ -11,9 +11,7 @@ use Rattle.measure.proofs.incoming.measure_fragment.Goals as goal
 
 pub returns : goal.returns
 returns c =
-    let at_arrive = c.before.before.before.before in
-    let at_piece_of = at_arrive.before.before.before in
-    let a = at_piece_of.args in
+    let a = c.args in
     let x : State = record { peer = whole a.words.now; store = a.store.now; second = a.second.now } in
-    same_outcome (ap (λ (piece : Piece). arrives_fragment (settings_of 1392) piece a.datagram.now x) at_piece_of.piece_of-a.ensures)
-    (measured answer_of at_arrive.arrive-reply.ensures c.arrived.ensures)
+    same_outcome (ap (λ (piece : Piece). arrives_fragment (settings_of 1392) piece a.datagram.now x) c.piece_of-a.ensures)
+    (measured answer_of c.arrive-reply.ensures c.arrived.ensures)

@@ -19,5 +19,4 @@ returns-then-kind-eq4 c = simp c.if-kind-eq4.true
 
 pub returns : goal.returns
 returns c =
-    let at_if2 = c.before.before.before.before in
-    simp (ne_eqb _ _ at_if2.if-kind-eq0.false, ne_eqb _ _ at_if2.if-kind-eq1.false, ne_eqb _ _ c.if-kind-eq2.false, ne_eqb _ _ c.if-kind-eq3.false, ne_eqb _ _ c.if-kind-eq4.false)
+    simp (ne_eqb _ _ c.if-kind-eq0.false, ne_eqb _ _ c.if-kind-eq1.false, ne_eqb _ _ c.if-kind-eq2.false, ne_eqb _ _ c.if-kind-eq3.false, ne_eqb _ _ c.if-kind-eq4.false)

@@ -10,9 +10,7 @@ use Rattle.measure.proofs.linking.measure_link.Goals as goal
 
 pub returns : goal.returns
 returns c =
-    let at_call = c.before.before.before.before.before.before in
-    let at_call_of = at_call.before.before.before.before in
-    let a = at_call_of.args in
+    let a = c.args in
     let x : State = record { peer = whole a.words.now; store = a.store.now; second = a.second.now } in
-    same_outcome (ap (λ (call : Call). calls (settings_of 1392) call a.datagram.now x) at_call_of.call_of-call.ensures)
-    (measured answer_of at_call.call-reply.ensures.came c.linked.ensures)
+    same_outcome (ap (λ (call : Call). calls (settings_of 1392) call a.datagram.now x) c.call_of-call.ensures)
+    (measured answer_of c.call-reply.ensures.came c.linked.ensures)

@@ -5,5 +5,4 @@ use Rattle.measure.proofs.linking.measure_link_send.Goals as goal
 
 pub returns : goal.returns
 returns c =
-    let at_call = c.before.before.before.before.before.before in
-    measured answer_of at_call.call-reply.ensures.came c.linked.ensures
+    measured answer_of c.call-reply.ensures.came c.linked.ensures

@@ -9,7 +9,6 @@ use Rattle.measure.proofs.outgoing.measure_step.Goals as goal
 
 pub returns : goal.returns
 returns c =
-    let at_queue_of = c.before.before.before.before in
-    let a = at_queue_of.args in
-    same_outcome (ap (λ (q : Queue). steps (settings_of 1392) q a.time (whole a.words.now)) at_queue_of.queue_of-q.ensures)
+    let a = c.args in
+    same_outcome (ap (λ (q : Queue). steps (settings_of 1392) q a.time (whole a.words.now)) c.queue_of-q.ensures)
     (measured answer_of c.step-reply.ensures.came c.stepped.ensures)

@@ -9,12 +9,10 @@ overflow_cast-is_written c = omega (arith, c.shared_slice_known-2-1.given 6)
 
 pub returns-then-j-lt-HELD : goal.returns-then-j-lt-HELD
 returns-then-j-lt-HELD c =
-    let start = c.before.before.before.before.before.before.before in
-    let a = start.args in
-    c.written_if.ensures ∙ rw c.short.ensures (channel_number_place a.words.now start.requires.words_len a.c (omega arith) a.j c.if-j-lt-HELD.true)
+    let a = c.args in
+    c.written_if.ensures ∙ rw c.short.ensures (channel_number_place a.words.now c.requires.words_len a.c (omega arith) a.j c.if-j-lt-HELD.true)
 
 pub returns : goal.returns
 returns c =
-    let start = c.before.before.before.before.before.before in
-    let a = start.args in
-    c.written_if-2.ensures ∙ rw c.list.ensures (channel_list_place a.words.now start.requires.words_len a.c (omega arith) a.j c.if-j-lt-HELD.false (omega arith))
+    let a = c.args in
+    c.written_if-2.ensures ∙ rw c.list.ensures (channel_list_place a.words.now c.requires.words_len a.c (omega arith) a.j c.if-j-lt-HELD.false (omega arith))

@@ -14,20 +14,16 @@ field-e-requires c = rw c.width_of-bytes.ensures (width_fit _ _)
 
 pub returns-then-j-eq0 : goal.returns-then-j-eq0
 returns-then-j-eq0 c =
-    let at_field = c.before.before.before in
-    let at_width = at_field.before.before in
-    let a = at_width.args in
-    let e : at_field.field-e.result ≡ cut_place (8 * width_of (kind_from a.kind) a.j) (field_from a.kind a.j a.x) =
-    at_field.field-e.ensures ∙ rw (at_field.field_from.ensures, at_width.width_of-bytes.ensures, at_width.kind_from.ensures)
+    let a = c.args in
+    let e : c.field-e.result ≡ cut_place (8 * width_of (kind_from a.kind) a.j) (field_from a.kind a.j a.x) =
+    c.field-e.ensures ∙ rw (c.field_from.ensures, c.width_of-bytes.ensures, c.kind_from.ensures)
     in
     c.as_command.ensures ∙ ap as_command e ∙ rw (eq-eqb a.j 0 c.if-j-eq0.true)
 
 pub returns : goal.returns
 returns c =
-    let at_field = c.before.before.before in
-    let at_width = at_field.before.before in
-    let a = at_width.args in
-    let e : at_field.field-e.result ≡ cut_place (8 * width_of (kind_from a.kind) a.j) (field_from a.kind a.j a.x) =
-    at_field.field-e.ensures ∙ rw (at_field.field_from.ensures, at_width.width_of-bytes.ensures, at_width.kind_from.ensures)
+    let a = c.args in
+    let e : c.field-e.result ≡ cut_place (8 * width_of (kind_from a.kind) a.j) (field_from a.kind a.j a.x) =
+    c.field-e.ensures ∙ rw (c.field_from.ensures, c.width_of-bytes.ensures, c.kind_from.ensures)
     in
-    c.written_if.ensures ∙ rw (e, at_width.width_of-bytes.ensures, at_width.kind_from.ensures, ne_eqb a.j 0 c.if-j-eq0.false)
+    c.written_if.ensures ∙ rw (e, c.width_of-bytes.ensures, c.kind_from.ensures, ne_eqb a.j 0 c.if-j-eq0.false)

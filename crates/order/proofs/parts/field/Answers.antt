@@ -25,7 +25,6 @@ returns-then-bytes-eq2 c =
 
 pub returns : goal.returns
 returns c =
-    let start = c.before.before.before.before.before in
-    let a = start.args in
-    let e : a.bytes ≡ 4 = four a.bytes start.requires.0 c.if-bytes-eq0.false c.if-bytes-eq1.false c.if-bytes-eq2.false start.requires.1 in
+    let a = c.args in
+    let e : a.bytes ≡ 4 = four a.bytes c.requires.0 c.if-bytes-eq0.false c.if-bytes-eq1.false c.if-bytes-eq2.false c.requires.1 in
     c.long.ensures ∙ field_of a.bytes 4 a.x e

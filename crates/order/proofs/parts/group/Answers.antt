@@ -5,12 +5,10 @@ use Rattle.order.proofs.parts.group.Goals as goal
 
 pub returns-then-j-lt4 : goal.returns-then-j-lt4
 returns-then-j-lt4 c =
-    let start = c.before.before.before.before.before in
-    let a = start.args in
-    c.short.ensures ∙ group_place a.words.now a.j 16 start.requires.words_len start.requires.j_bound (group_narrow a.j c.if-j-lt4.true)
+    let a = c.args in
+    c.short.ensures ∙ group_place a.words.now a.j 16 c.requires.words_len c.requires.j_bound (group_narrow a.j c.if-j-lt4.true)
 
 pub returns : goal.returns
 returns c =
-    let start = c.before.before.before.before.before in
-    let a = start.args in
-    c.long.ensures ∙ group_place a.words.now a.j 32 start.requires.words_len start.requires.j_bound (group_wide a.j c.if-j-lt4.false start.requires.j_bound)
+    let a = c.args in
+    c.long.ensures ∙ group_place a.words.now a.j 32 c.requires.words_len c.requires.j_bound (group_wide a.j c.if-j-lt4.false c.requires.j_bound)

@@ -8,18 +8,15 @@ use Rattle.order.proofs.parts.outgoing.Goals as goal
 
 pub returns-then-j-lt-OWN : goal.returns-then-j-lt-OWN
 returns-then-j-lt-OWN c =
-    let at_used = c.before.before.before.before in
-    let a = at_used.args in
-    c.written_if.ensures ∙ rw (c.slot_number.ensures, ← at_used.outgoing-is_used.ensures) (slot_number_place a.words.now a.s (omega arith) at_used.outgoing-is_used.result a.j (omega arith))
+    let a = c.args in
+    c.written_if.ensures ∙ rw (c.slot_number.ensures, ← c.outgoing-is_used.ensures) (slot_number_place a.words.now a.s (omega arith) c.outgoing-is_used.result a.j (omega arith))
 
 pub returns-then-j-eq-KIND : goal.returns-then-j-eq-KIND
 returns-then-j-eq-KIND c =
-    let at_used = c.before.before.before.before.before in
-    let a = at_used.args in
-    c.written_if-then-j-eq-KIND.ensures ∙ rw (c.byte.ensures, ← at_used.outgoing-is_used.ensures) (slot_kind_place a.words.now a.s (omega arith) at_used.outgoing-is_used.result a.j (get_or a.words.now (330 + a.s * 26 + a.j) 0 % 256) c.if-j-eq-KIND.true)
+    let a = c.args in
+    c.written_if-then-j-eq-KIND.ensures ∙ rw (c.byte.ensures, ← c.outgoing-is_used.ensures) (slot_kind_place a.words.now a.s (omega arith) c.outgoing-is_used.result a.j (get_or a.words.now (330 + a.s * 26 + a.j) 0 % 256) c.if-j-eq-KIND.true)
 
 pub returns : goal.returns
 returns c =
-    let at_used = c.before.before.before.before.before.before in
-    let a = at_used.args in
-    c.written_if-2.ensures ∙ rw (c.command.ensures, ← at_used.outgoing-is_used.ensures) (slot_command_place a.words.now a.s (omega arith) at_used.outgoing-is_used.result a.j (omega arith) (omega arith))
+    let a = c.args in
+    c.written_if-2.ensures ∙ rw (c.command.ensures, ← c.outgoing-is_used.ensures) (slot_command_place a.words.now a.s (omega arith) c.outgoing-is_used.result a.j (omega arith) (omega arith))

@@ -9,20 +9,7 @@ use Rattle.places.specs.Whole.{whole}
 use Rattle.places.proofs.GroupLaws.{standing_is}
 use Rattle.places.proofs.Sized.{sized}
 use Rattle.order.proofs.UsedLaws.{held_hit, held_miss, held_end, held_at}
-use Rattle.order.proofs.used.held.Lts as lts
-use Rattle.order.proofs.used.held.Tie as tie
 use Rattle.order.proofs.used.held.Goals as goal
-
--- places of the code that the helpers below speak of
-abbrev Start : Type 0
-Start = lts.Start tie.the-claims tie.handed_pre tie.handed_post goal.the-invariant-loop-c goal.the-decreases-loop-c
-
-abbrev AtLoop : Type 0
-AtLoop = lts.At-loop tie.the-claims tie.handed_pre tie.handed_post goal.the-invariant-loop-c goal.the-decreases-loop-c
-
--- the places before `loop`
-abbrev to_start : AtLoop → Start
-to_start c = c.before.before.before.before
 
 pub overflow_cast-words : goal.overflow_cast-words
 overflow_cast-words c = omega (arith, c.shared_slice_known-2-1.given 6)
@@ -32,33 +19,28 @@ loop-c-init c = (omega arith, c.least-count.ensures, refl)
 
 pub returns-then-names : goal.returns-then-names
 returns-then-names c =
-    let at_loop = c.before.before.before.before in
-    let l = at_loop.loop-c in
-    let start = to_start at_loop in
-    let ws = start.args.words.now in
-    let s = start.args.s in
+    let l = c.loop-c in
+    let ws = c.args.words.now in
+    let s = c.args.s in
     let n : (whole ws).standing.channels ≡ get_or ws 6 0 = ap (λ (x : Standing). x.channels) (standing_is ws) in
     let e : length (whole ws).channels ≡ 8 = (sized ws).channels in
-    let names = held_at ws s l.c (omega (arith, l.invariant.1)) start.requires ∙ sym c.names.ensures ∙ c.if-names.true in
+    let names = held_at ws s l.c (omega (arith, l.invariant.1)) c.requires ∙ sym c.names.ensures ∙ c.if-names.true in
     sym (l.invariant.2 ∙ held_hit (whole ws).channels (whole ws).standing.channels l.c s no_channel (omega (arith, l.invariant.1)) (omega (arith, l.invariant.1)) names)
 
 pub loop-c-preserved : goal.loop-c-preserved
 loop-c-preserved c =
-    let at_loop = c.before.before.before.before in
-    let l = at_loop.loop-c in
-    let start = to_start at_loop in
-    let ws = start.args.words.now in
-    let s = start.args.s in
+    let l = c.loop-c in
+    let ws = c.args.words.now in
+    let s = c.args.s in
     let n : (whole ws).standing.channels ≡ get_or ws 6 0 = ap (λ (x : Standing). x.channels) (standing_is ws) in
     let e : length (whole ws).channels ≡ 8 = (sized ws).channels in
-    let names = held_at ws s l.c (omega (arith, l.invariant.1)) start.requires ∙ sym c.names.ensures ∙ c.if-names.false in
+    let names = held_at ws s l.c (omega (arith, l.invariant.1)) c.requires ∙ sym c.names.ensures ∙ c.if-names.false in
     (omega arith, l.invariant.1, l.invariant.2 ∙ held_miss (whole ws).channels (whole ws).standing.channels l.c s no_channel (omega (arith, l.invariant.1)) (omega (arith, l.invariant.1)) names)
 
 pub returns : goal.returns
 returns c =
     let l = c.loop-c in
-    let start = to_start c.before.before in
-    let ws = start.args.words.now in
+    let ws = c.args.words.now in
     let n : (whole ws).standing.channels ≡ get_or ws 6 0 = ap (λ (x : Standing). x.channels) (standing_is ws) in
     let e : length (whole ws).channels ≡ 8 = (sized ws).channels in
-    sym (l.invariant.2 ∙ held_end (whole ws).channels (whole ws).standing.channels l.c start.args.s (rw (n, e) (omega (arith, l.invariant.1))))
+    sym (l.invariant.2 ∙ held_end (whole ws).channels (whole ws).standing.channels l.c c.args.s (rw (n, e) (omega (arith, l.invariant.1))))

@@ -10,13 +10,10 @@ returns-then-names c =
 
 pub returns-then-names-2 : goal.returns-then-names-2
 returns-then-names-2 c =
-    let at_Names = c.before.before.before.before in
-    let a = at_Names.args in
-    sym (used_out_lem a.words.now a.s ∙ rw (sym at_Names.names.ensures ∙ c.if-names.false, sym c.names-2.ensures ∙ c.if-names-2.true))
+    let a = c.args in
+    sym (used_out_lem a.words.now a.s ∙ rw (sym c.names.ensures ∙ c.if-names.false, sym c.names-2.ensures ∙ c.if-names-2.true))
 
 pub returns : goal.returns
 returns c =
-    let at_names2 = c.before.before.before in
-    let at_Names = at_names2.before.before in
-    let a = at_Names.args in
-    c.names-3.ensures ∙ sym (used_out_lem a.words.now a.s ∙ rw (sym at_Names.names.ensures ∙ at_names2.if-names.false, sym at_names2.names-2.ensures ∙ c.if-names-2.false))
+    let a = c.args in
+    c.names-3.ensures ∙ sym (used_out_lem a.words.now a.s ∙ rw (sym c.names.ensures ∙ c.if-names.false, sym c.names-2.ensures ∙ c.if-names-2.false))

@@ -13,21 +13,19 @@ returns-then-is_acknowledged c =
 
 pub returns-then-is_set : goal.returns-then-is_set
 returns-then-is_set c =
-    let at_is_set = c.before.before.before in
     rw (
       c.stamp_group.ensures,
-      ne_eqb _ _ at_is_set.if-channel-eq-ITSELF.false,
-      sym at_is_set.is_acknowledged.ensures ∙ at_is_set.if-is_acknowledged.false,
-      sym at_is_set.is_set.ensures ∙ c.if-is_set.true,
+      ne_eqb _ _ c.if-channel-eq-ITSELF.false,
+      sym c.is_acknowledged.ensures ∙ c.if-is_acknowledged.false,
+      sym c.is_set.ensures ∙ c.if-is_set.true,
     )
 
 pub returns : goal.returns
 returns c =
-    let at_is_set = c.before.before.before in
     rw (
       c.stamp_unreliable.ensures,
-      ne_eqb _ _ at_is_set.if-channel-eq-ITSELF.false,
-      sym at_is_set.is_acknowledged.ensures ∙ at_is_set.if-is_acknowledged.false,
-      sym at_is_set.is_set.ensures ∙ c.if-is_set.false,
+      ne_eqb _ _ c.if-channel-eq-ITSELF.false,
+      sym c.is_acknowledged.ensures ∙ c.if-is_acknowledged.false,
+      sym c.is_set.ensures ∙ c.if-is_set.false,
       rest_reliable,
     )

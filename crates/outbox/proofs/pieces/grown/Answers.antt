@@ -11,7 +11,5 @@ overflow_cast-size c =
 
 pub returns : goal.returns
 returns c =
-    let at_wrapping_add_u32 = c.before.before.before in
-    let at_start = at_wrapping_add_u32.before.before.before.before in
     c.wrapping_add_u32.ensures.value
-    ∙ rw (at_wrapping_add_u32.wrapping_add_u32-more.ensures.value, at_wrapping_add_u32.size_of-size.ensures) (sum_in_turn at_start.args.total _ _)
+    ∙ rw (c.wrapping_add_u32-more.ensures.value, c.size_of-size.ensures) (sum_in_turn c.args.total _ _)

@@ -5,22 +5,18 @@ use Rattle.overdue.proofs.step.due_by.Goals as goal
 
 pub returns-then-not-is_given_up : goal.returns-then-not-is_given_up
 returns-then-not-is_given_up c =
-    let g = c.before.before.before in
-    let e = g.before in
     rw (
-      ← e.earliest_by-earliest.ensures,
-      ← e.next_by-next.ensures,
-      sym g.is_given_up.ensures ∙ not-true _ c.if-not-is_given_up.true-raw,
+      ← c.earliest_by-earliest.ensures,
+      ← c.next_by-next.ensures,
+      sym c.is_given_up.ensures ∙ not-true _ c.if-not-is_given_up.true-raw,
       c.goes_back.ensures,
     )
 
 pub returns : goal.returns
 returns c =
-    let g = c.before.before.before in
-    let e = g.before in
     rw (
-      ← e.earliest_by-earliest.ensures,
-      ← e.next_by-next.ensures,
-      sym g.is_given_up.ensures ∙ not-false _ c.if-not-is_given_up.false-raw,
+      ← c.earliest_by-earliest.ensures,
+      ← c.next_by-next.ensures,
+      sym c.is_given_up.ensures ∙ not-false _ c.if-not-is_given_up.false-raw,
       c.stays_in.ensures,
     )

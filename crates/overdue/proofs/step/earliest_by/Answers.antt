@@ -10,16 +10,14 @@ returns-then-earliest-eq0 c = rw (eq-eqb _ _ c.if-earliest-eq0.true)
 
 pub returns-then-past-ge-OVERFLOW : goal.returns-then-past-ge-OVERFLOW
 returns-then-past-ge-OVERFLOW c =
-    let f = c.before.before in
-    let a = f.args in
-    let plain : f.wrapping_sub_u32-past.result ≡ minus 32 a.sent a.earliest =
-    minus_of a.sent a.earliest _ (search rules) (search rules) (search rules) f.wrapping_sub_u32-past.ensures.value in
-    rw (ne_eqb _ _ f.if-earliest-eq0.false, ← plain, le-leb _ _ c.if-past-ge-OVERFLOW.true)
+    let a = c.args in
+    let plain : c.wrapping_sub_u32-past.result ≡ minus 32 a.sent a.earliest =
+    minus_of a.sent a.earliest _ (search rules) (search rules) (search rules) c.wrapping_sub_u32-past.ensures.value in
+    rw (ne_eqb _ _ c.if-earliest-eq0.false, ← plain, le-leb _ _ c.if-past-ge-OVERFLOW.true)
 
 pub returns : goal.returns
 returns c =
-    let f = c.before.before in
-    let a = f.args in
-    let plain : f.wrapping_sub_u32-past.result ≡ minus 32 a.sent a.earliest =
-    minus_of a.sent a.earliest _ (search rules) (search rules) (search rules) f.wrapping_sub_u32-past.ensures.value in
-    rw (ne_eqb _ _ f.if-earliest-eq0.false, ← plain, lt-leb _ _ c.if-past-ge-OVERFLOW.false)
+    let a = c.args in
+    let plain : c.wrapping_sub_u32-past.result ≡ minus 32 a.sent a.earliest =
+    minus_of a.sent a.earliest _ (search rules) (search rules) (search rules) c.wrapping_sub_u32-past.ensures.value in
+    rw (ne_eqb _ _ c.if-earliest-eq0.false, ← plain, lt-leb _ _ c.if-past-ge-OVERFLOW.false)

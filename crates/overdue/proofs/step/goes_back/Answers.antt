@@ -7,14 +7,11 @@ use Rattle.overdue.proofs.step.goes_back.Goals as goal
 
 pub returns-then-not-o : goal.returns-then-not-o
 returns-then-not-o c =
-    let d = c.before.before.before in
-    rw (not-true d.args.o.packet c.if-not-o.true, d.double-timeout.ensures, d.wrapping_add_u32.ensures.value)
+    rw (not-true c.args.o.packet c.if-not-o.true, c.double-timeout.ensures, c.wrapping_add_u32.ensures.value)
 
 pub returns : goal.returns
 returns c =
-    let f = c.before.before.before in
-    let d = f.before.before in
-    let a = d.args in
+    let a = c.args in
     let less : c.wrapping_sub_u32.result ≡ minus 32 a.walk.transit a.o.length =
     minus_of a.walk.transit a.o.length _ (search rules) (search rules) (search rules) c.wrapping_sub_u32.ensures.value in
-    rw (not-false a.o.packet f.if-not-o.false, less, d.double-timeout.ensures, d.wrapping_add_u32.ensures.value)
+    rw (not-false a.o.packet c.if-not-o.false, less, c.double-timeout.ensures, c.wrapping_add_u32.ensures.value)

@@ -8,27 +8,22 @@ returns-then-earliest-eq0 c = rw (eq-eqb _ _ c.if-earliest-eq0.true)
 
 pub returns-then-limits-apart : goal.returns-then-limits-apart
 returns-then-limits-apart c =
-    let d = c.before.before.before in
-    rw (ne_eqb _ _ d.if-earliest-eq0.false, ← d.distance-apart.ensures, le-leb _ _ c.if-limits-apart.true)
+    rw (ne_eqb _ _ c.if-earliest-eq0.false, ← c.distance-apart.ensures, le-leb _ _ c.if-limits-apart.true)
 
 pub returns-then-not-reaches : goal.returns-then-not-reaches
 returns-then-not-reaches c =
-    let r = c.before.before in
-    let d = r.before.before.before in
     rw (
-      ne_eqb _ _ d.if-earliest-eq0.false,
-      ← d.distance-apart.ensures,
-      lt-leb _ _ r.if-limits-apart.false,
-      sym r.reaches.ensures ∙ not-true _ c.if-not-reaches.true-raw,
+      ne_eqb _ _ c.if-earliest-eq0.false,
+      ← c.distance-apart.ensures,
+      lt-leb _ _ c.if-limits-apart.false,
+      sym c.reaches.ensures ∙ not-true _ c.if-not-reaches.true-raw,
     )
 
 pub returns : goal.returns
 returns c =
-    let at_reaches = c.before.before.before in
-    let d = at_reaches.before.before.before in
     rw (
-      ne_eqb _ _ d.if-earliest-eq0.false,
-      ← d.distance-apart.ensures,
-      lt-leb _ _ at_reaches.if-limits-apart.false,
-      sym at_reaches.reaches.ensures ∙ not-false _ c.if-not-reaches.false-raw,
+      ne_eqb _ _ c.if-earliest-eq0.false,
+      ← c.distance-apart.ensures,
+      lt-leb _ _ c.if-limits-apart.false,
+      sym c.reaches.ensures ∙ not-false _ c.if-not-reaches.false-raw,
     )

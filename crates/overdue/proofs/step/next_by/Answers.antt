@@ -7,10 +7,8 @@ returns-then-not-walk c = rw (not-true c.args.walk.back c.if-not-walk.true)
 
 pub returns-then-walk : goal.returns-then-walk
 returns-then-walk c =
-    let f = c.before.before in
-    rw (not-false f.args.walk.back f.if-not-walk.false, c.if-walk.true)
+    rw (not-false c.args.walk.back c.if-not-walk.false, c.if-walk.true)
 
 pub returns : goal.returns
 returns c =
-    let f = c.before.before.before in
-    rw (not-false f.args.walk.back f.if-not-walk.false, c.if-walk.false, c.wrapping_add_u32.ensures.value)
+    rw (not-false c.args.walk.back c.if-not-walk.false, c.if-walk.false, c.wrapping_add_u32.ensures.value)

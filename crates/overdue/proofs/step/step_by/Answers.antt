@@ -11,16 +11,13 @@ returns-then-walk c =
 
 pub returns-then-is_due : goal.returns-then-is_due
 returns-then-is_due c =
-    let d = c.before.before.before in
-    let a = d.args in
+    let a = c.args in
     c.due_by.ensures
-    ∙ sym (step_due a.limits a.clock a.walk a.o d.if-walk.false (sym d.is_due.ensures ∙ c.if-is_due.true))
+    ∙ sym (step_due a.limits a.clock a.walk a.o c.if-walk.false (sym c.is_due.ensures ∙ c.if-is_due.true))
 
 pub returns : goal.returns
 returns c =
-    let n = c.before.before in
-    let d = n.before.before in
-    let a = d.args in
+    let a = c.args in
     c.stays_in-2.ensures
-    ∙ ap (λ (next : ℕ). stays_in (kept_in a.walk next) a.o) n.next_by.ensures
-    ∙ sym (step_kept a.limits a.clock a.walk a.o d.if-walk.false (sym d.is_due.ensures ∙ n.if-is_due.false))
+    ∙ ap (λ (next : ℕ). stays_in (kept_in a.walk next) a.o) c.next_by.ensures
+    ∙ sym (step_kept a.limits a.clock a.walk a.o c.if-walk.false (sym c.is_due.ensures ∙ c.if-is_due.false))

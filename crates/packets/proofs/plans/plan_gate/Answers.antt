@@ -7,5 +7,4 @@ returns-in-Shut c = rw (sym c.send_gate-gate.ensures ∙ c.in-Shut.is)
 
 pub returns : goal.returns
 returns c =
-    let t = c.before.before in
-    rw (sym t.send_gate-gate.ensures ∙ t.in_default.is) c.queue_gate.ensures
+    rw (sym c.send_gate-gate.ensures ∙ c.in_default.is) c.queue_gate.ensures

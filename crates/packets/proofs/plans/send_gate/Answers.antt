@@ -10,10 +10,8 @@ returns-then-standing-channel c = rw (eq-eqb _ _ c.if-standing-ne-CONNECTED.fals
 
 pub returns-then-settings-length : goal.returns-then-settings-length
 returns-then-settings-length c =
-    let m = c.before.before.before in
-    rw (eq-eqb _ _ m.if-standing-ne-CONNECTED.false, lt-ltb _ _ m.if-standing-channel.false, lt-leb _ _ c.if-settings-length.true)
+    rw (eq-eqb _ _ c.if-standing-ne-CONNECTED.false, lt-ltb _ _ c.if-standing-channel.false, lt-leb _ _ c.if-settings-length.true)
 
 pub returns : goal.returns
 returns c =
-    let m = c.before.before.before in
-    rw (eq-eqb _ _ m.if-standing-ne-CONNECTED.false, lt-ltb _ _ m.if-standing-channel.false, le-leb _ _ c.if-settings-length.false)
+    rw (eq-eqb _ _ c.if-standing-ne-CONNECTED.false, lt-ltb _ _ c.if-standing-channel.false, le-leb _ _ c.if-settings-length.false)

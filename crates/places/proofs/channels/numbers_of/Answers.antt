@@ -5,21 +5,17 @@ use Rattle.places.proofs.channels.numbers_of.Goals as goal
 
 pub returns : goal.returns
 returns c =
-    let at_low163 = c.before.before.before in
-    let at_start = at_low163.before.before.before.before.before.before.before in
-    let j = at_low163.before.before in
-    let i = j.before.before in
     sym
     (numbers_is
-    at_start.args.words.now
-    at_start.args.i
-    i.low16.result
-    j.low16-2.result
-    at_low163.low16-3.result
+    c.args.words.now
+    c.args.i
+    c.low16.result
+    c.low16-2.result
+    c.low16-3.result
     c.low16-4.result
-    at_start.requires.i_lt_channels
-    at_start.requires.words_len
-    i.low16.ensures
-    j.low16-2.ensures
-    at_low163.low16-3.ensures
+    c.requires.i_lt_channels
+    c.requires.words_len
+    c.low16.ensures
+    c.low16-2.ensures
+    c.low16-3.ensures
     c.low16-4.ensures)

@@ -7,6 +7,5 @@ use Rattle.places.proofs.channels.put_outgoing.Goals as goal
 pub returns : goal.returns
 returns c =
     let p = c.put_pair in
-    let b = c.before.before.before.before.before.before in
-    let a = b.args in
-    ap whole p.ensures.is ∙ put_outgoing_numbers a.words.now a.i a.r a.u b.requires.i_lt_channels b.requires.words_len p.ensures.low p.ensures.1.1
+    let a = c.args in
+    ap whole p.ensures.is ∙ put_outgoing_numbers a.words.now a.i a.r a.u c.requires.i_lt_channels c.requires.words_len p.ensures.low p.ensures.1.1

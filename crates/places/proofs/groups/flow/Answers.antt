@@ -5,5 +5,4 @@ use Rattle.places.proofs.groups.flow.Goals as goal
 
 pub returns : goal.returns
 returns c =
-    let at_low16 = c.before.before.before.before in
-    sym (flow_is at_low16.args.words.now at_low16.low16.result at_low16.low16.ensures)
+    sym (flow_is c.args.words.now c.low16.result c.low16.ensures)

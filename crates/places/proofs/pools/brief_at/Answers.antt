@@ -10,5 +10,4 @@ use Rattle.places.proofs.pools.brief_at.Goals as goal
 
 pub returns : goal.returns
 returns c =
-    let b = c.before.before.before.before in
-    c.brief_at.ensures ∙ ap (λ (x : List Outgoing). brief_of (get_or x b.args.i no_outgoing)) (sym (pool_is b.args.words.now))
+    c.brief_at.ensures ∙ ap (λ (x : List Outgoing). brief_of (get_or x c.args.i no_outgoing)) (sym (pool_is c.args.words.now))

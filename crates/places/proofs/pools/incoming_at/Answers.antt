@@ -9,5 +9,4 @@ use Rattle.places.proofs.pools.incoming_at.Goals as goal
 
 pub returns : goal.returns
 returns c =
-    let b = c.before.before.before.before in
-    c.in_slot_at.ensures ∙ ap (λ (x : List Incoming). get_or x b.args.i no_incoming) (sym (in_pool_is b.args.words.now))
+    c.in_slot_at.ensures ∙ ap (λ (x : List Incoming). get_or x c.args.i no_incoming) (sym (in_pool_is c.args.words.now))

@@ -9,5 +9,4 @@ use Rattle.places.proofs.pools.outgoing_at.Goals as goal
 
 pub returns : goal.returns
 returns c =
-    let b = c.before.before.before.before in
-    c.slot_at.ensures ∙ ap (λ (x : List Outgoing). get_or x b.args.i no_outgoing) (sym (pool_is b.args.words.now))
+    c.slot_at.ensures ∙ ap (λ (x : List Outgoing). get_or x c.args.i no_outgoing) (sym (pool_is c.args.words.now))

@@ -11,7 +11,5 @@ use Rattle.places.proofs.pools.put_attempt.Goals as goal
 
 pub returns : goal.returns
 returns c =
-    let at_put_attempt = c.before.before.before in
-    let b = at_put_attempt.before.before.before in
-    let e : length at_put_attempt.put_attempt.new.pool ≡ 832 = search rules in
-    pool_back b.args.words.now at_put_attempt.put_attempt.new.pool b.requires (λ (x : List Outgoing). set x b.args.i (with_attempt (get_or x b.args.i no_outgoing) b.args.sent b.args.timeout b.args.attempts)) e at_put_attempt.put_attempt.ensures
+    let e : length c.put_attempt.new.pool ≡ 832 = search rules in
+    pool_back c.args.words.now c.put_attempt.new.pool c.requires (λ (x : List Outgoing). set x c.args.i (with_attempt (get_or x c.args.i no_outgoing) c.args.sent c.args.timeout c.args.attempts)) e c.put_attempt.ensures

@@ -9,7 +9,5 @@ use Rattle.places.proofs.pools.put_incoming.Goals as goal
 
 pub returns : goal.returns
 returns c =
-    let at_put_in = c.before.before.before in
-    let b = at_put_in.before.before.before in
-    let e : length at_put_in.put_in.new.pool ≡ 72 = search rules in
-    in_pool_back b.args.words.now at_put_in.put_in.new.pool b.requires (λ (x : List Incoming). set x b.args.i b.args.slot) e at_put_in.put_in.ensures
+    let e : length c.put_in.new.pool ≡ 72 = search rules in
+    in_pool_back c.args.words.now c.put_in.new.pool c.requires (λ (x : List Incoming). set x c.args.i c.args.slot) e c.put_in.ensures

@@ -9,7 +9,5 @@ use Rattle.places.proofs.pools.put_outgoing.Goals as goal
 
 pub returns : goal.returns
 returns c =
-    let at_put = c.before.before.before in
-    let b = at_put.before.before.before in
-    let e : length at_put.put.new.pool ≡ 832 = search rules in
-    pool_back b.args.words.now at_put.put.new.pool b.requires (λ (x : List Outgoing). set x b.args.i b.args.slot) e at_put.put.ensures
+    let e : length c.put.new.pool ≡ 832 = search rules in
+    pool_back c.args.words.now c.put.new.pool c.requires (λ (x : List Outgoing). set x c.args.i c.args.slot) e c.put.ensures

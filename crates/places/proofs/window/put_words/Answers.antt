@@ -8,7 +8,5 @@ use Rattle.places.proofs.window.put_words.Goals as goal
 
 pub returns : goal.returns
 returns c =
-    let at_copy = c.before.before.before in
-    let at_start = at_copy.before.before.before.before in
-    let m : length at_start.args.t2 ≡ 32 = search rules in
-    ap whole at_copy.copy.ensures ∙ put_words_lem at_start.args.words.now at_start.requires at_start.args.t2 m
+    let m : length c.args.window ≡ 32 = search rules in
+    ap whole c.copy.ensures ∙ put_words_lem c.args.words.now c.requires c.args.window m

@@ -6,22 +6,17 @@ use Rattle.places.proofs.window.unsequenced.Goals as goal
 
 pub returns : goal.returns
 returns c =
-    let k = c.before.before.before in
-    let j = k.before.before in
-    let i = j.before.before in
-    let w = i.before.before.before in
-    let b = w.before.before.before in
-    let ws = b.args.words.now in
+    let ws = c.args.words.now in
     sym
     (unsequenced_is
     ws
-    k.low16-3.result
+    c.low16-3.result
     c.low16-4.result
-    i.low16.result
-    j.low16-2.result
-    w.copy.new.to
-    k.low16-3.ensures
+    c.low16.result
+    c.low16-2.result
+    c.copy.new.to
+    c.low16-3.ensures
     c.low16-4.ensures
-    i.low16.ensures
-    j.low16-2.ensures
-    (words_are ws w.copy.new.to w.copy.ensures))
+    c.low16.ensures
+    c.low16-2.ensures
+    (words_are ws c.copy.new.to c.copy.ensures))

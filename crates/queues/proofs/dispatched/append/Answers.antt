@@ -8,8 +8,6 @@ use Rattle.queues.proofs.dispatched.append.Goals as goal
 
 pub returns : goal.returns
 returns c =
-    let at_append = c.before.before in
-    let at_start = at_append.before.before.before.before in
-    let a = at_start.args in
-    let o = at_append.append in
-    dispatched_kept a.words.now at_start.requires (moved_to incoming a.k (map low a.run.now)) o.new.0 o.ensures
+    let a = c.args in
+    let o = c.append in
+    dispatched_kept a.words.now c.requires (moved_to incoming a.k (map low a.run.now)) o.new.words o.ensures

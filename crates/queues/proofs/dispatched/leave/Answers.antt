@@ -5,8 +5,6 @@ use Rattle.queues.proofs.dispatched.leave.Goals as goal
 
 pub returns : goal.returns
 returns c =
-    let at_remove = c.before.before.before in
-    let b = at_remove.before.before.before in
-    let a = b.args in
-    let o = at_remove.remove in
-    dispatched_kept a.words.now b.requires (λ xs. without xs 0) o.new.words o.ensures
+    let a = c.args in
+    let o = c.remove in
+    dispatched_kept a.words.now c.requires (λ xs. without xs 0) o.new.words o.ensures

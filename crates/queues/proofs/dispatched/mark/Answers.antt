@@ -8,7 +8,5 @@ use Rattle.queues.proofs.dispatched.mark.Goals as goal
 
 pub returns : goal.returns
 returns c =
-    let at_mark = c.before.before in
-    let at_start = at_mark.before.before.before.before in
-    let a = at_start.args in
-    at_mark.mark.ensures ∙ ap (λ (xs : List ℕ). marked_all a.marks.now xs) (dispatched_items_lem a.words.now)
+    let a = c.args in
+    c.mark.ensures ∙ ap (λ (xs : List ℕ). marked_all a.marks.now xs) (dispatched_items_lem a.words.now)

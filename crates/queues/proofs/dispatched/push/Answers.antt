@@ -6,8 +6,6 @@ use Rattle.queues.proofs.dispatched.push.Goals as goal
 
 pub returns : goal.returns
 returns c =
-    let at_push = c.before.before in
-    let b = at_push.before.before.before in
-    let a = b.args in
-    let o = at_push.push in
-    dispatched_kept a.words.now b.requires (λ xs. pushed incoming xs a.s) o.new.0 o.ensures
+    let a = c.args in
+    let o = c.push in
+    dispatched_kept a.words.now c.requires (λ xs. pushed incoming xs a.s) o.new.words o.ensures

@@ -6,7 +6,6 @@ use Rattle.queues.proofs.held.count.Goals as goal
 
 pub returns : goal.returns
 returns c =
-    let b = c.before.before.before.before in
-    let a = b.args in
+    let a = c.args in
     let at = c.place_of in
-    c.count.ensures ∙ ap length (held_items a.words.now b.requires.words_len a.i b.requires.i_lt_channels at.result at.ensures)
+    c.count.ensures ∙ ap length (held_items a.words.now c.requires.words_len a.i c.requires.i_lt_channels at.result at.ensures)

@@ -8,7 +8,6 @@ use Rattle.queues.proofs.held.slot_at.Goals as goal
 
 pub returns : goal.returns
 returns c =
-    let b = c.before.before.before.before in
-    let a = b.args in
+    let a = c.args in
     let at = c.place_of in
-    c.slot_at.ensures ∙ ap (λ (xs : List ℕ). get_or xs a.k 0) (held_items a.words.now b.requires.words_len a.i b.requires.i_lt_channels at.result at.ensures)
+    c.slot_at.ensures ∙ ap (λ (xs : List ℕ). get_or xs a.k 0) (held_items a.words.now c.requires.words_len a.i c.requires.i_lt_channels at.result at.ensures)

@@ -4,12 +4,8 @@ use Rattle.queues.proofs.outgoing.mark.Goals as goal
 
 pub returns : goal.returns
 returns c =
-    let at_mark3 = c.before.before.before in
-    let at_mark2 = at_mark3.before.before.before.before in
-    let at_mark = at_mark2.before.before.before.before in
-    let at_start = at_mark.before.before.before.before in
-    let a = at_start.args in
-    let x = at_mark.mark in
-    let y = at_mark2.mark-2 in
-    let z = at_mark3.mark-3 in
+    let a = c.args in
+    let x = c.mark in
+    let y = c.mark-2 in
+    let z = c.mark-3 in
     marked_out a.words.now a.marks.now x.new.marks y.new.marks z.new.marks x.ensures y.ensures z.ensures

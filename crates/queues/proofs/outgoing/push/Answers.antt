@@ -6,15 +6,11 @@ use Rattle.queues.proofs.QueueLaws.{place_fits, out_kept}
 use Rattle.queues.proofs.outgoing.push.Goals as goal
 
 pub push-requires : goal.push-requires
-push-requires c =
-    let b = c.before.before.before in
-    (place_fits b.args.list c.place_of.result _ c.place_of.ensures b.requires, omega arith)
+push-requires c = record { size_in_bounds = place_fits c.args.list c.place_of.result _ c.place_of.ensures c.requires; size_bound = omega arith }
 
 pub returns : goal.returns
 returns c =
-    let at_place_of = c.before.before.before in
-    let b = at_place_of.before.before.before in
-    let a = b.args in
+    let a = c.args in
     let o = c.push in
-    let at = at_place_of.place_of in
-    out_kept a.list at.result at.ensures a.words.now b.requires (λ xs. pushed outgoing xs a.s) o.new.0 o.ensures
+    let at = c.place_of in
+    out_kept a.list at.result at.ensures a.words.now c.requires (λ xs. pushed outgoing xs a.s) o.new.words o.ensures

@@ -5,14 +5,10 @@ use Rattle.replay.proofs.calls.call.Goals as goal
 
 pub slice_bounds-call-end-2 : goal.slice_bounds-call-end-2
 slice_bounds-call-end-2 c =
-    let at_if1 = c.before.before.before.before.before.before in
-    let at_start = at_if1.before.before.before.before.before.before in
-    let a = at_start.args in
-    sym (length-take-le a.bench.store a.store.now at_if1.if-store-n.false)
+    let a = c.args in
+    sym (length-take-le a.bench.store a.store.now c.if-store-n.false)
 
 pub slice_bounds-call-end-4 : goal.slice_bounds-call-end-4
 slice_bounds-call-end-4 c =
-    let at_if2 = c.before.before.before.before.before.before in
-    let at_start = at_if2.before.before.before.before.before.before.before in
-    let a = at_start.args in
-    sym (length-take-le a.bench.second a.second.now at_if2.if-second-m.false)
+    let a = c.args in
+    sym (length-take-le a.bench.second a.second.now c.if-second-m.false)

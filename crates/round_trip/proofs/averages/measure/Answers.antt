@@ -6,8 +6,7 @@ use Rattle.round_trip.proofs.averages.measure.Goals as goal
 
 pub returns : goal.returns
 returns c =
-    let b = c.before.before.before in
-    let a = b.args in
+    let a = c.args in
     c.rolled.ensures
-    ∙ ap (λ (th : Throttling). rolled a.clock th c.averaged-t.result) b.before_averages-th.ensures
+    ∙ ap (λ (th : Throttling). rolled a.clock th c.averaged-t.result) c.before_averages-th.ensures
     ∙ ap (rolled a.clock (before_averages a.first a.sample a.throttling a.trips)) c.averaged-t.ensures

@@ -8,5 +8,4 @@ returns-then-not-is_over c = rw (sym c.is_over.ensures ∙ not-true _ c.if-not-i
 
 pub returns : goal.returns
 returns c =
-    let f = c.before.before in
-    rw (sym f.is_over.ensures ∙ not-false _ f.if-not-is_over.false-raw, c.last_trips-trips.ensures)
+    rw (sym c.is_over.ensures ∙ not-false _ c.if-not-is_over.false-raw, c.last_trips-trips.ensures)

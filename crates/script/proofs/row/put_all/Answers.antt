@@ -13,13 +13,11 @@ loop-i-init c = (search rules, refl)
 
 pub loop-i-preserved : goal.loop-i-preserved
 loop-i-preserved c =
-    let m = c.before.before.before.before in
-    let xs = m.args.numbers.now in
+    let xs = c.args.numbers.now in
     let h = c.loop-i-test.true in
-    (omega arith, m.loop-i.invariant.1 ∙ all_turn m.loop-i.after c.put-after.result xs m.loop-i.i c.put-after.ensures (omega arith))
+    (omega arith, c.loop-i.invariant.1 ∙ all_turn c.loop-i.after c.put-after.result xs c.loop-i.i c.put-after.ensures (omega arith))
 
 pub returns : goal.returns
 returns c =
-    let m = c.before.before in
-    let xs = m.args.numbers.now in
-    sym (m.loop-i.invariant.1 ∙ none_left m.loop-i.after (drop m.loop-i.i xs) (rest_end xs m.loop-i.i (omega arith)))
+    let xs = c.args.numbers.now in
+    sym (c.loop-i.invariant.1 ∙ none_left c.loop-i.after (drop c.loop-i.i xs) (rest_end xs c.loop-i.i (omega arith)))

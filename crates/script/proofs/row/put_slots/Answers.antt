@@ -17,33 +17,27 @@ overflow_cast-slots c = omega (arith, c.shared_slice_known-in-loop-i-1.given c.l
 
 pub loop-i-smaller : goal.loop-i-smaller
 loop-i-smaller c =
-    let at_if1 = c.before.before.before in
-    let m = at_if1.before.before in
-    let a = m.args in
-    let h : m.loop-i.i < length a.slots.now = ltb-true m.loop-i.i (length a.slots.now) at_if1.if-i-slots.true-raw in
+    let a = c.args in
+    let h : c.loop-i.i < length a.slots.now = ltb-true c.loop-i.i (length a.slots.now) c.if-i-slots.true-raw in
     omega arith
 
 pub loop-i-preserved : goal.loop-i-preserved
 loop-i-preserved c =
-    let at_if1 = c.before.before.before in
-    let m = at_if1.before.before in
-    let a = m.args in
-    let h : m.loop-i.i < length a.slots.now = ltb-true m.loop-i.i (length a.slots.now) at_if1.if-i-slots.true-raw in (
+    let a = c.args in
+    let h : c.loop-i.i < length a.slots.now = ltb-true c.loop-i.i (length a.slots.now) c.if-i-slots.true-raw in (
       omega arith,
-      m.loop-i.invariant.1 ∙ first_turn m.loop-i.after c.put-after.result a.slots.now m.loop-i.i c.put-after.ensures a.n (omega arith) (omega arith),
+      c.loop-i.invariant.1 ∙ first_turn c.loop-i.after c.put-after.result a.slots.now c.loop-i.i c.put-after.ensures a.n (omega arith) (omega arith),
     )
 
 pub returns-else-i-slots : goal.returns-else-i-slots
 returns-else-i-slots c =
-    let m = c.before.before.before in
-    let a = m.args in
-    let h : length a.slots.now ≤ m.loop-i.i = ltb-false m.loop-i.i (length a.slots.now) c.if-i-slots.false-raw in
-    let end = part_out a.slots.now m.loop-i.i a.n (omega arith) in
-    sym (m.loop-i.invariant.1 ∙ none_left m.loop-i.after (drop m.loop-i.i (take a.n a.slots.now)) end)
+    let a = c.args in
+    let h : length a.slots.now ≤ c.loop-i.i = ltb-false c.loop-i.i (length a.slots.now) c.if-i-slots.false-raw in
+    let end = part_out a.slots.now c.loop-i.i a.n (omega arith) in
+    sym (c.loop-i.invariant.1 ∙ none_left c.loop-i.after (drop c.loop-i.i (take a.n a.slots.now)) end)
 
 pub returns-after-loop-i : goal.returns-after-loop-i
 returns-after-loop-i c =
-    let m = c.before.before in
-    let a = m.args in
-    let end = part_end a.slots.now m.loop-i.i a.n (omega arith) in
-    sym (m.loop-i.invariant.1 ∙ none_left m.loop-i.after (drop m.loop-i.i (take a.n a.slots.now)) end)
+    let a = c.args in
+    let end = part_end a.slots.now c.loop-i.i a.n (omega arith) in
+    sym (c.loop-i.invariant.1 ∙ none_left c.loop-i.after (drop c.loop-i.i (take a.n a.slots.now)) end)

@@ -13,20 +13,16 @@ returns-then-which-le49 c = simp (lt-leb _ _ c.if-which-le42.false, lt-leb _ _ c
 
 pub returns-then-which-le63 : goal.returns-then-which-le63
 returns-then-which-le63 c =
-    let at_3 = c.before.before.before.before in
-    simp (lt-leb _ _ at_3.if-which-le42.false, lt-leb _ _ c.if-which-le46.false, lt-leb _ _ c.if-which-le49.false, le-leb _ _ c.if-which-le63.true)
+    simp (lt-leb _ _ c.if-which-le42.false, lt-leb _ _ c.if-which-le46.false, lt-leb _ _ c.if-which-le49.false, le-leb _ _ c.if-which-le63.true)
 
 pub returns-then-which-le95 : goal.returns-then-which-le95
 returns-then-which-le95 c =
-    let at_3 = c.before.before.before.before in
-    simp (lt-leb _ _ at_3.if-which-le42.false, lt-leb _ _ at_3.if-which-le46.false, lt-leb _ _ c.if-which-le49.false, lt-leb _ _ c.if-which-le63.false, le-leb _ _ c.if-which-le95.true)
+    simp (lt-leb _ _ c.if-which-le42.false, lt-leb _ _ c.if-which-le46.false, lt-leb _ _ c.if-which-le49.false, lt-leb _ _ c.if-which-le63.false, le-leb _ _ c.if-which-le95.true)
 
 pub returns-then-which-le97 : goal.returns-then-which-le97
 returns-then-which-le97 c =
-    let at_3 = c.before.before.before.before in
-    simp (lt-leb _ _ at_3.if-which-le42.false, lt-leb _ _ at_3.if-which-le46.false, lt-leb _ _ at_3.if-which-le49.false, lt-leb _ _ c.if-which-le63.false, lt-leb _ _ c.if-which-le95.false, le-leb _ _ c.if-which-le97.true)
+    simp (lt-leb _ _ c.if-which-le42.false, lt-leb _ _ c.if-which-le46.false, lt-leb _ _ c.if-which-le49.false, lt-leb _ _ c.if-which-le63.false, lt-leb _ _ c.if-which-le95.false, le-leb _ _ c.if-which-le97.true)
 
 pub returns : goal.returns
 returns c =
-    let at_3 = c.before.before.before.before in
-    simp (lt-leb _ _ at_3.if-which-le42.false, lt-leb _ _ at_3.if-which-le46.false, lt-leb _ _ at_3.if-which-le49.false, lt-leb _ _ c.if-which-le63.false, lt-leb _ _ c.if-which-le95.false, lt-leb _ _ c.if-which-le97.false)
+    simp (lt-leb _ _ c.if-which-le42.false, lt-leb _ _ c.if-which-le46.false, lt-leb _ _ c.if-which-le49.false, lt-leb _ _ c.if-which-le63.false, lt-leb _ _ c.if-which-le95.false, lt-leb _ _ c.if-which-le97.false)

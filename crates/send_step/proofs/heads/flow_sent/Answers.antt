@@ -8,10 +8,8 @@ returns-then-not-is_acknowledged c = rw (sym c.is_acknowledged.ensures ∙ not-t
 
 pub returns-then-o : goal.returns-then-o
 returns-then-o c =
-    let f = c.before.before.before.before in
-    rw (sym f.is_acknowledged.ensures ∙ not-false _ f.if-not-is_acknowledged.false-raw, c.if-o.true, c.wrapping_add_u32.ensures.value)
+    rw (sym c.is_acknowledged.ensures ∙ not-false _ c.if-not-is_acknowledged.false-raw, c.if-o.true, c.wrapping_add_u32.ensures.value)
 
 pub returns-else-o : goal.returns-else-o
 returns-else-o c =
-    let f = c.before.before in
-    rw (sym f.is_acknowledged.ensures ∙ not-false _ f.if-not-is_acknowledged.false-raw, c.if-o.false)
+    rw (sym c.is_acknowledged.ensures ∙ not-false _ c.if-not-is_acknowledged.false-raw, c.if-o.false)

@@ -7,15 +7,12 @@ returns-then-place-x c = simp (lt-leb _ _ c.if-place-x.true)
 
 pub returns-then-not-place : goal.returns-then-not-place
 returns-then-not-place c =
-    let at_if1 = c.before.before.before in
-    simp (le-leb _ _ at_if1.if-place-x.false, not-true at_if1.args.place.is_command c.if-not-place.true)
+    simp (le-leb _ _ c.if-place-x.false, not-true c.args.place.is_command c.if-not-place.true)
 
 pub returns-then-kind-lt1 : goal.returns-then-kind-lt1
 returns-then-kind-lt1 c =
-    let at_if1 = c.before.before.before.before in
-    simp (le-leb _ _ at_if1.if-place-x.false, not-false at_if1.args.place.is_command c.if-not-place.false, lt-leb _ _ c.if-kind-lt1.true)
+    simp (le-leb _ _ c.if-place-x.false, not-false c.args.place.is_command c.if-not-place.false, lt-leb _ _ c.if-kind-lt1.true)
 
 pub returns : goal.returns
 returns c =
-    let at_if1 = c.before.before.before.before in
-    simp (le-leb _ _ at_if1.if-place-x.false, not-false at_if1.args.place.is_command c.if-not-place.false, le-leb _ _ c.if-kind-lt1.false)
+    simp (le-leb _ _ c.if-place-x.false, not-false c.args.place.is_command c.if-not-place.false, le-leb _ _ c.if-kind-lt1.false)

@@ -18,23 +18,19 @@ pub put_at-end-requires : goal.put_at-end-requires
 put_at-end-requires c =
     let e = c.place_at in
     let l = c.loop-i in
-    let start = c.before.before.before.before.before.before.before in
-    let a = start.args in
+    let a = c.args in
     write_room (table (whole a.words.now)) a.buffer.now a.at l.buffer l.end l.i l.invariant.1 e.result
-    (rw (table-length a.words.now start.requires.words_len) c.loop-i-test.true) e.ensures start.requires.words_in_bounds
+    (rw (table-length a.words.now c.requires.words_len) c.loop-i-test.true) e.ensures c.requires.words_in_bounds
 
 pub loop-i-preserved : goal.loop-i-preserved
 loop-i-preserved c =
-    let at_put = c.before.before.before in
-    let e = at_put.place_at in
-    let in_loop = at_put.before.before.before in
-    let l = in_loop.loop-i in
-    let start = in_loop.before.before.before.before in
-    let a = start.args in (
+    let e = c.place_at in
+    let l = c.loop-i in
+    let a = c.args in (
       omega arith,
       write_turn (table (whole a.words.now)) a.buffer.now a.at l.buffer l.end l.i l.invariant.1 e.result
-          (rw (table-length a.words.now start.requires.words_len) in_loop.loop-i-test.true) e.ensures _ at_put.put_at-end.result
-          (search rules) at_put.put_at-end.ensures.bytes at_put.put_at-end.ensures.end,
+          (rw (table-length a.words.now c.requires.words_len) c.loop-i-test.true) e.ensures _ c.put_at-end.result
+          (search rules) c.put_at-end.ensures.bytes c.put_at-end.ensures.end,
     )
 
 pub shape_of-buffer : goal.shape_of-buffer
@@ -43,7 +39,6 @@ shape_of-buffer c = c.loop-i.invariant.1.size
 pub returns : goal.returns
 returns c =
     let l = c.loop-i in
-    let start = c.before.before.before.before.before in
-    let a = start.args in
+    let a = c.args in
     let es = table (whole a.words.now) in
-    let h : length es ≤ l.i = rw (table-length a.words.now start.requires.words_len) c.loop-i-test.false in record { bytes = write_same es a.buffer.now a.at l.buffer l.end l.i l.invariant.1 h; end = write_end es a.buffer.now a.at l.buffer l.end l.i l.invariant.1 h }
+    let h : length es ≤ l.i = rw (table-length a.words.now c.requires.words_len) c.loop-i-test.false in record { bytes = write_same es a.buffer.now a.at l.buffer l.end l.i l.invariant.1 h; end = write_end es a.buffer.now a.at l.buffer l.end l.i l.invariant.1 h }

@@ -10,15 +10,12 @@ put-requires c = rw c.if-place.true at c.requires
 
 pub overflow_add-result : goal.overflow_add-result
 overflow_add-result c =
-    let at_put = c.before.before.before.before in
-    let at_test = at_put.before.before in
-    let room = rw at_test.if-place.true at at_test.requires in
+    let room = rw c.if-place.true at c.requires in
     omega (arith, room, c.size.ensures)
 
 pub returns-then-place : goal.returns-then-place
 returns-then-place c =
-    let at_put = c.before.before.before.before in
-    rw at_put.if-place.true (at_put.put.ensures, ap (λ (n : ℕ). at_put.args.at + n) c.size.ensures)
+    rw c.if-place.true (c.put.ensures, ap (λ (n : ℕ). c.args.at + n) c.size.ensures)
 
 pub returns : goal.returns
 returns c = rw c.if-place.false (refl, sym (add-zero _))

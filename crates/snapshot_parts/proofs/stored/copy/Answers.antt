@@ -12,11 +12,10 @@ loop-i-init c = (search rules, refl, refl)
 
 pub loop-i-preserved : goal.loop-i-preserved
 loop-i-preserved c =
-    let m = c.before.before.before in
-    let a = m.args in (
+    let a = c.args in (
       omega arith,
-      rw length-set m.loop-i.invariant.1,
-      copy_turn a.to.now m.loop-i.to a.from.now a.at a.place m.loop-i.i (omega arith) m.loop-i.invariant.2,
+      rw length-set c.loop-i.invariant.1,
+      copy_turn a.to.now c.loop-i.to a.from.now a.at a.place c.loop-i.i (omega arith) c.loop-i.invariant.2,
     )
 
 pub returns : goal.returns

@@ -6,32 +6,26 @@ use Rattle.snapshot_parts.proofs.stored.put_slot.Goals as goal
 
 pub copy-requires : goal.copy-requires
 copy-requires c =
-    let start = c.before.before.before.before.before.before.before.before in
     let n = c.stored_length-n.ensures in
     let e = sym c.is_block.ensures ∙ c.if-is_block.true in
-    (omega (arith, n, start.requires.slot_in_bounds), omega (arith, n, start.requires.s_lt_incoming.2, block_inside start.args.slot start.args.s e))
+    (omega (arith, n, c.requires.slot_in_bounds), omega (arith, n, c.requires.s_lt_incoming.2, block_inside c.args.slot c.args.s e))
 
 pub returns-then-is_block : goal.returns-then-is_block
 returns-then-is_block c =
-    let at_block = c.before.before.before.before.before.before in
-    let start = at_block.before.before.before.before.before in
-    let a = start.args in
-    let e = sym at_block.is_block.ensures ∙ c.if-is_block.true in
-    put_block a.slot at_block.stored_length-n.result a.s a.at at_block.stored_length-n.ensures
+    let a = c.args in
+    let e = sym c.is_block.ensures ∙ c.if-is_block.true in
+    put_block a.slot c.stored_length-n.result a.s a.at c.stored_length-n.ensures
     a.store.now a.second.now a.buffer.now _ e c.copy.ensures
 
 pub copy-requires-2 : goal.copy-requires-2
 copy-requires-2 c =
-    let start = c.before.before.before.before.before.before.before.before in
     let n = c.stored_length-n.ensures in
     let e = sym c.is_block.ensures ∙ c.if-is_block.false in
-    (omega (arith, n, start.requires.slot_in_bounds), omega (arith, n, start.requires.s_lt_incoming.1, cell_inside start.args.slot start.args.s e start.requires.s_lt_incoming.0))
+    (omega (arith, n, c.requires.slot_in_bounds), omega (arith, n, c.requires.s_lt_incoming.1, cell_inside c.args.slot c.args.s e c.requires.s_lt_incoming.0))
 
 pub returns : goal.returns
 returns c =
-    let at_block = c.before.before.before.before.before.before in
-    let start = at_block.before.before.before.before.before in
-    let a = start.args in
-    let e = sym at_block.is_block.ensures ∙ c.if-is_block.false in
-    put_cell a.slot at_block.stored_length-n.result a.s a.at at_block.stored_length-n.ensures
+    let a = c.args in
+    let e = sym c.is_block.ensures ∙ c.if-is_block.false in
+    put_cell a.slot c.stored_length-n.result a.s a.at c.stored_length-n.ensures
     a.store.now a.second.now a.buffer.now _ e c.copy-2.ensures

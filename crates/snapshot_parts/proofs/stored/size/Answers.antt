@@ -12,9 +12,8 @@ loop-s-init c = (omega arith, size_begun _)
 pub overflow_add-total : goal.overflow_add-total
 overflow_add-total c =
     let slot = c.used_slot in
-    let at_loop = c.before.before.before.before in
-    let l = at_loop.loop-s in
-    let ws = at_loop.args.words.now in
+    let l = c.loop-s in
+    let ws = c.args.words.now in
     omega (
       arith,
       l.invariant.1.few,
@@ -24,9 +23,8 @@ overflow_add-total c =
 pub loop-s-preserved : goal.loop-s-preserved
 loop-s-preserved c =
     let slot = c.used_slot in
-    let at_loop = c.before.before.before.before in
-    let l = at_loop.loop-s in
-    let ws = at_loop.args.words.now in (
+    let l = c.loop-s in
+    let ws = c.args.words.now in (
       omega arith,
       size_turn (whole ws) (sized ws).incoming l.total l.s l.invariant.1 slot.result slot.ensures c.stored_length-total.result c.stored_length-total.ensures
           c.loop-s-test.true,

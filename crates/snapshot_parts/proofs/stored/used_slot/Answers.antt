@@ -9,15 +9,13 @@ use Rattle.snapshot_parts.proofs.stored.used_slot.Goals as goal
 
 pub returns-then-incoming : goal.returns-then-incoming
 returns-then-incoming c =
-    let at_used = c.before.before.before in
-    let a = at_used.args in
+    let a = c.args in
     let slot = get_or (whole a.words.now).incoming a.s no_incoming in
-    c.incoming_at.ensures ∙ ap (λ (b : Bool). pick b slot no_incoming) (sym c.if-incoming.true ∙ at_used.incoming.ensures)
+    c.incoming_at.ensures ∙ ap (λ (b : Bool). pick b slot no_incoming) (sym c.if-incoming.true ∙ c.incoming.ensures)
 
 pub returns : goal.returns
 unfolding no_incoming
 returns c =
-    let at_used = c.before.before in
-    let a = at_used.args in
+    let a = c.args in
     let slot = get_or (whole a.words.now).incoming a.s no_incoming in
-    ap (λ (b : Bool). pick b slot no_incoming) (sym c.if-incoming.false ∙ at_used.incoming.ensures)
+    ap (λ (b : Bool). pick b slot no_incoming) (sym c.if-incoming.false ∙ c.incoming.ensures)

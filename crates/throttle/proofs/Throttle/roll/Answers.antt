@@ -10,51 +10,44 @@ returns-then-self c =
 
 pub returns-then-raised-self : goal.returns-then-raised-self
 returns-then-raised-self c =
-    let at_if2 = c.before.before.before.before in
-    let steady = lt-leb _ _ at_if2.if-self.false in
-    let quick = le-leb _ _ at_if2.if-sample-self.true in
+    let steady = lt-leb _ _ c.if-self.false in
+    let quick = le-leb _ _ c.if-sample-self.true in
     let sum = sym c.wrapping_add_u32-raised.ensures.value in
     let over = lt-ltb _ _ c.if-raised-self.true in
     record { throttle = simp (steady, quick, sum, over); answer = simp (steady, quick) }
 
 pub returns-else-raised-self : goal.returns-else-raised-self
 returns-else-raised-self c =
-    let at_if2 = c.before.before.before.before in
-    let steady = lt-leb _ _ at_if2.if-self.false in
-    let quick = le-leb _ _ at_if2.if-sample-self.true in
+    let steady = lt-leb _ _ c.if-self.false in
+    let quick = le-leb _ _ c.if-sample-self.true in
     let sum = sym c.wrapping_add_u32-raised.ensures.value in
     let over = le-ltb _ _ c.if-raised-self.false in
     record { throttle = simp (steady, quick, sum, over); answer = simp (steady, quick) }
 
 pub returns-then-self-2 : goal.returns-then-self-2
 returns-then-self-2 c =
-    let at_if4 = c.before.before.before.before in
-    let at_if2 = at_if4.before.before.before in
-    let steady = lt-leb _ _ at_if2.if-self.false in
-    let quick = lt-leb _ _ at_if2.if-sample-self.false in
-    let twice = sym at_if4.double-twice.ensures in
-    let high = sym at_if4.wrapping_add_u32-high.ensures.value in
-    let slow = lt-ltb _ _ at_if4.if-sample-high.true in
+    let steady = lt-leb _ _ c.if-self.false in
+    let quick = lt-leb _ _ c.if-sample-self.false in
+    let twice = sym c.double-twice.ensures in
+    let high = sym c.wrapping_add_u32-high.ensures.value in
+    let slow = lt-ltb _ _ c.if-sample-high.true in
     let enough = lt-ltb _ _ c.if-self-2.true in
     record { throttle = simp (steady, quick, twice, high, slow, enough); answer = simp (steady, quick, twice, high, slow) }
 
 pub returns-else-self-2 : goal.returns-else-self-2
 returns-else-self-2 c =
-    let at_wrapping_add_u322 = c.before.before.before.before in
-    let at_if2 = at_wrapping_add_u322.before.before in
-    let steady = lt-leb _ _ at_if2.if-self.false in
-    let quick = lt-leb _ _ at_if2.if-sample-self.false in
-    let twice = sym at_wrapping_add_u322.double-twice.ensures in
-    let high = sym at_wrapping_add_u322.wrapping_add_u32-high.ensures.value in
+    let steady = lt-leb _ _ c.if-self.false in
+    let quick = lt-leb _ _ c.if-sample-self.false in
+    let twice = sym c.double-twice.ensures in
+    let high = sym c.wrapping_add_u32-high.ensures.value in
     let slow = lt-ltb _ _ c.if-sample-high.true in
     let enough = le-ltb _ _ c.if-self-2.false in
     record { throttle = simp (steady, quick, twice, high, slow, enough); answer = simp (steady, quick, twice, high, slow) }
 
 pub returns : goal.returns
 returns c =
-    let at_if2 = c.before.before.before.before in
-    let steady = lt-leb _ _ at_if2.if-self.false in
-    let quick = lt-leb _ _ at_if2.if-sample-self.false in
+    let steady = lt-leb _ _ c.if-self.false in
+    let quick = lt-leb _ _ c.if-sample-self.false in
     let twice = sym c.double-twice.ensures in
     let high = sym c.wrapping_add_u32-high.ensures.value in
     let slow = le-ltb _ _ c.if-sample-high.false in

@@ -14,35 +14,26 @@ loop-j-init c = (omega arith, c.count-n.ensures, omega arith)
 
 pub returns-then-is_due : goal.returns-then-is_due
 returns-then-is_due c =
-    let at_due = c.before.before in
-    let at_sent = at_due.before in
-    let at_slot = at_sent.before in
-    let at_loop = at_slot.before.before in
-    let a = at_loop.args in
+    let a = c.args in
     let p = whole a.words.now in
-    let i = at_loop.loop-j.invariant in
-    let here = early_here a.clock p.outgoing (out_items p.lists.sent) at_loop.loop-j.j at_slot.slot_at-s.result (omega (arith, i.1, at_slot.loop-j-test.true)) at_slot.slot_at-s.ensures
-    (ap (is_due a.clock) (sym at_sent.sent_at-o.ensures) ∙ sym at_due.is_due.ensures ∙ c.if-is_due.true) in
+    let i = c.loop-j.invariant in
+    let here = early_here a.clock p.outgoing (out_items p.lists.sent) c.loop-j.j c.slot_at-s.result (omega (arith, i.1, c.loop-j-test.true)) c.slot_at-s.ensures
+    (ap (is_due a.clock) (sym c.sent_at-o.ensures) ∙ sym c.is_due.ensures ∙ c.if-is_due.true) in
     omega (arith, i.2, here)
 
 pub loop-j-preserved : goal.loop-j-preserved
 loop-j-preserved c =
-    let at_due = c.before.before in
-    let at_sent = at_due.before in
-    let at_slot = at_sent.before in
-    let at_loop = at_slot.before.before in
-    let a = at_loop.args in
+    let a = c.args in
     let p = whole a.words.now in
-    let i = at_loop.loop-j.invariant in
-    let on = early_on a.clock p.outgoing (out_items p.lists.sent) at_loop.loop-j.j at_slot.slot_at-s.result (omega (arith, i.1, at_slot.loop-j-test.true)) at_slot.slot_at-s.ensures
-    (ap (is_due a.clock) (sym at_sent.sent_at-o.ensures) ∙ sym at_due.is_due.ensures ∙ c.if-is_due.false) in
+    let i = c.loop-j.invariant in
+    let on = early_on a.clock p.outgoing (out_items p.lists.sent) c.loop-j.j c.slot_at-s.result (omega (arith, i.1, c.loop-j-test.true)) c.slot_at-s.ensures
+    (ap (is_due a.clock) (sym c.sent_at-o.ensures) ∙ sym c.is_due.ensures ∙ c.if-is_due.false) in
     (omega arith, i.1, omega (arith, i.2, on))
 
 pub returns : goal.returns
 returns c =
-    let at_loop = c.before.before in
-    let a = at_loop.args in
+    let a = c.args in
     let p = whole a.words.now in
-    let i = at_loop.loop-j.invariant in
-    let end = early_end a.clock p.outgoing (out_items p.lists.sent) at_loop.loop-j.j (omega (arith, i.1, c.loop-j-test.false)) in
+    let i = c.loop-j.invariant in
+    let end = early_end a.clock p.outgoing (out_items p.lists.sent) c.loop-j.j (omega (arith, i.1, c.loop-j-test.false)) in
     omega (arith, i.0, i.1, i.2, end, c.loop-j-test.false)

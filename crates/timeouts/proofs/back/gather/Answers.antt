@@ -25,20 +25,16 @@ loop-k-init c =
 
 pub loop-k-preserved : goal.loop-k-preserved
 loop-k-preserved c =
-    let at_loop = c.before.before.before.before in
-    let at_count = at_loop.before in
-    let a = at_count.args in
-    let i = at_loop.loop-k.invariant in
+    let a = c.args in
+    let i = c.loop-k.invariant in
     let items = out_items (whole a.words.now).lists.sent in
-    let h : at_loop.loop-k.k < length items = omega (arith, at_count.count-n.ensures) in
-    let next : Borne a.mark a.marks.now items a.cells.now (at_loop.loop-k.k + 1) c.if-marks-k.cells c.if-marks-k.m =
+    let h : c.loop-k.k < length items = omega (arith, c.count-n.ensures) in
+    let next : Borne a.mark a.marks.now items a.cells.now (c.loop-k.k + 1) c.if-marks-k.cells c.if-marks-k.m =
     ⊎_elim (λ w. rw (w.2, w.3, w.1.ensures) (borne_with a.mark a.marks.now items a.cells.now i.4 h w.0.taken))
     (λ w. rw (w.1, w.2) (borne_without a.mark a.marks.now items a.cells.now i.4 h w.0.left)) c.if-marks-k.branch in
-    (omega arith, i.1, borne_low a.mark a.marks.now items a.cells.now next, ap length next.stored ∙ length-sets a.cells.now 0 (bearing a.mark a.marks.now (take (at_loop.loop-k.k + 1) items)), next)
+    (omega arith, i.1, borne_low a.mark a.marks.now items a.cells.now next, ap length next.stored ∙ length-sets a.cells.now 0 (bearing a.mark a.marks.now (take (c.loop-k.k + 1) items)), next)
 
 pub returns : goal.returns
 returns c =
-    let at_loop = c.before.before in
-    let at_count = at_loop.before in
-    let a = at_count.args in
-    let i = at_loop.loop-k.invariant in record { slots = gathered a.mark a.words.now a.marks.now a.cells.now at_loop.loop-k.cells at_loop.loop-k.k at_loop.loop-k.m (omega (arith, at_count.count-n.ensures)) (omega arith) i.4; fits = omega arith }
+    let a = c.args in
+    let i = c.loop-k.invariant in record { slots = gathered a.mark a.words.now a.marks.now a.cells.now c.loop-k.cells c.loop-k.k c.loop-k.m (omega (arith, c.count-n.ensures)) (omega arith) i.4; fits = omega arith }

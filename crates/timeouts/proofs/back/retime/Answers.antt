@@ -5,13 +5,10 @@ use Rattle.timeouts.proofs.back.retime.Goals as goal
 
 pub returns-then-timeout-o : goal.returns-then-timeout-o
 returns-then-timeout-o c =
-    let f = c.before.before.before.before in
-    let a = f.args in
-    retime_same (whole a.words.now) a.s a.o f.requires.o_value a.timeout c.if-timeout-o.true
+    let a = c.args in
+    retime_same (whole a.words.now) a.s a.o c.requires.o_value a.timeout c.if-timeout-o.true
 
 pub returns : goal.returns
 returns c =
-    let u = c.before.before.before in
-    let f = u.before.before.before.before.before in
-    let a = f.args in
-    retime_put (whole a.words.now) a.s a.o f.requires.o_value a.timeout (whole u.put_attempt.new.words) u.put_attempt.ensures
+    let a = c.args in
+    retime_put (whole a.words.now) a.s a.o c.requires.o_value a.timeout (whole c.put_attempt.new.words) c.put_attempt.ensures

@@ -8,16 +8,9 @@ use Rattle.timeouts.proofs.back.send_back.Goals as goal
 
 pub returns : goal.returns
 returns c =
-    let at_sent = c.before.before.before in
-    let at_kept = at_sent.before.before.before.before in
-    let at_outgoing = at_kept.before.before.before.before.before in
-    let at_others = at_outgoing.before.before.before.before in
-    let at_reliable = at_others.before.before.before.before.before in
-    let at_packets = at_reliable.before.before.before.before in
-    let at_start = at_packets.before.before.before.before.before in
-    let a = at_start.args in
-    sent_back (whole a.words.now) (whole at_reliable.prepend.new.words) (whole at_outgoing.prepend-2.new.words) (whole at_sent.replace.new.words) a.marks.now
-    (map low (take at_packets.gather-packets.result at_packets.gather-packets.new.cells)) (map low (take at_others.gather-others.result at_others.gather-others.new.cells))
-    (map low (take at_kept.gather-kept.result at_kept.gather-kept.new.cells))
-    at_packets.gather-packets.ensures.slots at_reliable.prepend.ensures at_others.gather-others.ensures.slots at_outgoing.prepend-2.ensures at_kept.gather-kept.ensures.slots
-    at_sent.replace.ensures
+    let a = c.args in
+    sent_back (whole a.words.now) (whole c.prepend.new.words) (whole c.prepend-2.new.words) (whole c.replace.new.words) a.marks.now
+    (map low (take c.gather-packets.result c.gather-packets.new.cells)) (map low (take c.gather-others.result c.gather-others.new.cells))
+    (map low (take c.gather-kept.result c.gather-kept.new.cells))
+    c.gather-packets.ensures.slots c.prepend.ensures c.gather-others.ensures.slots c.prepend-2.ensures c.gather-kept.ensures.slots
+    c.replace.ensures

@@ -9,10 +9,7 @@ use Rattle.timeouts.proofs.back.turn.Goals as goal
 
 pub returns : goal.returns
 returns c =
-    let at_put = c.before.before.before in
-    let at_step = at_put.before.before.before in
-    let at_sent = at_step.before in
-    let a = at_sent.args in
+    let a = c.args in
     let p = whole a.words.now in
     let o = get_or p.outgoing a.s no_outgoing in
-    let is = turn_is a.limits a.clock a.walk o at_sent.sent_at-o.result at_step.step_by-r.result at_sent.sent_at-o.ensures at_step.step_by-r.ensures in record { walk = ap (λ (r : After). r.walk) is; mark = ap (λ (r : After). r.mark) is; slot = turn_put a.limits a.clock a.walk o at_sent.sent_at-o.result at_step.step_by-r.result at_sent.sent_at-o.ensures at_step.step_by-r.ensures p _ a.s at_put.retime.ensures }
+    let is = turn_is a.limits a.clock a.walk o c.sent_at-o.result c.step_by-r.result c.sent_at-o.ensures c.step_by-r.ensures in record { walk = ap (λ (r : After). r.walk) is; mark = ap (λ (r : After). r.mark) is; slot = turn_put a.limits a.clock a.walk o c.sent_at-o.result c.step_by-r.result c.sent_at-o.ensures c.step_by-r.ensures p _ a.s c.retime.ensures }

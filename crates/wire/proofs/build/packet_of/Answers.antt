@@ -19,9 +19,8 @@ returns-in-7 c =
 pub returns-in-8 : goal.returns-in-8
 unfolding shaped_by
 returns-in-8 c =
-    let at_low16 = c.before.before.before.before in
-    let e : at_low16.args.kind ≡ 8 = c.in-8.is in
-    rw (e, at_low16.low16-first.ensures, c.fragment_from-fragment.ensures)
+    let e : c.args.kind ≡ 8 = c.in-8.is in
+    rw (e, c.low16-first.ensures, c.fragment_from-fragment.ensures)
 
 pub returns-in_default : goal.returns-in_default
 unfolding shaped_by

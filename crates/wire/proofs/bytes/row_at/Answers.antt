@@ -14,25 +14,22 @@ use Rattle.wire.proofs.bytes.row_at.Goals as goal
 
 pub number_at-requires : goal.number_at-requires
 number_at-requires c =
-    let at_loop = c.before.before.before in
-    let l = at_loop.loop-j in
-    let k = at_loop.args.kind in
+    let l = c.loop-j in
+    let k = c.args.kind in
     let e = c.width_of-width.ensures in
     (omega (arith, total_step (layout k) l.j), omega (arith, width_le k l.j))
 
 pub overflow_add-place : goal.overflow_add-place
 overflow_add-place c =
-    let at_loop = c.before.before.before.before in
-    let l = at_loop.loop-j in
-    let k = at_loop.args.kind in
+    let l = c.loop-j in
+    let k = c.args.kind in
     let e = c.width_of-width.ensures in
     omega (arith, total_step (layout k) l.j)
 
 pub loop-j-preserved : goal.loop-j-preserved
 loop-j-preserved c =
-    let at_loop = c.before.before.before.before in
-    let l = at_loop.loop-j in
-    let a = at_loop.args in
+    let l = c.loop-j in
+    let a = c.args in
     let e = c.width_of-width.ensures in (
       search rules,
       simp length-set (omega arith),

@@ -9,5 +9,4 @@ returns-in_default c = ap (placed c.args.next) (sym (ap answer_of c.in_default.i
 
 pub returns : goal.returns
 returns c =
-    let at_build = c.before.before.before.before in
-    ap (placed at_build.args.next) (sym (ap answer_of c.in-Done.is) ∙ at_build.build.ensures)
+    ap (placed c.args.next) (sym (ap answer_of c.in-Done.is) ∙ c.build.ensures)

@@ -11,16 +11,6 @@ use Rattle.wire.proofs.ReadLaws.{whole_none, whole_some, whole_kind_lem, whole_r
 use native.Mathlib.Omega.{arith}
 use Rattle.wire.proofs.reader.read.Goals as goal
 
--- the places before `type_size`
-abbrev to_whole_kind : goal.After-size_of → goal.After-whole_kind-kind
-to_whole_kind c = c.before.before.before
-
-abbrev to_shared_slice_known : goal.After-size_of → goal.After-shared_slice_known-1
-to_shared_slice_known c = (to_whole_kind c).before
-
-abbrev to_start : goal.After-size_of → goal.Start
-to_start c = (to_shared_slice_known c).before
-
 pub returns-then-kind-eq0 : goal.returns-then-kind-eq0
 returns-then-kind-eq0 c =
     let a = c.args in
@@ -38,25 +28,24 @@ row_at-row-requires c =
 
 pub overflow_add-next : goal.overflow_add-next
 overflow_add-next c =
-    let s = (to_start c).args.s.now in
-    let i = (to_start c).args.at in
-    let e = (to_whole_kind c).whole_kind-kind.ensures in
+    let s = c.args.s.now in
+    let i = c.args.at in
+    let e = c.whole_kind-kind.ensures in
     let r = whole_some s i (λ z. omega arith) in
-    let q = c.type_size.ensures ∙ ap size_of (e ∙ whole_kind_lem s i r) in
+    let q = c.size_of.ensures ∙ ap size_of (e ∙ whole_kind_lem s i r) in
     omega (arith, whole_room s i r)
 
 pub returns : goal.returns
 returns c =
-    let at_size_of = c.before in
-    let s = (to_start at_size_of).args.s.now in
-    let i = (to_start at_size_of).args.at in
-    let k = (to_whole_kind at_size_of).whole_kind-kind.result in
-    let e = (to_whole_kind at_size_of).whole_kind-kind.ensures in
-    let n = i + at_size_of.type_size.result in
+    let s = c.args.s.now in
+    let i = c.args.at in
+    let k = c.whole_kind-kind.result in
+    let e = c.whole_kind-kind.ensures in
+    let n = i + c.size_of.result in
     let r = whole_some s i (λ z. omega arith) in
     let q : k ≡ kind_at s i = e ∙ whole_kind_lem s i r in
-    let bytes : Bytes s = λ j. omega (arith, (to_shared_slice_known at_size_of).shared_slice_known-1.given j) in
+    let bytes : Bytes s = λ j. omega (arith, c.shared_slice_known-1.given j) in
     c.found.ensures
-    ∙ ap (λ (l : List ℕ). placed n (built_from k l)) at_size_of.row_at-row.ensures
+    ∙ ap (λ (l : List ℕ). placed n (built_from k l)) c.row_at-row.ensures
     ∙ ap (λ (x : ℕ). placed n (built_from x (pad 16 (row_at s i (layout x))))) q
-    ∙ read_found s i n bytes r (ap (λ (x : ℕ). i + x) (at_size_of.type_size.ensures ∙ ap size_of q))
+    ∙ read_found s i n bytes r (ap (λ (x : ℕ). i + x) (c.size_of.ensures ∙ ap size_of q))

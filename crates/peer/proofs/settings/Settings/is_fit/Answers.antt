@@ -8,11 +8,8 @@ returns-then-not-mtu_fits c = rw (sym c.mtu_fits.ensures ∙ not-true _ c.if-not
 
 pub returns-then-self-lt1 : goal.returns-then-self-lt1
 returns-then-self-lt1 c =
-    let mtu = c.before.before.before in
-    rw (sym mtu.mtu_fits.ensures ∙ not-false _ mtu.if-not-mtu_fits.false-raw, lt-leb _ _ c.if-self-lt1.true)
+    rw (sym c.mtu_fits.ensures ∙ not-false _ c.if-not-mtu_fits.false-raw, lt-leb _ _ c.if-self-lt1.true)
 
 pub returns : goal.returns
 returns c =
-    let packet = c.before.before in
-    let mtu = packet.before.before in
-    rw (sym mtu.mtu_fits.ensures ∙ not-false _ mtu.if-not-mtu_fits.false-raw, le-leb _ _ packet.if-self-lt1.false)
+    rw (sym c.mtu_fits.ensures ∙ not-false _ c.if-not-mtu_fits.false-raw, le-leb _ _ c.if-self-lt1.false)
