@@ -23,7 +23,7 @@ abbrev AfterListSound : Type 0
 AfterListSound = lts.After-list_sound tie.the-claims tie.handed_pre tie.handed_post goal.the-invariant-loop-k goal.the-decreases-loop-k
 
 -- the turn there
-turned : (c : AfterListSound →
+turned : (c : AfterListSound) →
     let a = (to_start c).args in
     let p = whole a.words.now in
     let m = (to_loop c).loop in

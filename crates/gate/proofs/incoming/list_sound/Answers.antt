@@ -35,7 +35,7 @@ passing b =
     in_passes p.marks p.incoming b.args.count b.args.own b.args.k
 
 -- the turn there
-turned : (c : AfterNarrow2
+turned : (c : AfterNarrow2)
     → Turn (passing c.before.before.before.before.before.before.before.before.before) c.args.words.now c.args.at 12 c.args.marks.now c.loop-j.marks c.loop-j.j c.narrow-s.result
 turned c =
     let v = c.narrow-n in
@@ -49,11 +49,11 @@ turned c =
     }
 
 -- what the test says of the slot
-tested : (c : AfterInPasses (b : Bool) → c.in_passes.result ≡ b → passing c.before.before.before.before.before.before.before.before.before.before.before.before.before c.narrow-s.result ≡ b
+tested : (c : AfterInPasses) (b : Bool) → c.in_passes.result ≡ b → passing c.before.before.before.before.before.before.before.before.before.before.before.before.before c.narrow-s.result ≡ b
 tested c b e = says c.in_passes.result (passing c.before.before.before.before.before.before.before.before.before.before.before.before.before c.narrow-s.result) b c.in_passes.ensures e
 
 -- a slot that passes is short
-short : (c : AfterInPasses → c.in_passes.result ≡ true
+short : (c : AfterInPasses) → c.in_passes.result ≡ true
     → (get_or (whole c.args.words.now).incoming c.narrow-s.result no_incoming).length ≤ 32768
 short c e =
     let a = c.args in

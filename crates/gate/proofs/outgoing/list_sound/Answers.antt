@@ -30,7 +30,7 @@ abbrev passing : Start → ℕ → Bool
 passing b = grade_passes (map (slot_grade b.args.count) (whole b.args.words.now).outgoing) b.args.sent
 
 -- the turn there
-turned : (c : AfterNarrow2
+turned : (c : AfterNarrow2)
     → Turn (passing c.before.before.before.before.before.before.before.before.before) c.args.words.now c.args.at 32 c.args.marks.now c.loop-j.marks c.loop-j.j c.narrow-s.result
 turned c =
     let v = c.narrow-n in
@@ -44,7 +44,7 @@ turned c =
     }
 
 -- what the test says of the slot
-tested : (c : AfterEnough → passing c.before.before.before.before.before.before.before.before.before.before.before.before.before.before.before c.narrow-s.result ≡ c.enough.result
+tested : (c : AfterEnough) → passing c.before.before.before.before.before.before.before.before.before.before.before.before.before.before.before c.narrow-s.result ≡ c.enough.result
 tested c =
     let a = c.args in
     ap (λ (o : List Outgoing). grade_passes (map (slot_grade a.count) o) a.sent c.narrow-s.result) (pool_is a.words.now)
