@@ -31,7 +31,7 @@ returns-then-is-eq-FOUND c =
     let m = c.loop-k in
     let a = c.args in
     let ws = a.words.now in
-    turn_found (made ws a.number a.channel a.sent) (named ws a.list) _ m.k m.inv.1 m.inv.2 (omega arith) s.result l.result
+    turn_found (made ws a.number a.channel a.sent) (named ws a.list) _ m.k m.invariant.1 m.invariant.2 (omega arith) s.result l.result
     s.ensures l.ensures c.if-is-eq-FOUND.true
 
 pub returns-then-is-ne-GOES_ON : goal.returns-then-is-ne-GOES_ON
@@ -41,7 +41,7 @@ returns-then-is-ne-GOES_ON c =
     let m = c.loop-k in
     let a = c.args in
     let ws = a.words.now in
-    turn_ends (made ws a.number a.channel a.sent) (named ws a.list) _ m.k m.inv.1 m.inv.2 (omega arith) s.result l.result
+    turn_ends (made ws a.number a.channel a.sent) (named ws a.list) _ m.k m.invariant.1 m.invariant.2 (omega arith) s.result l.result
     s.ensures l.ensures c.if-is-eq-FOUND.false c.if-is-ne-GOES_ON.true
 
 pub loop-k-preserved : goal.loop-k-preserved
@@ -51,9 +51,9 @@ loop-k-preserved c =
     let m = c.loop-k in
     let a = c.args in
     let ws = a.words.now in
-    let on = turn_goes_on (made ws a.number a.channel a.sent) (named ws a.list) _ m.k m.inv.1 m.inv.2 (omega arith) s.result l.result
+    let on = turn_goes_on (made ws a.number a.channel a.sent) (named ws a.list) _ m.k m.invariant.1 m.invariant.2 (omega arith) s.result l.result
     s.ensures l.ensures c.if-is-ne-GOES_ON.false in
-    (omega arith, m.inv.1, on)
+    (omega arith, m.invariant.1, on)
 
 pub returns : goal.returns
 returns c =

@@ -21,7 +21,7 @@ returns-then-own-number c =
     let all = take_all n.result xs (omega (arith, n.ensures)) in
     let is = c.incoming_at-slot.ensures ∙ ap (λ (x : ℕ). get_or p.incoming x no_incoming) c.slot_at-s.ensures in
     let hit = held_hit p.incoming xs n.result c.loop-k.k low c.loop-k-test.taken c.incoming_at-slot.result is a.number.0 c.if-own-number.true in
-    sym (c.loop-k.inv.1 ∙ hit) ∙ ap (λ (ys : List ℕ). holds p.incoming ys a.number.0) all
+    sym (c.loop-k.invariant.1 ∙ hit) ∙ ap (λ (ys : List ℕ). holds p.incoming ys a.number.0) all
 
 pub loop-k-preserved : goal.loop-k-preserved
 loop-k-preserved c =
@@ -33,7 +33,7 @@ loop-k-preserved c =
     let low : n.result ≤ length xs = omega (arith, n.ensures) in
     let is = c.incoming_at-slot.ensures ∙ ap (λ (x : ℕ). get_or p.incoming x no_incoming) c.slot_at-s.ensures in
     let miss = held_miss p.incoming xs n.result c.loop-k.k low h c.incoming_at-slot.result is a.number.0 c.if-own-number.false in
-    (omega (arith, h), c.loop-k.inv.1 ∙ miss)
+    (omega (arith, h), c.loop-k.invariant.1 ∙ miss)
 
 pub returns : goal.returns
 returns c =

@@ -28,7 +28,7 @@ returns-then-not-follows c =
     let bad = not-true q.result c.if-not-follows.true-raw in
     let none = count_stop p.incoming xs n.result c.loop-k.k c.loop-k.now.0 low (omega arith) i.result is q.result q.ensures bad in
     let same = last_stop p.incoming xs n.result c.loop-k.k c.loop-k.now.0 low (omega arith) i.result is q.result q.ensures bad in
-    let counted : c.loop-k.k ≡ ready_count p.incoming (take n.result xs) a.last.0 = omega (arith, c.loop-k.inv.1, none) in record { count = counted ∙ ap (λ (ys : List ℕ). ready_count p.incoming ys a.last.0) all; last = sym (c.loop-k.inv.2 ∙ same) ∙ ap (λ (ys : List ℕ). ready_last p.incoming ys a.last.0) all }
+    let counted : c.loop-k.k ≡ ready_count p.incoming (take n.result xs) a.last.0 = omega (arith, c.loop-k.invariant.1, none) in record { count = counted ∙ ap (λ (ys : List ℕ). ready_count p.incoming ys a.last.0) all; last = sym (c.loop-k.invariant.2 ∙ same) ∙ ap (λ (ys : List ℕ). ready_last p.incoming ys a.last.0) all }
 
 pub loop-k-preserved : goal.loop-k-preserved
 loop-k-preserved c =
@@ -48,7 +48,7 @@ loop-k-preserved c =
     count_turn p.incoming xs n.result c.loop-k.k c.loop-k.now.0 low h i.result is q.result q.ensures good next.result.0 next.ensures in
     let same =
     last_turn p.incoming xs n.result c.loop-k.k c.loop-k.now.0 low h i.result is q.result q.ensures good next.result.0 next.ensures in
-    (omega (arith, h), count_more _ _ _ _ c.loop-k.inv.1 more, c.loop-k.inv.2 ∙ same)
+    (omega (arith, h), count_more _ _ _ _ c.loop-k.invariant.1 more, c.loop-k.invariant.2 ∙ same)
 
 pub returns : goal.returns
 returns c =

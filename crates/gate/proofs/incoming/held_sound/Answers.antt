@@ -54,10 +54,10 @@ loop-k-preserved c =
     let ok = not-false w.result.ok c.if-not-walk.false in (
       omega arith,
       search rules,
-      m.inv.2 ∙ held_turn t ok,
-      m.inv.3 ∙ held_sums t m.total w.result.total w.ensures.sums ok,
+      m.invariant.2 ∙ held_turn t ok,
+      m.invariant.3 ∙ held_sums t m.total w.result.total w.ensures.sums ok,
       omega (arith, w.ensures.sums.low ok),
-      m.inv.5 ∙ held_counts t m.blocks w.result.blocks w.ensures.counts ok,
+      m.invariant.5 ∙ held_counts t m.blocks w.result.blocks w.ensures.counts ok,
       omega (arith, w.ensures.counts.low ok),
     )
 

@@ -101,7 +101,7 @@ loop-j-preserved c =
     let block_is = c.block_at-blocks.ensures in
     let length_is = c.length_at-total.ensures in (
       omega arith,
-      simp length-set m.inv.1,
+      simp length-set m.invariant.1,
       turn (turned c.before.before.before.before.before.before.before.before) (omega arith) c.if-marks-s-eq1.false (tested c.before.before.before.before true passed),
       omega arith,
       omega arith,

@@ -73,7 +73,7 @@ returns-then-not-enough c =
 pub loop-j-preserved : goal.loop-j-preserved
 loop-j-preserved c =
     let good = tested c.before.before ∙ not-false _ c.if-not-enough.false-raw in
-    (omega arith, simp length-set c.loop-j.inv.1, turn (turned c.before.before.before.before.before.before.before.before) (omega arith) c.if-marks-s-eq1.false good)
+    (omega arith, simp length-set c.loop-j.invariant.1, turn (turned c.before.before.before.before.before.before.before.before) (omega arith) c.if-marks-s-eq1.false good)
 
 pub returns : goal.returns
 returns c =

@@ -25,7 +25,7 @@ returns-in-Unread c =
     let l = c.loop-i in
     let a = c.args in
     let none =
-    read_none a.bytes.now a.at a.words.now l.words l.end l.i l.inv.1 c.loop-i-test.true
+    read_none a.bytes.now a.at a.words.now l.words l.end l.i l.invariant.1 c.loop-i-test.true
     c.read_at.result _ c.read_at.ensures.numbers c.in-Unread.is
     in
     (none, omega arith)
@@ -36,7 +36,7 @@ loop-i-preserved c =
     let a = c.args in
     let is = c.in-Read.is in (
       omega arith,
-      read_turn a.bytes.now a.at a.words.now l.words l.end l.i l.inv.1 c.loop-i-test.true
+      read_turn a.bytes.now a.at a.words.now l.words l.end l.i l.invariant.1 c.loop-i-test.true
           c.read_at.result _ c.read_at.ensures.numbers c.in-Read.next is
           (omega (arith, ap end_of is, c.read_at.ensures.inside)) (search rules),
     )

@@ -35,7 +35,7 @@ overflow_add-end c =
       arith,
       c.stored_length-end.ensures,
       lay_room (whole a.words.now) (sized a.words.now).incoming a.bytes.now a.at (stores a.store.now a.second.now) (stores l.store l.second)
-          l.end l.s l.inv.1 slot.result slot.ensures c.loop-s-test.true c.requires.words_in_bounds,
+          l.end l.s l.invariant.1 slot.result slot.ensures c.loop-s-test.true c.requires.words_in_bounds,
     )
 
 pub loop-s-preserved : goal.loop-s-preserved
@@ -45,7 +45,7 @@ loop-s-preserved c =
     let a = c.args in (
       omega arith,
       lay_turn (whole a.words.now) (sized a.words.now).incoming a.bytes.now a.at (stores a.store.now a.second.now) (stores l.store l.second)
-          l.end l.s l.inv.1 slot.result slot.ensures c.loop-s-test.true
+          l.end l.s l.invariant.1 slot.result slot.ensures c.loop-s-test.true
           (stores _ _) c.stored_length-end.result (search rules) (search rules) c.lay_slot.ensures c.stored_length-end.ensures,
     )
 

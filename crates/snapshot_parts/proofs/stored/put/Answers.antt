@@ -32,7 +32,7 @@ overflow_add-end c =
       arith,
       c.stored_length-end.ensures,
       put_room (whole a.words.now) (sized a.words.now).incoming a.store.now a.second.now a.buffer.now a.at
-          l.buffer l.end l.s l.inv.1 slot.result slot.ensures c.loop-s-test.true c.requires.words_in_bounds,
+          l.buffer l.end l.s l.invariant.1 slot.result slot.ensures c.loop-s-test.true c.requires.words_in_bounds,
     )
 
 pub loop-s-preserved : goal.loop-s-preserved
@@ -41,7 +41,7 @@ loop-s-preserved c =
     let l = c.loop-s in
     let a = c.args in (
       omega arith,
-      put_turn (whole a.words.now) (sized a.words.now).incoming a.store.now a.second.now a.buffer.now a.at l.buffer l.end l.s l.inv.1
+      put_turn (whole a.words.now) (sized a.words.now).incoming a.store.now a.second.now a.buffer.now a.at l.buffer l.end l.s l.invariant.1
           slot.result slot.ensures c.loop-s-test.true c.requires.store_len.0 c.requires.store_len.1
           _ c.stored_length-end.result (search rules) c.put_slot.ensures c.stored_length-end.ensures,
     )

@@ -6,7 +6,12 @@ use native.Mathlib.Numerals.{add-one}
 use Rattle.command.specs.Bytes.{number_at}
 use Rattle.command.proofs.ByteLaws.{pow_3}
 use native.Mathlib.Omega.{arith}
+use borrow.Author.Rules.{rules}
 use Rattle.wire.proofs.bytes.number_at.Goals as goal
+
+pub loop-j-init : goal.loop-j-init
+unfolding number_at
+loop-j-init c = search rules
 
 pub overflow_mul-n : goal.overflow_mul-n
 overflow_mul-n c = let h : 256 ^ c.loop-j.j ≤ 16777216 = pow_3 c.loop-j.j (omega arith) in omega arith

@@ -31,9 +31,9 @@ loop-j-preserved c =
     let w = c.width_of-width in
     let e = c.put_number.ensures in (
       search rules,
-      ap length e ∙ put-length l.out l.place w.result (get_or a.row l.j 0) ∙ l.inv.1,
-      total_turn (layout a.kind) l.place w.result l.j w.ensures ∙ l.inv.2,
-      put_turn l.out (layout a.kind) a.row l.place w.result l.j _ w.ensures e (omega arith) ∙ l.inv.3,
+      ap length e ∙ put-length l.out l.place w.result (get_or a.row l.j 0) ∙ l.invariant.1,
+      total_turn (layout a.kind) l.place w.result l.j w.ensures ∙ l.invariant.2,
+      put_turn l.out (layout a.kind) a.row l.place w.result l.j _ w.ensures e (omega arith) ∙ l.invariant.3,
     )
 
 pub returns : goal.returns
