@@ -9,7 +9,7 @@ use Rattle.snapshot_parts.proofs.row.read_at.Goals as goal
 pub returns-then-not-place : goal.returns-then-not-place
 returns-then-not-place c =
     let a = c.args in
-    let e = c.place_at-place in record { numbers = unwritten_is a.words.now a.bytes.now a.at a.i e.result e.ensures (not-true e.result.is_written c.if-not-place.true); inside = c.requires.1.1 }
+    let e = c.place_at-place in record { numbers = unwritten_is a.words.now a.bytes.now a.at a.i e.result e.ensures (not-true e.result.is_written c.if-not-place.true); inside = c.requires.i_lt_record_length.1 }
 
 pub returns-then-not-fits : goal.returns-then-not-fits
 returns-then-not-fits c =
@@ -32,7 +32,7 @@ pub set-requires : goal.set-requires
 set-requires c =
     let a = c.args in
     let e = c.place_at-place in
-    (omega (arith, c.requires.words_len, c.requires.i_lt_record_length), λ q. rw c.requires.words_len (command_inside a.words.now c.requires.words_len a.i c.requires.i_lt_record_length e.result e.ensures q))
+    (omega (arith, c.requires.words_len, c.requires.i_lt_record_length.0), λ q. rw c.requires.words_len (command_inside a.words.now c.requires.words_len a.i c.requires.i_lt_record_length.0 e.result e.ensures q))
 
 pub overflow_add-result : goal.overflow_add-result
 overflow_add-result c =
@@ -42,7 +42,7 @@ overflow_add-result c =
     omega (
       arith,
       groups_inside a.words.now a.bytes.now a.at a.i e.result e.ensures w c.read.result c.read.ensures
-          c.in-Number.value c.in-Number.groups c.in-Number.is c.requires.1.1,
+          c.in-Number.value c.in-Number.groups c.in-Number.is c.requires.i_lt_record_length.1,
     )
 
 pub returns-else-not-fits : goal.returns-else-not-fits
@@ -55,7 +55,7 @@ returns-else-not-fits c =
           c.in-Number.value c.in-Number.groups c.in-Number.is (sym c.fits2.ensures ∙ f)
           _ c.set.ensures;
       inside = groups_inside a.words.now a.bytes.now a.at a.i e.result e.ensures w c.read.result c.read.ensures
-          c.in-Number.value c.in-Number.groups c.in-Number.is c.requires.1.1;
+          c.in-Number.value c.in-Number.groups c.in-Number.is c.requires.i_lt_record_length.1;
     }
 
 pub returns-in-Unread : goal.returns-in-Unread
