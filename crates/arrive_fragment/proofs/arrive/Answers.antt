@@ -32,7 +32,7 @@ fate_on-fate-requires c =
     let o = c.in_default.is in
     let k = c.ask-asked in
     let a = c.args in
-    (search rules, channel_exists a.settings a.a a.datagram.now (whole a.words.now) a.store.now a.second.now (record { gate = k.result; is = k.ensures }) o t.result t.ensures w.result w.ensures m.result m.ensures y)
+    record { words_len = search rules; channel_lt_channels = channel_exists a.settings a.a a.datagram.now (whole a.words.now) a.store.now a.second.now (record { gate = k.result; is = k.ensures }) o t.result t.ensures w.result w.ensures m.result m.ensures y }
 
 pub keep-requires : goal.keep-requires
 keep-requires c =
@@ -43,7 +43,7 @@ keep-requires c =
     let o = c.in_default.is in
     let k = c.ask-asked in
     let a = c.args in
-    (search rules, channel_exists a.settings a.a a.datagram.now (whole a.words.now) a.store.now a.second.now (record { gate = k.result; is = k.ensures }) o t.result t.ensures w.result w.ensures m.result m.ensures y)
+    record { words_len = search rules; channel_lt_channels = channel_exists a.settings a.a a.datagram.now (whole a.words.now) a.store.now a.second.now (record { gate = k.result; is = k.ensures }) o t.result t.ensures w.result w.ensures m.result m.ensures y }
 
 pub returns : goal.returns
 returns c =

@@ -29,7 +29,7 @@ fate_on-fate-requires c =
     let o = c.in_default.is in
     let k = c.ask-asked in
     let a = c.args in
-    (search rules, lent_channel a.settings a.a a.datagram.now (whole a.words.now) a.store.now a.store.now (record { gate = k.result; is = k.ensures }) o t.result t.ensures m.result m.ensures y)
+    record { words_len = search rules; channel_lt_channels = lent_channel a.settings a.a a.datagram.now (whole a.words.now) a.store.now a.store.now (record { gate = k.result; is = k.ensures }) o t.result t.ensures m.result m.ensures y }
 
 pub returns-in_default-fate : goal.returns-in_default-fate
 returns-in_default-fate c =
@@ -51,7 +51,7 @@ settle-requires c =
     let o = c.in_default.is in
     let k = c.ask-asked in
     let a = c.args in
-    (search rules, lent_channel a.settings a.a a.datagram.now (whole a.words.now) a.store.now a.store.now (record { gate = k.result; is = k.ensures }) o t.result t.ensures m.result m.ensures y)
+    record { words_len = search rules; i_lt_channels = lent_channel a.settings a.a a.datagram.now (whole a.words.now) a.store.now a.store.now (record { gate = k.result; is = k.ensures }) o t.result t.ensures m.result m.ensures y }
 
 pub returns : goal.returns
 returns c =

@@ -41,7 +41,7 @@ dispatch-requires c =
     let p = whole a.words.now in
     let q : AtGate a.settings Nothing p = record { gate = k.result; is = k.ensures } in
     let h : a.channel < p.standing.channels = omega (arith, ap (λ (x : Standing). x.channels) t.ensures, c.if-standing-channel.false) in
-    (search rules, channel_exists a.settings a.channel p q c.in_default.is h)
+    record { words_len = search rules; i_lt_channels = channel_exists a.settings a.channel p q c.in_default.is h }
 
 pub returns : goal.returns
 returns c =

@@ -15,7 +15,7 @@ returns-then-not-is_fit c =
 pub refresh-requires : goal.refresh-requires
 refresh-requires c =
     let l : length c.args.words.now ≡ 1236 = search rules in
-    (search rules, c.clear.ensures ∙ cleared c.args.words.now 1236 l)
+    record { words_len = search rules; words_value = c.clear.ensures ∙ cleared c.args.words.now 1236 l }
 
 pub returns : goal.returns
 returns c =

@@ -10,4 +10,4 @@ returns c =
     let p = whole a.words.now in
     let is = attempt_out p a.s a.time t.result c.outgoing_at-slot.result c.trips-trips.result c.outgoing_at-slot.ensures
     c.trips-trips.ensures t.ensures in
-    (is, attempt_kept p a.s a.time t.result (whole c.put_attempt.new.words) is c.put_attempt.ensures)
+    record { out = is; kept = attempt_kept p a.s a.time t.result (whole c.put_attempt.new.words) is c.put_attempt.ensures }

@@ -20,7 +20,7 @@ returns-in-Shut c =
     let p = whole a.words.now in
     let q : AtGate a.settings Nothing p = record { gate = k.result; is = k.ensures } in
     let s = c.gate-1.given in
-    (came_shut q p (steps_sound a.q a.time p) answer_of (vr.Refused s.0.0) s.0.0 refl s.1, tt)
+    record { came = came_shut q p (steps_sound a.q a.time p) answer_of (vr.Refused s.0.0) s.0.0 refl s.1; named = tt }
 
 pub returns-in_default-first : goal.returns-in_default-first
 returns-in_default-first c =

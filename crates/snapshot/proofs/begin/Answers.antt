@@ -7,7 +7,7 @@ pub returns-then-value : goal.returns-then-value
 returns-then-value c =
     let bs = c.args.bytes.now in
     let v = c.value-1.given in
-    (begin_unknown bs c.read.result c.read.ensures v.0.0 v.0.1.0 v.1 c.if-value.true, omega arith)
+    record { edition = begin_unknown bs c.read.result c.read.ensures v.0.0 v.0.1.0 v.1 c.if-value.true; inside = omega arith }
 
 pub returns-else-value : goal.returns-else-value
 returns-else-value c =

@@ -29,7 +29,7 @@ numbers c = c.read.ensures.numbers ∙ ap (λ ws. numbers_from 1236 0 ws (drop (
 pub returns-in-Unread : goal.returns-in-Unread
 returns-in-Unread c =
     let b = c.begin in
-    (edition_none c.args.bytes.now b.result b.ensures.edition c.in-Unread.is, omega arith)
+    record { snapshot = edition_none c.args.bytes.now b.result b.ensures.edition c.in-Unread.is; inside = omega arith }
 
 pub read-requires : goal.read-requires
 read-requires c = record { words_len = search rules; at_in_bounds = omega (arith, ap end_of c.in-Read.is, c.begin.ensures.inside) }
@@ -37,7 +37,7 @@ read-requires c = record { words_len = search rules; at_in_bounds = omega (arith
 pub returns-in-Unread-read : goal.returns-in-Unread-read
 returns-in-Unread-read c =
     let b = c.begin in
-    (numbers_none (bytes_of c.before.before.before.before.before) b.result b.ensures.edition (place_of c.before.before.before.before.before) c.in-Read.is c.read.result _ (numbers c.before.before.before.before.before) c.in-Unread-read.is, omega arith)
+    record { snapshot = numbers_none (bytes_of c.before.before.before.before.before) b.result b.ensures.edition (place_of c.before.before.before.before.before) c.in-Read.is c.read.result _ (numbers c.before.before.before.before.before) c.in-Unread-read.is; inside = omega arith }
 
 pub overflow_sub-bytes : goal.overflow_sub-bytes
 overflow_sub-bytes c =

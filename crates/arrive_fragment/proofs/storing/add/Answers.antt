@@ -6,4 +6,4 @@ use Rattle.arrive_fragment.proofs.storing.add.Goals as goal
 pub returns : goal.returns
 returns c =
     let a = c.args in
-    (c.finish.ensures ∙ ap (finished_on a.s a.a) c.mark.ensures, c.lay.ensures)
+    record { words_after = c.finish.ensures ∙ ap (finished_on a.s a.a) c.mark.ensures; second_after = c.lay.ensures }

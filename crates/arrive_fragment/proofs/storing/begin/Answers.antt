@@ -7,4 +7,4 @@ pub returns : goal.returns
 returns c =
     let a = c.args in
     let e = c.add.ensures in
-    (e.0 ∙ ap (piece_on a.s a.a) c.open.ensures, e.1 ∙ ap (with_bytes a.a a.datagram.now) c.clear.ensures)
+    record { words_after = e.0 ∙ ap (piece_on a.s a.a) c.open.ensures; second_after = e.1 ∙ ap (with_bytes a.a a.datagram.now) c.clear.ensures }

@@ -29,4 +29,4 @@ returns c =
     let l = c.loop-k in
     let a = c.args in
     let e : l.k ≡ length a.slots.now = omega arith in
-    (rw e at l.invariant.2, narrow_all a.slots.now l.k e l.invariant.3)
+    record { is = rw e at l.invariant.2; low = narrow_all a.slots.now l.k e l.invariant.3 }

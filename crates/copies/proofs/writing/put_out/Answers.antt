@@ -14,4 +14,4 @@ pub returns : goal.returns
 returns c =
     let a = c.args in
     let m : length a.x.slots ≡ 32 = search rules in
-    (row_long a.words.now c.put_list.new.words a.x.slots a.at a.x.len 32 m c.put_list.ensures.is, (m, out_back a.x c.put_list.ensures.low))
+    record { is = row_long a.words.now c.put_list.new.words a.x.slots a.at a.x.len 32 m c.put_list.ensures.is; long = m; back = out_back a.x c.put_list.ensures.low }

@@ -19,7 +19,7 @@ pub held_sound-requires : goal.held_sound-requires
 held_sound-requires c =
     let w = c.list_sound-first in
     let ok = not-false w.result.ok c.if-not-first.false in
-    (c.requires.words_len, (c.requires.count_le_channels, (search rules, (omega (arith, w.ensures.sums.low ok), omega (arith, w.ensures.counts.low ok)))))
+    record { words_len = c.requires.words_len; count_le_channels = c.requires.count_le_channels; marks_len = search rules; from_le_list_bytes = omega (arith, w.ensures.sums.low ok); before_le_incoming = omega (arith, w.ensures.counts.low ok) }
 
 pub returns : goal.returns
 returns c =

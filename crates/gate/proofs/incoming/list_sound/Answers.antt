@@ -67,7 +67,7 @@ returns-then-n-gt-INCOMING c =
     let v = c.narrow-n in
     let f = passing c.before.before.before.before.before.before in
     let i : Listed ws a.at 12 v.result = record { room = omega (arith, c.requires.words_len, c.requires.at_bound); is = v.ensures } in
-    (long f ws a.at 12 v.result i a.marks.now a.marks.now c.if-n-gt-INCOMING.true, (sums_stop, sums_stop))
+    record { walks = long f ws a.at 12 v.result i a.marks.now a.marks.now c.if-n-gt-INCOMING.true; sums = sums_stop; counts = sums_stop }
 
 pub loop-j-init : goal.loop-j-init
 loop-j-init c = (search rules, search rules, left_all _ _ _, refl, search rules, refl, search rules)

@@ -10,4 +10,4 @@ pub returns : goal.returns
 returns c =
     let r = c.wide16-reliable in
     let u = c.wide16-unreliable in
-    (rw (r.ensures.is, u.ensures.is), (r.ensures.low, u.ensures.low))
+    record { is = rw (r.ensures.is, u.ensures.is); low = (r.ensures.low, u.ensures.low) }

@@ -6,12 +6,12 @@ use Rattle.queues.proofs.outgoing.replace.Goals as goal
 pub cut-requires : goal.cut-requires
 cut-requires c =
     let at = c.place_of-at in
-    (place_fits c.args.list at.result _ at.ensures c.requires.words_len, omega arith)
+    record { size_in_bounds = place_fits c.args.list at.result _ at.ensures c.requires.words_len; size_bound = omega arith }
 
 pub append-requires : goal.append-requires
 append-requires c =
     let at = c.place_of-at in
-    (place_fits c.args.list at.result _ at.ensures (omega arith), omega arith)
+    record { size_in_bounds = place_fits c.args.list at.result _ at.ensures (omega arith); size_bound = omega arith }
 
 pub returns : goal.returns
 returns c =

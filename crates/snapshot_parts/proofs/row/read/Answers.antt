@@ -14,7 +14,7 @@ loop-i-init c =
 pub read_at-requires : goal.read_at-requires
 read_at-requires c =
     let g = c.loop-i.invariant.1 in
-    (g.size ∙ c.requires.words_len, (c.loop-i-test.true, g.inside))
+    record { words_len = g.size ∙ c.requires.words_len; i_lt_record_length = (c.loop-i-test.true, g.inside) }
 
 pub shape_of-words-in-Unread : goal.shape_of-words-in-Unread
 shape_of-words-in-Unread c =
@@ -28,7 +28,7 @@ returns-in-Unread c =
     read_none a.bytes.now a.at a.words.now l.words l.end l.i l.invariant.1 c.loop-i-test.true
     c.read_at.result _ c.read_at.ensures.numbers c.in-Unread.is
     in
-    (none, omega arith)
+    record { numbers = none; inside = omega arith }
 
 pub loop-i-preserved : goal.loop-i-preserved
 loop-i-preserved c =
@@ -48,4 +48,4 @@ pub returns : goal.returns
 returns c =
     let l = c.loop-i in
     let a = c.args in
-    (read_end a.bytes.now a.at a.words.now l.words l.end l.i l.invariant.1 c.loop-i-test.false, l.invariant.1.inside)
+    record { numbers = read_end a.bytes.now a.at a.words.now l.words l.end l.i l.invariant.1 c.loop-i-test.false; inside = l.invariant.1.inside }

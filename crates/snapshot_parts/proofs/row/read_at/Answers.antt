@@ -32,7 +32,7 @@ pub set-requires : goal.set-requires
 set-requires c =
     let a = c.args in
     let e = c.place_at-place in
-    (omega (arith, c.requires.words_len, c.requires.i_lt_record_length.0), λ q. rw c.requires.words_len (command_inside a.words.now c.requires.words_len a.i c.requires.i_lt_record_length.0 e.result e.ensures q))
+    record { i_in_bounds = omega (arith, c.requires.words_len, c.requires.i_lt_record_length.0); i_in_bounds_2 = λ q. rw c.requires.words_len (command_inside a.words.now c.requires.words_len a.i c.requires.i_lt_record_length.0 e.result e.ensures q) }
 
 pub overflow_add-result : goal.overflow_add-result
 overflow_add-result c =

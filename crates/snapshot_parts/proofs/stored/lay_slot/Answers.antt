@@ -8,7 +8,7 @@ pub copy-requires : goal.copy-requires
 copy-requires c =
     let n = c.stored_length-n.ensures in
     let e = sym c.is_block.ensures ∙ c.if-is_block.true in
-    (omega (arith, n, c.requires.s_lt_incoming.2, block_inside c.args.slot c.args.s e), omega (arith, n, c.requires.slot_in_bounds))
+    record { count_in_bounds = omega (arith, n, c.requires.s_lt_incoming.2, block_inside c.args.slot c.args.s e); count_in_bounds_2 = omega (arith, n, c.requires.slot_in_bounds) }
 
 pub returns-then-is_block : goal.returns-then-is_block
 returns-then-is_block c =
@@ -21,7 +21,7 @@ pub copy-requires-2 : goal.copy-requires-2
 copy-requires-2 c =
     let n = c.stored_length-n.ensures in
     let e = sym c.is_block.ensures ∙ c.if-is_block.false in
-    (omega (arith, n, c.requires.s_lt_incoming.1, cell_inside c.args.slot c.args.s e c.requires.s_lt_incoming.0), omega (arith, n, c.requires.slot_in_bounds))
+    record { count_in_bounds = omega (arith, n, c.requires.s_lt_incoming.1, cell_inside c.args.slot c.args.s e c.requires.s_lt_incoming.0); count_in_bounds_2 = omega (arith, n, c.requires.slot_in_bounds) }
 
 pub returns : goal.returns
 returns c =
