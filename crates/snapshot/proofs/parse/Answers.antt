@@ -14,7 +14,7 @@ use Rattle.snapshot.proofs.parse.Goals as goal
 
 -- places of the code that the helpers below speak of
 abbrev AfterRead : Type 0
-AfterRead = lts.After-read tie.the-claims tie.handed_pre tie.handed_post
+AfterRead = lts.After-read tie.the-claims tie.handed_pre tie.handed_post tie.handed_clauses
 
 -- the bytes, and what was read of them behind the edition, from zeros
 abbrev bytes_of : AfterRead → List ℕ
