@@ -8,7 +8,6 @@ use Rattle.acknowledge.proofs.removal.flow_without.Goals as goal
 pub returns-then-slot : goal.returns-then-slot
 returns-then-slot c =
     let a = c.args in
-    let k = c.struct_known-1.given in
     rw (
       c.in-Sent.is,
       c.if-slot.true,
