@@ -38,7 +38,7 @@ returns-in_default-fate c =
     let o = c.in_default.is in
     let k = c.ask-asked in
     let a = c.args in
-    lent_left a.settings a.a a.datagram.now (whole a.words.now) a.store.now second (record { gate = k.result; is = k.ensures }) o t.result t.ensures m.result m.ensures y f.result f.ensures c.in_default-fate.keys2
+    lent_left a.settings a.a a.datagram.now (whole a.words.now) a.store.now second (record { gate = k.result; is = k.ensures }) o t.result t.ensures m.result m.ensures y f.result f.ensures c.in_default-fate.not-Stored
     c.reply_of.result c.reply_of.ensures
 
 pub settle-requires : goal.settle-requires

@@ -29,7 +29,7 @@ returns-in_default-fate c =
     let q : AtGate a.settings (Store (length a.store.now)) p = record { gate = c.ask-asked.result; is = c.ask-asked.ensures } in
     lent_left a.settings a.a a.group a.datagram.now p a.store.now second q c.in_default.is
     c.standing-standing.result c.standing-standing.ensures c.arrival_gate-may.result c.arrival_gate-may.ensures c.in_default-may.is
-    c.judge_on-fate.result (whole c.judge_on-fate.new.words) c.judge_on-fate.ensures.value c.judge_on-fate.ensures.words_after c.in_default-fate.keys2 c.reply_of.result c.reply_of.ensures
+    c.judge_on-fate.result (whole c.judge_on-fate.new.words) c.judge_on-fate.ensures.value c.judge_on-fate.ensures.words_after c.in_default-fate.not-Stored c.reply_of.result c.reply_of.ensures
 
 pub returns : goal.returns
 returns c =

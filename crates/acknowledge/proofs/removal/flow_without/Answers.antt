@@ -18,4 +18,4 @@ pub returns-else-slot : goal.returns-else-slot
 returns-else-slot c = rw (c.in-Sent.is, c.if-slot.false)
 
 pub returns-in_default : goal.returns-in_default
-returns-in_default c = let a = c.args in flow_kept a.spot c.in_default.keys2 (slot_of a.slot) a.flow
+returns-in_default c = let a = c.args in flow_kept a.spot c.in_default.not-Sent (slot_of a.slot) a.flow
