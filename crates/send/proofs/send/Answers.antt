@@ -22,7 +22,7 @@ use Rattle.send.proofs.send.Goals as goal
 
 -- places of the code that the helpers below speak of
 abbrev AfterOpen : Type 0
-AfterOpen = lts.After-open tie.the-claims tie.handed_pre tie.handed_post goal.the-invariant-loop-j goal.the-decreases-loop-j
+AfterOpen = lts.After-open tie.the-claims tie.handed_pre tie.handed_post goal.the-invariant-loop-j goal.the-decreases-loop-j tie.handed_clauses
 
 -- where the outbox is open: the gate of every call passed, the call as it begins, the record as it was lent
 abbrev Opened : Type 0

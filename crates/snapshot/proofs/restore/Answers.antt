@@ -18,10 +18,10 @@ use Rattle.snapshot.proofs.restore.Goals as goal
 
 -- places of the code that the helpers below speak of
 abbrev Start : Type 0
-Start = lts.Start tie.the-claims tie.handed_pre tie.handed_post
+Start = lts.Start tie.the-claims tie.handed_pre tie.handed_post tie.handed_clauses
 
 abbrev Else1 : Type 0
-Else1 = lts.Else1 tie.the-claims tie.handed_pre tie.handed_post
+Else1 = lts.Else1 tie.the-claims tie.handed_pre tie.handed_post tie.handed_clauses
 
 -- what is found
 abbrev state : Start → State

@@ -16,13 +16,13 @@ use Rattle.snapshot.proofs.write.Goals as goal
 
 -- places of the code that the helpers below speak of
 abbrev Start : Type 0
-Start = lts.Start tie.the-claims tie.handed_pre tie.handed_post
+Start = lts.Start tie.the-claims tie.handed_pre tie.handed_post tie.handed_clauses
 
 abbrev AfterAsk : Type 0
-AfterAsk = lts.After-ask tie.the-claims tie.handed_pre tie.handed_post
+AfterAsk = lts.After-ask tie.the-claims tie.handed_pre tie.handed_post tie.handed_clauses
 
 abbrev AfterSize2 : Type 0
-AfterSize2 = lts.After-size2 tie.the-claims tie.handed_pre tie.handed_post
+AfterSize2 = lts.After-size2 tie.the-claims tie.handed_pre tie.handed_post tie.handed_clauses
 
 -- what is written
 abbrev state : Start → State
