@@ -27,14 +27,14 @@ returns-in-Shut c =
 pub room_in-requires : goal.room_in-requires
 room_in-requires c =
     let peer : Peer = whole c.args.words.now in
-    let asked : AtGate c.args.settings Nothing peer = let g = c.before.before.ask in record { gate = g.result; is = g.ensures } in
+    let asked : AtGate c.args.settings Nothing peer = let g = c.ask-gate in record { gate = g.result; is = g.ensures } in
     let h : sound peer ≡ true = open_sound asked c.in_default.is in
     search rules
 
 pub returns-in-Shut-may : goal.returns-in-Shut-may
 returns-in-Shut-may c =
     let peer : Peer = whole c.args.words.now in
-    let asked : AtGate c.args.settings Nothing peer = let g = c.before.before.ask in record { gate = g.result; is = g.ensures } in
+    let asked : AtGate c.args.settings Nothing peer = let g = c.ask-gate in record { gate = g.result; is = g.ensures } in
     let judged : let p = peer in c.ping_gate-may.result ≡ ping_gate p.standing (room p) =
     let p = peer in
     let free = c.room_in in
@@ -44,11 +44,11 @@ returns-in-Shut-may c =
 pub returns : goal.returns
 returns c =
     let peer : Peer = whole c.args.words.now in
-    let asked : AtGate c.args.settings Nothing peer = let g = c.before.before.ask in record { gate = g.result; is = g.ensures } in
+    let asked : AtGate c.args.settings Nothing peer = let g = c.ask-gate in record { gate = g.result; is = g.ensures } in
     let judged : let p = peer in c.ping_gate-may.result ≡ ping_gate p.standing (room p) =
     let p = peer in
     let free = c.room_in in
     c.ping_gate-may.ensures ∙ ap (λ (s : Standing). ping_gate s free.result) c.standing.ensures ∙ ap (ping_gate p.standing) free.ensures in
     lent_left c.args.settings ping_piece peer asked c.in_default.is (ping_gate peer.standing (room peer)) c.ping_gate-may.result judged (ping_some peer) c.in_default-may.is
     c.open-o.result c.open-o.new.marks c.open-o.ensures c.queue-after.result c.queue-after.new.marks (whole c.queue-after.new.words) (whole c.close.new.words)
-    c.queue-after.ensures c.close.ensures
+    (c.queue-after.ensures.out, c.queue-after.ensures.kept) c.close.ensures

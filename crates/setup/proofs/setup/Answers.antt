@@ -26,14 +26,14 @@ returns-in-Shut c =
 pub room_in-requires : goal.room_in-requires
 room_in-requires c =
     let peer : Peer = whole c.args.words.now in
-    let asked : AtGate c.args.settings Nothing peer = let g = c.before.before.ask in record { gate = g.result; is = g.ensures } in
+    let asked : AtGate c.args.settings Nothing peer = let g = c.ask-gate in record { gate = g.result; is = g.ensures } in
     let h : sound peer ≡ true = open_sound asked c.in_default.is in
     search rules
 
 pub returns-in-Shut-may : goal.returns-in-Shut-may
 returns-in-Shut-may c =
     let peer : Peer = whole c.args.words.now in
-    let asked : AtGate c.args.settings Nothing peer = let g = c.before.before.ask in record { gate = g.result; is = g.ensures } in
+    let asked : AtGate c.args.settings Nothing peer = let g = c.ask-gate in record { gate = g.result; is = g.ensures } in
     let judged : c.setup_gate-may.result ≡ setup_gate c.args.x peer.standing.channels (room peer) =
     let free = c.room_in in
     c.setup_gate-may.ensures
@@ -44,7 +44,7 @@ returns-in-Shut-may c =
 pub returns : goal.returns
 returns c =
     let peer : Peer = whole c.args.words.now in
-    let asked : AtGate c.args.settings Nothing peer = let g = c.before.before.ask in record { gate = g.result; is = g.ensures } in
+    let asked : AtGate c.args.settings Nothing peer = let g = c.ask-gate in record { gate = g.result; is = g.ensures } in
     let judged : c.setup_gate-may.result ≡ setup_gate c.args.x peer.standing.channels (room peer) =
     let free = c.room_in in
     c.setup_gate-may.ensures
@@ -52,4 +52,4 @@ returns c =
     ∙ ap (setup_gate c.args.x peer.standing.channels) free.ensures in
     lent_left c.args.settings c.args.x peer asked c.in_default.is (setup_gate c.args.x peer.standing.channels (room peer)) c.setup_gate-may.result judged (setup_some c.args.x peer) c.in_default-may.is
     c.open-o.result c.open-o.new.marks c.open-o.ensures c.queue-after.result c.queue-after.new.marks (whole c.queue-after.new.words) (whole c.close.new.words)
-    c.queue-after.ensures c.close.ensures
+    (c.queue-after.ensures.out, c.queue-after.ensures.kept) c.close.ensures
