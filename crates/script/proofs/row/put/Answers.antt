@@ -4,4 +4,4 @@ use Rattle.script.proofs.row.put.Goals as goal
 
 pub returns : goal.returns
 unfolding hashed
-returns c = rw c.mixed.ensures
+returns g c = rw c.mixed.ensures

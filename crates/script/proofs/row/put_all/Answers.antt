@@ -9,15 +9,15 @@ use Rattle.script.proofs.Laws.{all_turn, none_left}
 use Rattle.script.proofs.row.put_all.Goals as goal
 
 pub loop-i-init : goal.loop-i-init
-loop-i-init c = (search rules, refl)
+loop-i-init g c = (search rules, refl)
 
 pub loop-i-preserved : goal.loop-i-preserved
-loop-i-preserved c =
+loop-i-preserved g c =
     let xs = c.args.numbers.now in
     let h = c.loop-i-test.true in
-    (omega arith, c.loop-i.invariant.1 ∙ all_turn c.loop-i.after c.put-after.result xs c.loop-i.i c.put-after.ensures (omega arith))
+    (omega arith, c.loop-i.invariant.1 ∙ all_turn c.loop-i.after c.in_ok-after.after xs c.loop-i.i c.in_ok-after.ensures (omega arith))
 
 pub returns : goal.returns
-returns c =
+returns g c =
     let xs = c.args.numbers.now in
     sym (c.loop-i.invariant.1 ∙ none_left c.loop-i.after (drop c.loop-i.i xs) (rest_end xs c.loop-i.i (omega arith)))
