@@ -1,8 +1,6 @@
 -- A group against the window, on the groups: what `window` answers is the rule's case; and what is stored is stored in a free slot.
 -- The argument: by the window's tests in their order; an answer tells a verdict that takes the group from the others.
 use Rattle.std.proofs.Common.{◌≡◌, ℕ, Bool, true, false, eqb, leb, List, [], ◌∷◌, get_or, sym, refl, ap, ◌∙◌, arith}
-use denote.Enum.Declared.{tag_of}
-use types.Run.{OneOf, miss}
 use Rattle.numbers.specs.Pick.{pick}
 use Rattle.numbers.specs.Answers.{Answer, done, numbers_of}
 use Rattle.numbers.specs.declared.counters.Group.{Group}
@@ -10,7 +8,6 @@ use Rattle.window.specs.Window.{distant, first, marked, cleared, answer_of, Judg
 use Rattle.window.specs.declared.Judged as window
 use Rattle.window.specs.declared.Verdict.{Verdict}
 use Rattle.window.specs.declared.Verdict.TheVariants.{Distant, Marked, Taken}
-use Rattle.window.specs.contracts.Verdict.{the_type}
 use Rattle.record.specs.declared.groups.Unsequenced.{Unsequenced}
 use Rattle.cells.specs.declared.Free.{Free}
 use Rattle.cells.specs.declared.Free.TheVariants.{Lowest, Full}
@@ -26,14 +23,11 @@ use Rattle.arrival.specs.declared.Judged.{Judged}
 abbrev tells : Answer → ℕ
 tells a = get_or (numbers_of a) 0 0
 
--- the verdicts that pass it over, by their places in the enum
-abbrev others : List ℕ
-others = 0 ∷ 1 ∷ []
-
-pub passes : (v : Verdict) → OneOf others (tag_of the_type v) → tells (answer_of v) ≡ 0
+-- every other verdict passes it over
+pub passes : (v : Verdict) → (v ≡ Taken → ⊥) → tells (answer_of v) ≡ 0
 passes Distant k = refl
 passes Marked k = refl
-passes Taken k = absurd (miss others 2 tt k)
+passes Taken k = absurd (k refl)
 
 -- w is what the window answered
 module _ (g : Unsequenced) (group : Group) (room : Fate) (w : window.Judged) (j : Judges g.incoming g.words group w) where
@@ -66,7 +60,7 @@ module _ (g : Unsequenced) (group : Group) (room : Fate) (w : window.Judged) (j 
       go false true false p q a = taken g.incoming g.words p q
       go false false m p q a = taken (record { 0 = first group.0 }) cleared p q
 
-  pub judged_passed : OneOf others (tag_of the_type w.verdict) → passed_by g ≡ judge_window g group room
+  pub judged_passed : (w.verdict ≡ Taken → ⊥) → passed_by g ≡ judge_window g group room
   judged_passed k = go far here again (sym (ap tells j.answer) ∙ passes w.verdict k)
     where
       go : (far here again : Bool)

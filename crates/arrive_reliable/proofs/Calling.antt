@@ -1,8 +1,6 @@
 -- The reliable arrival comes out as the rule says: refused by either gate, left by its fate, or stored. The argument: each part that the code
 -- makes is given by its equation, so the state made of them is the rule's; past 6 the channel exists, and what is stored has a slot that exists.
 use Rattle.std.proofs.Common.{◌≡◌, ℕ, ◌<◌, Bool, true, false, List, [], ◌∷◌, length, set, sym, refl, ap, ◌∙◌, arith}
-use denote.Enum.Declared.{tag_of}
-use types.Run.{OneOf, miss}
 use Rattle.numbers.specs.declared.refusals.Refusal.{Refusal}
 use Rattle.cells.specs.declared.Free.{Free}
 use Rattle.cells.proofs.Lowest.{lowest_exists}
@@ -31,15 +29,14 @@ use Rattle.arrival.specs.declared.Reply.{Reply}
 use Rattle.arrival.specs.declared.Reply.TheVariants as reply
 use Rattle.arrival.specs.declared.Fate.{Fate}
 use Rattle.arrival.specs.declared.Fate.TheVariants as fate
-use Rattle.arrival.specs.contracts.Fate.{the_type}
 use Rattle.arrival.proofs.Admitted.{admitted}
 use Rattle.arrival.proofs.Laws.{room_stored}
 use Rattle.arrive_reliable.specs.Holding.{is_passed, held_with}
 use Rattle.arrive_reliable.specs.Calls.{send_reliable, channel_of, dispatched_with, reliable_after, fate_of, fate_on, reliable_sound, arrives_reliable}
 
--- the fates that leave record and store, by their places in the enum
-abbrev pub others : List ℕ
-others = 0 ∷ 1 ∷ []
+-- a fate that leaves record and store
+abbrev pub Leaves : Fate → Type 0
+Leaves f = (n : ℕ) → f ≡ fate.Stored n → ⊥
 
 -- what is stored was not passed over
 pub room_of_lem : (passed : Bool) (room : Fate) (n : ℕ) → fate_of passed room ≡ fate.Stored n → room ≡ fate.Stored n
@@ -94,13 +91,13 @@ module _ (s : Settings) (a : Arrival) (datagram : List ℕ) (p : Peer) (store se
         went : (r : Reply) (y : State) → Came answer_of (by f) r y → Came answer_of outcome r y
         went r y c = came r y (rw may (rw fate_is at c))
 
-        pub arrive_left : OneOf others (tag_of the_type f) → (r : Reply) → r ≡ reply_of f → Came answer_of outcome r found
+        pub arrive_left : Leaves f → (r : Reply) → r ≡ reply_of f → Came answer_of outcome r found
         arrive_left k r q = went r found (record { answer = ap answer_of q; after = go f k })
           where
-            go : (f : Fate) → OneOf others (tag_of the_type f) → found ≡ reliable_after f a datagram found
+            go : (f : Fate) → Leaves f → found ≡ reliable_after f a datagram found
             go fate.Passed k = refl
             go fate.NoRoom k = refl
-            go (fate.Stored n) k = absurd (miss others 2 tt k)
+            go (fate.Stored n) k = absurd (k n refl)
 
         module _ (n : ℕ) (t : f ≡ fate.Stored n) where
           pub slot_exists : n < incoming

@@ -1,8 +1,6 @@
 -- The reliable arrival on the lent record comes out as the rule says. The argument: what the code reads of the record is the record's, so the laws of
 -- Calling hold of it; the changes one after the other are the rule's record, the channel altered twice being altered once.
 use Rattle.std.proofs.Common.{◌≡◌, ℕ, ◌<◌, Bool, List, length, set, sym, refl, ap, ◌∙◌, subst, get_or-set_same, set-set}
-use denote.Enum.Declared.{tag_of}
-use types.Run.{OneOf}
 use Rattle.numbers.specs.declared.refusals.Refusal.{Refusal}
 use Rattle.cells.specs.declared.Free.{Free}
 use Rattle.record.specs.Sizes.{channels}
@@ -29,11 +27,10 @@ use Rattle.arrival.specs.declared.Reply.{Reply}
 use Rattle.arrival.specs.declared.Reply.TheVariants as reply
 use Rattle.arrival.specs.declared.Fate.{Fate}
 use Rattle.arrival.specs.declared.Fate.TheVariants as fate
-use Rattle.arrival.specs.contracts.Fate.{the_type}
 use Rattle.arrive_reliable.specs.Holding.{is_passed, held_with}
 use Rattle.arrive_reliable.specs.Calls.{send_reliable, channel_of, fate_of, fate_on, arrives_reliable}
 use Rattle.arrive_reliable.specs.CodeSettling.{settled_on}
-use Rattle.arrive_reliable.proofs.Calling.{others, arrive_shut, arrive_refused, channel_exists, arrive_left, arrive_stored}
+use Rattle.arrive_reliable.proofs.Calling.{Leaves, arrive_shut, arrive_refused, channel_exists, arrive_left, arrive_stored}
 
 -- what becomes of it, by what was read of the record
 pub fate_read : (s : Settings) (a : Arrival) (p : Peer) (standing : Standing) (waiting : Waiting) (free : Free) (room : Fate) (passed : Bool) (f : Fate)
@@ -96,7 +93,7 @@ module _ (s : Settings) (a : Arrival) (datagram : List ℕ) (p : Peer) (store se
         abbrev passed : Bool
         passed = is_passed p.incoming (channel_of a p) a.number.0
 
-        pub lent_left : OneOf others (tag_of the_type f) → (r : Reply) → r ≡ reply_of f → Came answer_of outcome r found
+        pub lent_left : Leaves f → (r : Reply) → r ≡ reply_of f → Came answer_of outcome r found
         lent_left k r q =
             arrive_left s a datagram p store second g opens m same may free refl room refl (channel_of a p) refl passed refl f w k r q
 

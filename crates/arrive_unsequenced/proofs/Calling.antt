@@ -4,8 +4,6 @@ use Prim.Native.Nat.{ℕ, ◌<◌}
 use mathlib.Core.Path.{◌≡◌, refl, ap, sym, ◌∙◌}
 use mathlib.Core.List.{List, [], ◌∷◌}
 use lib.ListN.{length, set}
-use denote.Enum.Declared.{tag_of}
-use types.Run.{OneOf, miss}
 use Rattle.numbers.specs.declared.counters.Group.{Group}
 use Rattle.numbers.specs.declared.refusals.Refusal.{Refusal}
 use Rattle.cells.specs.declared.Free.{Free}
@@ -33,13 +31,12 @@ use Rattle.arrival.specs.declared.Reply.TheVariants as reply
 use Rattle.arrival.specs.declared.Fate.{Fate}
 use Rattle.arrival.specs.declared.Fate.TheVariants as fate
 use Rattle.arrival.specs.declared.Judged.{Judged}
-use Rattle.arrival.specs.contracts.Fate.{the_type}
 use Rattle.arrival.proofs.Laws.{judged_stored, room_stored}
 use Rattle.arrive_unsequenced.specs.Calls.{send_unsequenced, regrouped, unsequenced_after, judged_on, unsequenced_sound, arrives_unsequenced}
 
--- the fates that leave the store, by their places in the enum
-abbrev pub others : List ℕ
-others = 0 ∷ 1 ∷ []
+-- a fate that leaves the store
+abbrev pub Leaves : Fate → Type 0
+Leaves f = (n : ℕ) → f ≡ fate.Stored n → ⊥
 
 -- ws and g are what the code answered
 module _ (s : Settings) (a : Arrival) (group : Group) (datagram : List ℕ) (p : Peer) (store second : List ℕ)
@@ -77,14 +74,14 @@ module _ (s : Settings) (a : Arrival) (group : Group) (datagram : List ℕ) (p :
       went : (r : Reply) (y : State) → Came answer_of (by j) r y → Came answer_of outcome r y
       went r y c = came r y (rw may (rw judged_is at c))
 
-      pub arrive_left : OneOf others (tag_of the_type j.fate) → (r : Reply) → r ≡ reply_of j.fate
+      pub arrive_left : Leaves j.fate → (r : Reply) → r ≡ reply_of j.fate
           → Came answer_of outcome r (regrouped found j.unsequenced)
       arrive_left k r q = went r (regrouped found j.unsequenced) (record { answer = ap answer_of q; after = go j.fate k })
         where
-          go : (f : Fate) → OneOf others (tag_of the_type f) → regrouped found j.unsequenced ≡ unsequenced_after f j.unsequenced a datagram found
+          go : (f : Fate) → Leaves f → regrouped found j.unsequenced ≡ unsequenced_after f j.unsequenced a datagram found
           go fate.Passed k = refl
           go fate.NoRoom k = refl
-          go (fate.Stored n) k = absurd (miss others 2 tt k)
+          go (fate.Stored n) k = absurd (k n refl)
 
       module _ (n : ℕ) (t : j.fate ≡ fate.Stored n) where
         pub slot_exists : n < incoming

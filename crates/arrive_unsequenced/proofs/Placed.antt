@@ -4,8 +4,6 @@ use Prim.Native.Nat.{ℕ}
 use mathlib.Core.Path.{◌≡◌, refl, ap, sym, subst, ◌∙◌}
 use mathlib.Core.List.{List}
 use lib.ListN.{length, set}
-use denote.Enum.Declared.{tag_of}
-use types.Run.{OneOf}
 use Rattle.numbers.specs.declared.counters.Group.{Group}
 use Rattle.numbers.specs.declared.refusals.Refusal.{Refusal}
 use Rattle.cells.specs.declared.Free.{Free}
@@ -33,9 +31,8 @@ use Rattle.arrival.specs.declared.Reply.TheVariants as reply
 use Rattle.arrival.specs.declared.Fate.{Fate}
 use Rattle.arrival.specs.declared.Fate.TheVariants as fate
 use Rattle.arrival.specs.declared.Judged.{Judged}
-use Rattle.arrival.specs.contracts.Fate.{the_type}
 use Rattle.arrive_unsequenced.specs.Calls.{send_unsequenced, judged_on, arrives_unsequenced}
-use Rattle.arrive_unsequenced.proofs.Calling.{others, arrive_refused, arrive_left, arrive_stored}
+use Rattle.arrive_unsequenced.proofs.Calling.{Leaves, arrive_refused, arrive_left, arrive_stored}
 
 -- what judges: each part is what its reader answered, q is the record after the groups were written
 pub judged_lent : (s : Settings) (group : Group) (p q : Peer) (free : Free) (standing : Standing) (waiting : Waiting) (room : Fate) (unsequenced : Unsequenced) (j : Judged)
@@ -79,11 +76,11 @@ module _ (s : Settings) (a : Arrival) (group : Group) (datagram : List ℕ) (p :
 
   -- f and q are what judged it answered and left
   module _ (may : m ≡ Open) (f : Fate) (q : Peer) (t : f ≡ (judged_on s group p).fate) (r : q ≡ with_unsequenced p (judged_on s group p).unsequenced) where
-    pub lent_left : OneOf others (tag_of the_type f) → (y : Reply) → y ≡ reply_of f → Comes y q store
+    pub lent_left : Leaves f → (y : Reply) → y ≡ reply_of f → Comes y q store
     lent_left k y z =
         subst (λ (x : Peer). Comes y x store) (sym r)
         (arrive_left s a group datagram p store second g opens m may_is may (free_slot p.lists p.channels p.standing.channels) refl
-        (room_of s p) refl (judged_on s group p) refl (subst (λ (x : Fate). OneOf others (tag_of the_type x)) t k) y (z ∙ ap reply_of t))
+        (room_of s p) refl (judged_on s group p) refl (subst Leaves t k) y (z ∙ ap reply_of t))
 
     pub lent_stored : (n : ℕ) → f ≡ fate.Stored n → (z : Peer) (cells : List ℕ)
         → z ≡ with_arrival q (delivered q.lists n) q.unsequenced (awaiting q.waiting a.length) q.channels (set q.incoming n (arrived_slot a))

@@ -18,8 +18,7 @@ returns-in-Shut c =
     let a = c.args in
     let p = whole a.words.now in
     let q : AtGate a.settings Nothing p = record { gate = k.result; is = k.ensures } in
-    let s = c.gate-1.given in
-    came_shut q p (acknowledges_sound a.channel a.number.0 a.sent a.clock p) answer_of (vr.Refused s.0.0) s.0.0 refl s.1
+    came_shut q p (acknowledges_sound a.channel a.number.0 a.sent a.clock p) answer_of (vr.Refused c.in-Shut.why) c.in-Shut.why refl c.in-Shut.is
 
 pub returns-in_default-trip : goal.returns-in_default-trip
 returns-in_default-trip c =
@@ -40,10 +39,9 @@ returns c =
     let q : AtGate a.settings Nothing p = record { gate = k.result; is = k.ensures } in
     let s = c.standing-standing in
     let t = c.heard_in-trip in
-    let z = c.trip-1.given in
     let sent = look_of true a.number.0 a.channel in
     let queued = look_of false a.number.0 a.channel in
     heard_by a.settings a.channel a.number.0 a.sent a.clock p q c.in_default.is
-    t.result (trip_is p s.result s.ensures a.clock a.sent t.result t.ensures) z.0.0 z.1 (map sent p.outgoing)
+    t.result (trip_is p s.result s.ensures a.clock a.sent t.result t.ensures) c.in-Taken.sample c.in-Taken.is (map sent p.outgoing)
     (map queued p.outgoing) (length-map p.outgoing sent ∙ pool_size a.words.now) (spot_in p.outgoing a.number.0 a.channel p.lists) refl refl refl
     c.heard.result (whole c.heard.new.words) c.heard.ensures

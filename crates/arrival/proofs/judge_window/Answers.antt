@@ -10,4 +10,4 @@ returns-in-Taken c =
 pub returns : goal.returns
 returns c =
     let a = c.args in
-    judged_passed a.unsequenced a.group a.room c.judge-seen.result c.judge-seen.ensures c.in_default.keys2
+    judged_passed a.unsequenced a.group a.room c.judge-seen.result c.judge-seen.ensures c.in_default.not-Taken

@@ -8,8 +8,7 @@ pub returns-in-Shut : goal.returns-in-Shut
 returns-in-Shut c =
     let k = c.ask-asked in
     let a = c.args in
-    let x = c.asked-1.given in
-    arrive_shut a.settings a.a a.datagram.now (whole a.words.now) a.store.now a.second.now (record { gate = k.result; is = k.ensures }) x.0.0 x.1
+    arrive_shut a.settings a.a a.datagram.now (whole a.words.now) a.store.now a.second.now (record { gate = k.result; is = k.ensures }) c.in-Shut.why c.in-Shut.is
 
 pub returns-in-Shut-may : goal.returns-in-Shut-may
 returns-in-Shut-may c =
@@ -19,9 +18,8 @@ returns-in-Shut-may c =
     let o = c.in_default.is in
     let k = c.ask-asked in
     let a = c.args in
-    let x = c.may-1.given in
     arrive_refused a.settings a.a a.datagram.now (whole a.words.now) a.store.now a.second.now (record { gate = k.result; is = k.ensures }) o
-    t.result t.ensures w.result w.ensures m.result m.ensures x.0.0 x.1
+    t.result t.ensures w.result w.ensures m.result m.ensures c.in-Shut-may.why c.in-Shut-may.is
 
 pub fate_on-fate-requires : goal.fate_on-fate-requires
 fate_on-fate-requires c =

@@ -21,6 +21,5 @@ pub returns-in-Slot : goal.returns-in-Slot
 returns-in-Slot c =
     let standing = c.standing-standing in
     let a = c.args in
-    let k = c.block-1.given in
     fate_by_lem a.settings a.a (whole a.words.now) standing.result standing.ensures c.if-standing-eq-DISCONNECT_LATER.false
-    c.unfinished-block.result (Slot k.0.0) c.unfinished-block.ensures k.1 c.later_fate.result c.later_fate.ensures
+    c.unfinished-block.result (Slot c.in-Slot.s) c.unfinished-block.ensures c.in-Slot.is c.later_fate.result c.later_fate.ensures

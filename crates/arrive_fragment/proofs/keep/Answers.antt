@@ -16,12 +16,10 @@ pub returns-in-First : goal.returns-in-First
 returns-in-First c =
     let a = c.args in
     let b = c.begin in
-    let n = c.fate-1.given in
-    kept_first a.a a.datagram.now (whole a.words.now) (whole b.new.words) store a.second.now b.new.second a.fate n.0.0 n.1 b.ensures.words_after b.ensures.second_after
+    kept_first a.a a.datagram.now (whole a.words.now) (whole b.new.words) store a.second.now b.new.second a.fate c.in-First.s c.in-First.is b.ensures.words_after b.ensures.second_after
 
 pub returns-in-Later : goal.returns-in-Later
 returns-in-Later c =
     let a = c.args in
     let b = c.add in
-    let n = c.fate-in-Later-1.given in
-    kept_later a.a a.datagram.now (whole a.words.now) (whole b.new.words) store a.second.now b.new.second a.fate n.0.0 n.1 b.ensures.words_after b.ensures.second_after
+    kept_later a.a a.datagram.now (whole a.words.now) (whole b.new.words) store a.second.now b.new.second a.fate c.in-Later.s c.in-Later.is b.ensures.words_after b.ensures.second_after

@@ -8,8 +8,7 @@ pub returns-in-Shut : goal.returns-in-Shut
 returns-in-Shut c =
     let k = c.ask-asked in
     let a = c.args in
-    let x = c.asked-1.given in
-    lent_shut a.settings a.a a.datagram.now (whole a.words.now) a.store.now second (record { gate = k.result; is = k.ensures }) x.0.0 x.1
+    lent_shut a.settings a.a a.datagram.now (whole a.words.now) a.store.now second (record { gate = k.result; is = k.ensures }) c.in-Shut.why c.in-Shut.is
 
 pub returns-in-Shut-may : goal.returns-in-Shut-may
 returns-in-Shut-may c =
@@ -18,8 +17,7 @@ returns-in-Shut-may c =
     let o = c.in_default.is in
     let k = c.ask-asked in
     let a = c.args in
-    let x = c.may-1.given in
-    lent_refused a.settings a.a a.datagram.now (whole a.words.now) a.store.now second (record { gate = k.result; is = k.ensures }) o t.result t.ensures m.result m.ensures x.0.0 x.1
+    lent_refused a.settings a.a a.datagram.now (whole a.words.now) a.store.now second (record { gate = k.result; is = k.ensures }) o t.result t.ensures m.result m.ensures c.in-Shut-may.why c.in-Shut-may.is
 
 pub fate_on-fate-requires : goal.fate_on-fate-requires
 fate_on-fate-requires c =
@@ -40,7 +38,7 @@ returns-in_default-fate c =
     let o = c.in_default.is in
     let k = c.ask-asked in
     let a = c.args in
-    lent_left a.settings a.a a.datagram.now (whole a.words.now) a.store.now second (record { gate = k.result; is = k.ensures }) o t.result t.ensures m.result m.ensures y f.result f.ensures c.in_default-fate.keys2
+    lent_left a.settings a.a a.datagram.now (whole a.words.now) a.store.now second (record { gate = k.result; is = k.ensures }) o t.result t.ensures m.result m.ensures y f.result f.ensures c.in_default-fate.not-Stored
     c.reply_of.result c.reply_of.ensures
 
 pub settle-requires : goal.settle-requires
@@ -62,8 +60,7 @@ returns c =
     let o = c.in_default.is in
     let k = c.ask-asked in
     let a = c.args in
-    let n = c.fate-1.given in
     let w = c.waiting-before in
     let z = c.keep-kept in
-    lent_stored a.settings a.a a.datagram.now (whole a.words.now) a.store.now second (record { gate = k.result; is = k.ensures }) o t.result t.ensures m.result m.ensures y f.result f.ensures n.0.0 n.1
+    lent_stored a.settings a.a a.datagram.now (whole a.words.now) a.store.now second (record { gate = k.result; is = k.ensures }) o t.result t.ensures m.result m.ensures y f.result f.ensures c.in-Stored.s c.in-Stored.is
     z.result.slot w.result z.result.waiting z.new.store (whole c.settle.new.words) z.ensures.slot_value w.ensures z.ensures.waiting_value z.ensures.store_after c.settle.ensures

@@ -12,17 +12,15 @@ returns-in-Shut c =
     let a = c.args in
     let p = whole a.words.now in
     let q : AtGate a.settings (Store (length a.store.now)) p = record { gate = c.ask-asked.result; is = c.ask-asked.ensures } in
-    let k = c.asked-1.given in
-    arrive_shut a.settings a.a a.group a.datagram.now p a.store.now second q k.0.0 k.1
+    arrive_shut a.settings a.a a.group a.datagram.now p a.store.now second q c.in-Shut.why c.in-Shut.is
 
 pub returns-in-Shut-may : goal.returns-in-Shut-may
 returns-in-Shut-may c =
     let a = c.args in
     let p = whole a.words.now in
     let q : AtGate a.settings (Store (length a.store.now)) p = record { gate = c.ask-asked.result; is = c.ask-asked.ensures } in
-    let k = c.may-1.given in
     lent_refused a.settings a.a a.group a.datagram.now p a.store.now second q c.in_default.is
-    c.standing-standing.result c.standing-standing.ensures c.arrival_gate-may.result c.arrival_gate-may.ensures k.0.0 k.1
+    c.standing-standing.result c.standing-standing.ensures c.arrival_gate-may.result c.arrival_gate-may.ensures c.in-Shut-may.why c.in-Shut-may.is
 
 pub returns-in_default-fate : goal.returns-in_default-fate
 returns-in_default-fate c =
@@ -31,7 +29,7 @@ returns-in_default-fate c =
     let q : AtGate a.settings (Store (length a.store.now)) p = record { gate = c.ask-asked.result; is = c.ask-asked.ensures } in
     lent_left a.settings a.a a.group a.datagram.now p a.store.now second q c.in_default.is
     c.standing-standing.result c.standing-standing.ensures c.arrival_gate-may.result c.arrival_gate-may.ensures c.in_default-may.is
-    c.judge_on-fate.result (whole c.judge_on-fate.new.words) c.judge_on-fate.ensures.value c.judge_on-fate.ensures.words_after c.in_default-fate.keys2 c.reply_of.result c.reply_of.ensures
+    c.judge_on-fate.result (whole c.judge_on-fate.new.words) c.judge_on-fate.ensures.value c.judge_on-fate.ensures.words_after c.in_default-fate.not-Stored c.reply_of.result c.reply_of.ensures
 
 pub returns : goal.returns
 returns c =

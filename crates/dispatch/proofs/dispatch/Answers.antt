@@ -20,8 +20,7 @@ returns-in-Shut c =
     let a = c.args in
     let p = whole a.words.now in
     let q : AtGate a.settings Nothing p = record { gate = k.result; is = k.ensures } in
-    let s = c.asked-1.given in
-    came_shut q p (dispatches_sound a.channel p) answer_of (Refused s.0.0) s.0.0 refl s.1
+    came_shut q p (dispatches_sound a.channel p) answer_of (Refused c.in-Shut.why) c.in-Shut.why refl c.in-Shut.is
 
 pub returns-then-standing-channel : goal.returns-then-standing-channel
 returns-then-standing-channel c =

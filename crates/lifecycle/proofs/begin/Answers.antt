@@ -21,8 +21,7 @@ returns-in-Shut c =
     let p = whole a.words.now in
     let g = c.ask-asked in
     let asked : AtGate a.settings Nothing p = record { gate = g.result; is = g.ensures } in
-    let k = c.asked-1.given in
-    came_shut asked p (begins_sound a.mtu a.count p) answer_of _ k.0.0 refl k.1
+    came_shut asked p (begins_sound a.mtu a.count p) answer_of _ c.in-Shut.why refl c.in-Shut.is
 
 pub returns-then-not-begin_fits : goal.returns-then-not-begin_fits
 returns-then-not-begin_fits c =
@@ -39,10 +38,10 @@ returns c =
     let p = whole a.words.now in
     let asked : AtGate a.settings Nothing p = record { gate = c.ask-asked.result; is = c.ask-asked.ensures } in
     let l : length c.put_flow.new.words ≡ 1236 = search rules in
-    let n : c.standing-standing.result.channels ≡ p.standing.channels = ap (λ (c : Standing). c.channels) c.standing-standing.ensures in
+    let n : c.standing-standing.result.channels ≡ p.standing.channels = ap (λ (s : Standing). s.channels) c.standing-standing.ensures in
     let may = ap (begin_fits a.mtu a.count) (sym n) ∙ sym c.begin_fits.ensures ∙ not-false _ c.if-not-begin_fits.false-raw in
     let done = begins_by a.mtu a.count p (whole c.put_standing.new.words) (whole c.put_flow.new.words) (whole c.clear.new.words)
-    (c.put_standing.ensures ∙ ap (λ (c : Standing). with_standing p (with_count c a.count)) c.standing-standing.ensures)
-    (c.put_flow.ensures ∙ ap (λ (c : Flow). with_flow (whole c.put_standing.new.words) (with_mtu c a.mtu)) c.flow-flow.ensures)
+    (c.put_standing.ensures ∙ ap (λ (s : Standing). with_standing p (with_count s a.count)) c.standing-standing.ensures)
+    (c.put_flow.ensures ∙ ap (λ (f : Flow). with_flow (whole c.put_standing.new.words) (with_mtu f a.mtu)) c.flow-flow.ensures)
     (ap whole c.clear.ensures ∙ cleared_channels c.put_flow.new.words l) in
     came_open asked p (begins_sound a.mtu a.count p) answer_of _ _ c.in_default.is (record { answer = rw may; after = rw may done })

@@ -17,8 +17,7 @@ returns-in-Shut c =
     let p = whole a.words.now in
     let g = c.ask-asked in
     let asked : AtGate a.settings Nothing p = record { gate = g.result; is = g.ensures } in
-    let k = c.asked-1.given in
-    came_shut asked p (sets_state_sound a.state p) answer_of _ k.0.0 refl k.1
+    came_shut asked p (sets_state_sound a.state p) answer_of _ c.in-Shut.why refl c.in-Shut.is
 
 pub returns-then-state-gt-ZOMBIE : goal.returns-then-state-gt-ZOMBIE
 returns-then-state-gt-ZOMBIE c =

@@ -10,7 +10,7 @@ use Rattle.outbox.proofs.room_in.Goals as goal
 
 -- places of the code that the helpers below speak of
 abbrev AfterCount3 : Type 0
-AfterCount3 = lts.After-count3 tie.the-claims tie.handed_pre tie.handed_post
+AfterCount3 = lts.After-count3 tie.the-claims tie.handed_pre tie.handed_post tie.handed_clauses
 
 abbrev free : AfterCount3 → ℕ
 free c = room_in (whole c.args.words.now).lists

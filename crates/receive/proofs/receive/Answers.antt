@@ -11,8 +11,7 @@ pub returns-in-Shut : goal.returns-in-Shut
 returns-in-Shut c =
     let p = whole c.args.words.now in
     let a : AtGate c.args.settings Nothing p = record { gate = c.ask-asked.result; is = c.ask-asked.ensures } in
-    let k = c.asked-1.given in
-    came_shut a p (receives_sound p) answer_of _ k.0.0 refl k.1
+    came_shut a p (receives_sound p) answer_of _ c.in-Shut.why refl c.in-Shut.is
 
 pub returns-in_default-first : goal.returns-in_default-first
 returns-in_default-first c =

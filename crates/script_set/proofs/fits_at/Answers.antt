@@ -5,4 +5,4 @@ use Rattle.script_set.specs.Setting.{fits}
 use Rattle.script_set.proofs.fits_at.Goals as goal
 
 pub returns : goal.returns
-returns c = c.fits2.ensures ∙ ap (λ (e : Place). fits e c.args.x) c.place_at.ensures
+returns c = c.fits.ensures ∙ ap (λ (e : Place). fits e c.args.x) c.place_at.ensures

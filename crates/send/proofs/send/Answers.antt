@@ -42,12 +42,11 @@ good c = open_sound (asked c) c.in_default.is
 
 pub returns-in-Shut : goal.returns-in-Shut
 returns-in-Shut c =
-    let k = c.gate-1.given in
     let g = c.ask-gate in
     let a = c.args in
     let p = whole a.words.now in
     let b : AtGate a.settings Nothing p = record { gate = g.result; is = g.ensures } in
-    came_shut b p (sends_sound a.settings a.channel a.length a.flags p) answer_of _ k.0.0 refl k.1
+    came_shut b p (sends_sound a.settings a.channel a.length a.flags p) answer_of _ c.in-Shut.why refl c.in-Shut.is
 
 pub packet_of-packet-requires : goal.packet_of-packet-requires
 packet_of-packet-requires c =
@@ -61,10 +60,9 @@ plan_gate-room-requires c =
 
 pub returns-in-Shut-room : goal.returns-in-Shut-room
 returns-in-Shut-room c =
-    let k = c.room-1.given in
     let a = c.args in
     lent_shut a.settings a.channel a.length a.flags (peer c.before.before.before.before.before.before.before.before.before.before.before.before.before) (asked c.before.before.before.before.before.before.before.before.before.before.before.before.before) c.in_default.is c.open-o.result (named c.before.before.before.before.before.before.before.before.before.before.before.before.before) c.open-o.ensures
-    c.packet_of-packet.result c.packet_of-packet.ensures c.count_of-count.result c.count_of-count.ensures c.plan_gate-room.result c.plan_gate-room.ensures k.0.0 k.1
+    c.packet_of-packet.result c.packet_of-packet.ensures c.count_of-count.result c.count_of-count.ensures c.plan_gate-room.result c.plan_gate-room.ensures c.in-Shut-room.why c.in-Shut-room.is
 
 pub loop-j-init : goal.loop-j-init
 loop-j-init c =

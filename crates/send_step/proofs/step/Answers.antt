@@ -19,8 +19,7 @@ returns-in-Shut c =
     let a = c.args in
     let p = whole a.words.now in
     let q : AtGate a.settings Nothing p = record { gate = k.result; is = k.ensures } in
-    let s = c.gate-1.given in
-    record { came = came_shut q p (steps_sound a.q a.time p) answer_of (vr.Refused s.0.0) s.0.0 refl s.1; named = tt }
+    record { came = came_shut q p (steps_sound a.q a.time p) answer_of (vr.Refused c.in-Shut.why) c.in-Shut.why refl c.in-Shut.is; named = tt }
 
 pub returns-in_default-first : goal.returns-in_default-first
 returns-in_default-first c =
@@ -42,17 +41,16 @@ returns c =
     let q : AtGate a.settings Nothing p = record { gate = k.result; is = k.ensures } in
     let opens = c.in_default.is in
     let f = c.first_of-first in
-    let s = c.first-1.given in
     let o = c.attempt-o in
     let z = o.result in
     let done =
     stepped p (whole o.new.words) (whole c.count.new.words) (whole c.time.new.words) (whole c.carry.new.words)
-    (whole c.move_on.new.words) a.q s.0.0 z o.ensures.kept c.count.ensures c.time.ensures c.carry.ensures
+    (whole c.move_on.new.words) a.q c.in-Slot.s z o.ensures.kept c.count.ensures c.time.ensures c.carry.ensures
     c.move_on.ensures in record {
       came = subst (λ (y : Peer). Came answer_of (steps a.settings a.q a.time p) (vr.Head z) y) (sym done)
-          (step_slot a.settings a.q a.time p q opens f.result f.ensures s.0.0 s.1 z
+          (step_slot a.settings a.q a.time p q opens f.result f.ensures c.in-Slot.s c.in-Slot.is z
           o.ensures.out (times_sent p.times (out_items p.lists.sent) z) (packet_sent p.loss) (flow_sent p.flow z)
-          (lists_sent a.q p.lists s.0.0 z) refl refl refl refl);
-      named = step_named a.settings a.q a.time p q opens f.result f.ensures s.0.0 s.1 z
+          (lists_sent a.q p.lists c.in-Slot.s z) refl refl refl refl);
+      named = step_named a.settings a.q a.time p q opens f.result f.ensures c.in-Slot.s c.in-Slot.is z
           o.ensures.out;
     }

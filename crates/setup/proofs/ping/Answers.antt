@@ -39,12 +39,11 @@ judged c =
 
 pub returns-in-Shut : goal.returns-in-Shut
 returns-in-Shut c =
-    let k = c.gate-1.given in
     let g = c.ask-gate in
     let a = c.args in
     let p = whole a.words.now in
     let b : AtGate a.settings Nothing p = record { gate = g.result; is = g.ensures } in
-    came_shut b p (pings_sound p) answer_of _ k.0.0 refl k.1
+    came_shut b p (pings_sound p) answer_of _ c.in-Shut.why refl c.in-Shut.is
 
 pub room_in-requires : goal.room_in-requires
 room_in-requires c =
@@ -53,8 +52,7 @@ room_in-requires c =
 
 pub returns-in-Shut-may : goal.returns-in-Shut-may
 returns-in-Shut-may c =
-    let k = c.may-1.given in
-    one_shut c.args.settings ping_piece (peer c.before.before.before.before.before.before.before.before.before.before.before) (asked c.before.before.before.before.before.before.before.before.before.before.before) c.in_default.is (ping_gate (peer c.before.before.before.before.before.before.before.before.before.before.before).standing (room (peer c.before.before.before.before.before.before.before.before.before.before.before))) c.ping_gate-may.result (judged c.before.before.before.before) k.0.0 k.1
+    one_shut c.args.settings ping_piece (peer c.before.before.before.before.before.before.before.before.before.before.before) (asked c.before.before.before.before.before.before.before.before.before.before.before) c.in_default.is (ping_gate (peer c.before.before.before.before.before.before.before.before.before.before.before).standing (room (peer c.before.before.before.before.before.before.before.before.before.before.before))) c.ping_gate-may.result (judged c.before.before.before.before) c.in-Shut-may.why c.in-Shut-may.is
 
 pub returns : goal.returns
 returns c =

@@ -14,7 +14,7 @@ use Rattle.snapshot.proofs.parse.Goals as goal
 
 -- places of the code that the helpers below speak of
 abbrev AfterRead : Type 0
-AfterRead = lts.After-read tie.the-claims tie.handed_pre tie.handed_post
+AfterRead = lts.After-read tie.the-claims tie.handed_pre tie.handed_post tie.handed_clauses
 
 -- the bytes, and what was read of them behind the edition, from zeros
 abbrev bytes_of : AfterRead → List ℕ
@@ -44,11 +44,7 @@ overflow_sub-bytes c =
     omega (arith, ap end_of c.in-Read-read.is, c.read.ensures.inside)
 
 pub returns-then-bytes-end : goal.returns-then-bytes-end
-returns-then-bytes-end c =
-    let f = c.end-in-Read-read-1.given in
-    let b = c.begin in record { snapshot = bytes_other (bytes_of c.before.before.before.before.before.before.before.before) b.result b.ensures.edition (place_of c.before.before.before.before.before.before.before.before) c.in-Read.is c.read.result _ (numbers c.before.before.before.before.before.before.before.before) f.0.0 f.1 (λ h. omega (arith, c.if-bytes-end.true, c.size.ensures)); inside = omega arith }
+returns-then-bytes-end c = let b = c.begin in record { snapshot = bytes_other (bytes_of c.before.before.before.before.before.before.before.before) b.result b.ensures.edition (place_of c.before.before.before.before.before.before.before.before) c.in-Read.is c.read.result _ (numbers c.before.before.before.before.before.before.before.before) c.in-Read-read.end c.in-Read-read.is (λ h. omega (arith, c.if-bytes-end.true, c.size.ensures)); inside = omega arith }
 
 pub returns : goal.returns
-returns c =
-    let f = c.end-in-Read-read-1.given in
-    let b = c.begin in record { snapshot = bytes_all (bytes_of c.before.before.before.before.before.before.before.before) b.result b.ensures.edition (place_of c.before.before.before.before.before.before.before.before) c.in-Read.is c.read.result _ (numbers c.before.before.before.before.before.before.before.before) f.0.0 f.1 (omega (arith, c.if-bytes-end.false, c.size.ensures)); inside = omega (arith, ap end_of f.1, c.read.ensures.inside) }
+returns c = let b = c.begin in record { snapshot = bytes_all (bytes_of c.before.before.before.before.before.before.before.before) b.result b.ensures.edition (place_of c.before.before.before.before.before.before.before.before) c.in-Read.is c.read.result _ (numbers c.before.before.before.before.before.before.before.before) c.in-Read-read.end c.in-Read-read.is (omega (arith, c.if-bytes-end.false, c.size.ensures)); inside = omega (arith, ap end_of c.in-Read-read.is, c.read.ensures.inside) }

@@ -13,7 +13,7 @@ use Rattle.snapshot.proofs.put.Goals as goal
 
 -- places of the code that the helpers below speak of
 abbrev Start : Type 0
-Start = lts.Start tie.the-claims tie.handed_pre tie.handed_post
+Start = lts.Start tie.the-claims tie.handed_pre tie.handed_post tie.handed_clauses
 
 -- what is written, and that there is room for it
 abbrev state : Start → State

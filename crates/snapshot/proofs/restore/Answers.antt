@@ -54,10 +54,9 @@ returns-then-not-sound c =
 pub replace-requires : goal.replace-requires
 replace-requires c =
     let bs = c.args.bytes.now in
-    let e = c.end-1.given in
     let ws = c.parse.new.words in
-    let is = sym (ap (λ q. result_of q ws bs) e.1) ∙ c.parse.ensures.snapshot in
-    record { words_len = search rules; store_len = lengths_fit c.args.settings (state c.before.before.before.before.before.before.before.before.before.before.before.before.before.before.before.before.before.before.before) (is_well c.before.before.before.before.before.before.before.before.before.before.before.before.before.before); fresh_in_bounds = bytes_inside bs ws e.0.0 (omega (arith, ap end_of e.1, c.parse.ensures.inside)) is }
+    let is = sym (ap (λ q. result_of q ws bs) c.in-Read.is) ∙ c.parse.ensures.snapshot in
+    record { words_len = search rules; store_len = lengths_fit c.args.settings (state c.before.before.before.before.before.before.before.before.before.before.before.before.before.before.before.before.before.before.before) (is_well c.before.before.before.before.before.before.before.before.before.before.before.before.before.before); fresh_in_bounds = bytes_inside bs ws c.in-Read.end (omega (arith, ap end_of c.in-Read.is, c.parse.ensures.inside)) is }
 
 pub returns : goal.returns
 returns c =

@@ -39,8 +39,7 @@ size_is c = omega (arith, c.size.ensures, c.size-2.ensures)
 pub returns-in-Shut : goal.returns-in-Shut
 returns-in-Shut c =
     let a = c.args in
-    let x = c.gate-1.given in
-    write_shut a.settings a.edition (state c.before.before.before.before.before.before.before.before.before) a.buffer.now (asked c.before.before.before.before) x.0.0 x.1
+    write_shut a.settings a.edition (state c.before.before.before.before.before.before.before.before.before) a.buffer.now (asked c.before.before.before.before) c.in-Shut.why c.in-Shut.is
 
 pub returns-then-edition-ne-EDITION : goal.returns-then-edition-ne-EDITION
 returns-then-edition-ne-EDITION c =

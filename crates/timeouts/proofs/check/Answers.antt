@@ -10,8 +10,7 @@ use Rattle.timeouts.proofs.check.Goals as goal
 pub returns-in-Shut : goal.returns-in-Shut
 returns-in-Shut c =
     let a = c.args in
-    let k = c.gate-1.given in
-    check_shut a.settings a.clock a.words.now (record { gate = c.ask-gate.result; is = c.ask-gate.ensures }) k.0.0 k.1
+    check_shut a.settings a.clock a.words.now (record { gate = c.ask-gate.result; is = c.ask-gate.ensures }) c.in-Shut.why c.in-Shut.is
 
 pub returns : goal.returns
 returns c =

@@ -8,7 +8,6 @@ use Rattle.acknowledge.proofs.removal.flow_without.Goals as goal
 pub returns-then-slot : goal.returns-then-slot
 returns-then-slot c =
     let a = c.args in
-    let k = c.struct_known-1.given in
     rw (
       c.in-Sent.is,
       c.if-slot.true,
@@ -19,4 +18,4 @@ pub returns-else-slot : goal.returns-else-slot
 returns-else-slot c = rw (c.in-Sent.is, c.if-slot.false)
 
 pub returns-in_default : goal.returns-in_default
-returns-in_default c = let a = c.args in flow_kept a.spot c.in_default.keys2 (slot_of a.slot) a.flow
+returns-in_default c = let a = c.args in flow_kept a.spot c.in_default.not-Sent (slot_of a.slot) a.flow

@@ -9,8 +9,7 @@ use Rattle.acknowledge.proofs.removal.held.Goals as goal
 pub returns-in-Slot : goal.returns-in-Slot
 returns-in-Slot c =
     let a = c.args in
-    let g = c.slot-1.given in
-    held_is (whole a.words.now) a.slot c.brief_at.result (Slot g.0.0) g.1 c.brief_at.ensures
+    held_is (whole a.words.now) a.slot c.brief_at.result (Slot c.in-Slot.s) c.in-Slot.is c.brief_at.ensures
 
 pub returns-in-Empty : goal.returns-in-Empty
 returns-in-Empty c =

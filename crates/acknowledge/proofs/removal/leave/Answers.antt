@@ -8,23 +8,20 @@ use Rattle.acknowledge.proofs.removal.leave.Goals as goal
 pub returns-in-Sent : goal.returns-in-Sent
 returns-in-Sent c =
     let a = c.args in
-    let g = c.spot-1.given in
     let r = c.remove in
-    left_is a.spot (spot.Sent g.0.0) (whole a.words.now) (whole r.new.words) g.1 r.ensures
+    left_is a.spot (spot.Sent c.in-Sent.k) (whole a.words.now) (whole r.new.words) c.in-Sent.is r.ensures
 
 pub returns-in-Outgoing : goal.returns-in-Outgoing
 returns-in-Outgoing c =
     let a = c.args in
-    let g = c.spot-in-Outgoing-1.given in
     let r = c.remove-in-Outgoing in
-    left_is a.spot (spot.Outgoing g.0.0) (whole a.words.now) (whole r.new.words) g.1 r.ensures
+    left_is a.spot (spot.Outgoing c.in-Outgoing.k) (whole a.words.now) (whole r.new.words) c.in-Outgoing.is r.ensures
 
 pub returns-in-Reliable : goal.returns-in-Reliable
 returns-in-Reliable c =
     let a = c.args in
-    let g = c.spot-in-Reliable-1.given in
     let r = c.remove-in-Reliable in
-    left_is a.spot (spot.Reliable g.0.0) (whole a.words.now) (whole r.new.words) g.1 r.ensures
+    left_is a.spot (spot.Reliable c.in-Reliable.k) (whole a.words.now) (whole r.new.words) c.in-Reliable.is r.ensures
 
 pub returns-in-Nowhere : goal.returns-in-Nowhere
 returns-in-Nowhere c =

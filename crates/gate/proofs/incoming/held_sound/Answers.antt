@@ -20,23 +20,22 @@ use Rattle.gate.proofs.incoming.held_sound.Goals as goal
 
 -- places of the code that the helpers below speak of
 abbrev AfterListSound : Type 0
-AfterListSound = lts.After-list_sound tie.the-claims tie.handed_pre tie.handed_post goal.the-invariant-loop-k goal.the-decreases-loop-k
+AfterListSound = lts.After-list_sound tie.the-claims tie.handed_pre tie.handed_post goal.the-invariant-loop-k goal.the-decreases-loop-k tie.handed_clauses
 
 -- the turn there
 turned : (c : AfterListSound) →
-    let a = (to_start c).args in
+    let a = c.args in
     let p = whole a.words.now in
-    let m = (to_loop c).loop in
-    let w = c.list-sound in
-    HeldTurn p.marks p.incoming a.count p.channels a.count m.k (row_at (194 + m.k * 17 + 4) 12 a.words.now) m.marks w.result.ok w.new.1.1.1.1.1.0
+    let m = c.loop-k in
+    let w = c.list_sound-walk in
+    HeldTurn p.marks p.incoming a.count p.channels a.count m.k (row_at (194 + m.k * 17 + 4) 12 a.words.now) m.marks w.result.ok w.new.marks
 turned c =
-    let b = to_start c in
-    let ws = b.args.words.now in
+    let ws = c.args.words.now in
     record {
-      long = omega (arith, (sized ws).channels, b.pre.1.0);
+      long = omega (arith, (sized ws).channels, c.requires.count_le_channels);
       here = omega arith;
-      is = held_is ws (to_loop c).loop.k (omega (arith, b.pre.1.0)) b.pre.0;
-      walk = c.list-sound.ensures.0;
+      is = held_is ws c.loop-k.k (omega (arith, c.requires.count_le_channels)) c.requires.words_len;
+      walk = c.list_sound-walk.ensures.walks;
     }
 
 pub loop-k-init : goal.loop-k-init
@@ -44,13 +43,13 @@ loop-k-init c = (search rules, search rules, refl, refl, search rules, refl, sea
 
 pub returns-then-not-walk : goal.returns-then-not-walk
 returns-then-not-walk c =
-    rw (c.loop-k.invariant.2, held_stop (turned c) (not-true _ c.if-not-walk.true))
+    rw (c.loop-k.invariant.2, held_stop (turned c.before.before.before.before.before) (not-true _ c.if-not-walk.true))
 
 pub loop-k-preserved : goal.loop-k-preserved
 loop-k-preserved c =
     let m = c.loop-k in
     let w = c.list_sound-walk in
-    let t = turned c in
+    let t = turned c.before.before.before.before.before in
     let ok = not-false w.result.ok c.if-not-walk.false in (
       omega arith,
       search rules,

@@ -20,13 +20,13 @@ use Rattle.gate.proofs.incoming.list_sound.Goals as goal
 
 -- places of the code that the helpers below speak of
 abbrev Start : Type 0
-Start = lts.Start tie.the-claims tie.handed_pre tie.handed_post goal.the-invariant-loop-j goal.the-decreases-loop-j
+Start = lts.Start tie.the-claims tie.handed_pre tie.handed_post goal.the-invariant-loop-j goal.the-decreases-loop-j tie.handed_clauses
 
 abbrev AfterNarrow2 : Type 0
-AfterNarrow2 = lts.After-narrow2 tie.the-claims tie.handed_pre tie.handed_post goal.the-invariant-loop-j goal.the-decreases-loop-j
+AfterNarrow2 = lts.After-narrow2 tie.the-claims tie.handed_pre tie.handed_post goal.the-invariant-loop-j goal.the-decreases-loop-j tie.handed_clauses
 
 abbrev AfterInPasses : Type 0
-AfterInPasses = lts.After-in_passes tie.the-claims tie.handed_pre tie.handed_post goal.the-invariant-loop-j goal.the-decreases-loop-j
+AfterInPasses = lts.After-in_passes tie.the-claims tie.handed_pre tie.handed_post goal.the-invariant-loop-j goal.the-decreases-loop-j tie.handed_clauses
 
 -- how the slots pass
 abbrev passing : Start → ℕ → Bool

@@ -15,7 +15,7 @@ overflow_add-result c =
 
 pub returns-then-place : goal.returns-then-place
 returns-then-place c =
-    rw c.if-place.true (c.put.ensures, ap (λ (n : ℕ). c.args.at + n) c.size.ensures)
+    record { bytes = rw c.if-place.true c.put.ensures; end = rw c.if-place.true (ap (λ (n : ℕ). c.args.at + n) c.size.ensures) }
 
 pub returns : goal.returns
-returns c = rw c.if-place.false (refl, sym (add-zero _))
+returns c = record { bytes = rw c.if-place.false; end = rw c.if-place.false (sym (add-zero _)) }

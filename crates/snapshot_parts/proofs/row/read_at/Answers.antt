@@ -16,17 +16,17 @@ returns-then-not-fits c =
     let a = c.args in
     let e = c.place_at-place in
     let w : e.result.is_written ≡ true = not-false e.result.is_written c.if-not-place.false in
-    let f = not-true c.fits2.result c.if-not-fits.true-raw in record {
+    let f = not-true c.fits.result c.if-not-fits.true-raw in record {
       numbers = unfit_is a.words.now a.bytes.now a.at a.i e.result e.ensures w c.read.result c.read.ensures
-          c.in-Number.value c.in-Number.groups c.in-Number.is (sym c.fits2.ensures ∙ f);
+          c.in-Number.value c.in-Number.groups c.in-Number.is (sym c.fits.ensures ∙ f);
       inside = omega arith;
     }
 
 pub overflow_cast-value : goal.overflow_cast-value
 overflow_cast-value c =
-    let f = not-false c.fits2.result c.if-not-fits.false-raw in
+    let f = not-false c.fits.result c.if-not-fits.false-raw in
     let e = c.place_at-place in
-    omega (arith, fit_most e.result c.in-Number.value (sym c.fits2.ensures ∙ f))
+    omega (arith, fit_most e.result c.in-Number.value (sym c.fits.ensures ∙ f))
 
 pub set-requires : goal.set-requires
 set-requires c =
@@ -50,9 +50,9 @@ returns-else-not-fits c =
     let a = c.args in
     let e = c.place_at-place in
     let w : e.result.is_written ≡ true = not-false e.result.is_written c.if-not-place.false in
-    let f = not-false c.fits2.result c.if-not-fits.false-raw in record {
+    let f = not-false c.fits.result c.if-not-fits.false-raw in record {
       numbers = fit_is a.words.now a.bytes.now a.at a.i e.result e.ensures w c.read.result c.read.ensures
-          c.in-Number.value c.in-Number.groups c.in-Number.is (sym c.fits2.ensures ∙ f)
+          c.in-Number.value c.in-Number.groups c.in-Number.is (sym c.fits.ensures ∙ f)
           _ c.set.ensures;
       inside = groups_inside a.words.now a.bytes.now a.at a.i e.result e.ensures w c.read.result c.read.ensures
           c.in-Number.value c.in-Number.groups c.in-Number.is c.requires.i_lt_record_length.1;
