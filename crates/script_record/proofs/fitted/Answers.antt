@@ -12,10 +12,10 @@ use Rattle.script_record.proofs.Widths.{has_number, has_none}
 use Rattle.script_record.proofs.fitted.Goals as goal
 
 pub loop-j-init : goal.loop-j-init
-loop-j-init c = (search rules, refl)
+loop-j-init g c = (search rules, refl)
 
 pub loop-j-preserved : goal.loop-j-preserved
-loop-j-preserved c =
+loop-j-preserved g c =
     let a = c.args in
     let n = length (layout a.kind) in
     let e : length a.numbers ≡ 16 = search rules in
@@ -23,11 +23,11 @@ loop-j-preserved c =
     let some : 0 < w.result = ltb-true 0 w.result c.if-width_of-gt0.true-raw in
     let h = has_number a.kind c.loop-j.j w.result w.ensures some in (
       omega arith,
-      c.loop-j.invariant.1 ∙ first_turn c.loop-j.after c.put-after.result a.numbers c.loop-j.j c.put-after.ensures n h (omega arith),
+      c.loop-j.invariant.1 ∙ first_turn c.loop-j.after c.in_ok-after.after a.numbers c.loop-j.j c.in_ok-after.ensures n h (omega arith),
     )
 
 pub returns-else-width_of-gt0 : goal.returns-else-width_of-gt0
-returns-else-width_of-gt0 c =
+returns-else-width_of-gt0 g c =
     let a = c.args in
     let n = length (layout a.kind) in
     let w = c.width_of in
@@ -36,7 +36,7 @@ returns-else-width_of-gt0 c =
     sym (c.loop-j.invariant.1 ∙ none_left c.loop-j.after (drop c.loop-j.j (take n a.numbers)) end)
 
 pub returns-after-loop-j : goal.returns-after-loop-j
-returns-after-loop-j c =
+returns-after-loop-j g c =
     let a = c.args in
     let n = length (layout a.kind) in
     let e : length a.numbers ≡ 16 = search rules in

@@ -15,20 +15,20 @@ use Rattle.script_record.proofs.Laws.{place_turn, places_end}
 use Rattle.script_record.proofs.record.Goals as goal
 
 pub loop-i-init : goal.loop-i-init
-loop-i-init c = (search rules, refl)
+loop-i-init g c = (search rules, refl)
 
 pub loop-i-preserved : goal.loop-i-preserved
-loop-i-preserved c =
+loop-i-preserved g c =
     let ws = c.args.words.now in
     let l = c.loop-i in
     let n : length (table (whole ws)) ≡ 1236 = table-length ws (search rules) in
     let e : c.place_at.result ≡ get_or (table (whole ws)) l.i nowhere = c.place_at.ensures in (
       omega arith,
-      l.invariant.1 ∙ place_turn l.after c.number-after.result (table (whole ws)) l.i (omega arith) (c.number-after.ensures ∙ ap (λ (q : Place). pick q.is_written (told l.after (q.number ∷ [])) l.after) e),
+      l.invariant.1 ∙ place_turn l.after c.in_ok-after.after (table (whole ws)) l.i (omega arith) (c.in_ok-after.ensures ∙ ap (λ (q : Place). pick q.is_written (told l.after (q.number ∷ [])) l.after) e),
     )
 
 pub returns : goal.returns
-returns c =
+returns g c =
     let l = c.loop-i in
     let ws = c.args.words.now in
     let n : length (table (whole ws)) ≡ 1236 = table-length ws (search rules) in
