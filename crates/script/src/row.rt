@@ -1,5 +1,5 @@
 // Where a row of numbers goes: into its hash, and for op 15 into the line too, which no contract speaks of.
-ghost use Rattle.std.specs.Prelude.{◌≡◌, [], ◌∷◌, take, IfOk};
+ghost use Rattle.std.specs.Prelude.{◌≡◌, [], ◌∷◌, take, IfOk, IsOk, IsFalse};
 ghost use Rattle.script.specs.Row.{mixed as mix, told};
 
 use crate::line;
@@ -12,9 +12,10 @@ pub struct Row {
     pub is_shown: bool,
 }
 
-// The row with one number more; so are all below.
+// The row with one number more; so are all below. What writes can fail; a row that is not shown is not written.
 pub fn put<W: Write>(out: &mut W, row: Row, x: u32) -> io::Result<Row>
-    ensures { IfOk result (λ after. after ≡ told row (x ∷ [])) }
+    ensures value { IfOk result (λ after. after ≡ told row (x ∷ [])) }
+    ensures silent { IsFalse row.is_shown → IsOk result }
 {
     if row.is_shown {
         line::value(out, x)?;
@@ -26,7 +27,8 @@ pub fn put<W: Write>(out: &mut W, row: Row, x: u32) -> io::Result<Row>
 }
 
 pub fn put_all<W: Write>(out: &mut W, row: Row, numbers: &[u32]) -> io::Result<Row>
-    ensures { IfOk result (λ after. after ≡ told row numbers.now) }
+    ensures value { IfOk result (λ after. after ≡ told row numbers.now) }
+    ensures silent { IsFalse row.is_shown → IsOk result }
 {
     let mut after = row;
     let mut i = 0;
@@ -39,7 +41,8 @@ pub fn put_all<W: Write>(out: &mut W, row: Row, numbers: &[u32]) -> io::Result<R
 
 // The first n of them, or all.
 pub fn put_slots<W: Write>(out: &mut W, row: Row, slots: &[u16], n: usize) -> io::Result<Row>
-    ensures { IfOk result (λ after. after ≡ told row (take n slots.now)) }
+    ensures value { IfOk result (λ after. after ≡ told row (take n slots.now)) }
+    ensures silent { IsFalse row.is_shown → IsOk result }
 {
     let mut after = row;
     let mut i = 0;

@@ -1,7 +1,7 @@
 // The record's row of numbers, by the table of its places, in document 01's order; a slot's row and a command's, which replies tell.
 #![tactic(auto)]
 
-ghost use Rattle.std.specs.Prelude.{◌≡◌, [], ◌∷◌, take, length, IfOk};
+ghost use Rattle.std.specs.Prelude.{◌≡◌, [], ◌∷◌, take, length, IfOk, IsOk, IsFalse};
 ghost use Rattle.numbers.specs.Pick.{pick};
 ghost use Rattle.command.specs.Layout.{layout as widths};
 ghost use Rattle.command.specs.Rows.{row_of as numbers_of};
@@ -23,7 +23,8 @@ use std::io::Write;
 // Each number of the record that is written.
 pub fn record<W: Write>(out: &mut W, row: Row, words: &[u32]) -> io::Result<Row>
     requires { length words.now ≡ record_length }
-    ensures { IfOk result (λ after. after ≡ told row (row_of (whole words.now))) }
+    ensures value { IfOk result (λ after. after ≡ told row (row_of (whole words.now))) }
+    ensures silent { IsFalse row.is_shown → IsOk result }
 {
     let mut after = row;
     let mut i: usize = 0;
@@ -35,7 +36,8 @@ pub fn record<W: Write>(out: &mut W, row: Row, words: &[u32]) -> io::Result<Row>
 }
 
 fn number<W: Write>(out: &mut W, row: Row, place: Place) -> io::Result<Row>
-    ensures { IfOk result (λ after. after ≡ pick place.is_written (told row (place.number ∷ [])) row) }
+    ensures value { IfOk result (λ after. after ≡ pick place.is_written (told row (place.number ∷ [])) row) }
+    ensures silent { IsFalse row.is_shown → IsOk result }
 {
     if place.is_written {
         return row::put(out, row, place.number);
@@ -44,7 +46,8 @@ fn number<W: Write>(out: &mut W, row: Row, place: Place) -> io::Result<Row>
 }
 
 pub fn outgoing_slot<W: Write>(out: &mut W, row: Row, s: Outgoing) -> io::Result<Row>
-    ensures { IfOk result (λ after. after ≡ told row (slot_row s)) }
+    ensures value { IfOk result (λ after. after ≡ told row (slot_row s)) }
+    ensures silent { IsFalse row.is_shown → IsOk result }
 {
     let a = s.reliable;
     let b = s.unreliable;
@@ -65,7 +68,8 @@ pub fn outgoing_slot<W: Write>(out: &mut W, row: Row, s: Outgoing) -> io::Result
 }
 
 pub fn command<W: Write>(out: &mut W, row: Row, c: Command) -> io::Result<Row>
-    ensures { IfOk result (λ after. after ≡ told row (numbers_of c)) }
+    ensures value { IfOk result (λ after. after ≡ told row (numbers_of c)) }
+    ensures silent { IsFalse row.is_shown → IsOk result }
 {
     let fields = c.fields;
     fitted(out, row, rows::kind_of(fields), rows::of(c))
@@ -73,7 +77,8 @@ pub fn command<W: Write>(out: &mut W, row: Row, c: Command) -> io::Result<Row>
 
 // As many numbers as a command of this kind has.
 fn fitted<W: Write>(out: &mut W, row: Row, kind: u8, numbers: [u32; 16]) -> io::Result<Row>
-    ensures { IfOk result (λ after. after ≡ told row (take (length (widths kind)) numbers)) }
+    ensures value { IfOk result (λ after. after ≡ told row (take (length (widths kind)) numbers)) }
+    ensures silent { IsFalse row.is_shown → IsOk result }
 {
     let mut after = row;
     let mut j = 0;
