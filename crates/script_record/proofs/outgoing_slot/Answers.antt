@@ -2,6 +2,7 @@
 use Prim.Native.Nat.{ℕ}
 use mathlib.Core.Path.{◌≡◌, refl, ap, sym, ◌∙◌}
 use mathlib.Core.List.{List, [], ◌∷◌}
+use borrow.Author.Rules.{rules}
 use mir.Val.{bool_byte}
 use Rattle.numbers.specs.Pick.{pick}
 use Rattle.command.specs.Rows.{row_of}
@@ -19,7 +20,7 @@ returns g c =
     in
     let p = c.in_ok-row in
     let whole : told p.row (row_of s.command) ≡ told a.row (row (pick s.packet 1 0) (row_of s.command)) =
-    told_then a.row p.row (told p.row (row_of s.command)) (row (bool_byte s.packet) []) (row_of s.command) p.ensures refl
+    told_then a.row p.row (told p.row (row_of s.command)) (row (bool_byte s.packet) []) (row_of s.command) p.ensures.value refl
     ∙ ap (λ (x : ℕ). told a.row (row x (row_of s.command))) (bit s.packet)
     in
-    rw (sym whole) c.command.ensures
+    record { value = rw (sym whole) c.command.ensures.value; silent = search rules }
