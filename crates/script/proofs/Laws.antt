@@ -2,7 +2,6 @@
 -- The argument: the hash of two rows one after the other, by induction; then the definition on the whole is the definition on what is left.
 use Prim.Native.Nat.{ℕ, ◌+◌, ◌<◌}
 use mathlib.Core.Path.{◌≡◌, refl, ap, sym, ◌∙◌}
-use mathlib.Core.Bool.{Bool}
 use mathlib.Core.List.{List, [], ◌∷◌, ◌++◌}
 use lib.ListN.{length, take, drop, get_or}
 use Rattle.cells.proofs.Views.{rest_step, part_step}

@@ -1,5 +1,5 @@
 -- `fitted` meets its contract: the numbers of the kind told are those that are left told after the ones before place j; the measure is the places that are left.
-use Prim.Native.Nat.{◌≤◌, ◌<◌, ◌-◌}
+use Prim.Native.Nat.{◌≤◌, ◌<◌}
 use mathlib.Core.Path.{◌≡◌, refl, sym, ◌∙◌}
 use mathlib.Core.List.{[], ◌∷◌}
 use native.Mathlib.Omega.{arith}

@@ -1,5 +1,4 @@
 -- `record` meets its contract: the row of all places told is that of the places that are left, told after the ones before place i; the measure is the places that are left.
-use Prim.Native.Nat.{◌-◌}
 use mathlib.Core.Path.{◌≡◌, refl, ap, sym, ◌∙◌}
 use mathlib.Core.List.{[], ◌∷◌}
 use native.Mathlib.Omega.{arith}

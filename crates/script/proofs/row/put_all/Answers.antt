@@ -1,5 +1,4 @@
 -- `put_all` meets its contract: all numbers told are those that are left told after the ones before place i; the measure is those that are left.
-use Prim.Native.Nat.{◌-◌}
 use mathlib.Core.Path.{refl, sym, ◌∙◌}
 use mathlib.Core.List.{[], ◌∷◌}
 use native.Mathlib.Omega.{arith}

@@ -1,5 +1,5 @@
 -- `put_slots` meets its contract: the first n slots told are those of them that are left told after the ones before place i; the measure is the cells that are left.
-use Prim.Native.Nat.{◌≤◌, ◌<◌, ◌-◌}
+use Prim.Native.Nat.{◌≤◌, ◌<◌}
 use mathlib.Core.Path.{refl, sym, ◌∙◌}
 use mathlib.Core.List.{[], ◌∷◌}
 use native.Mathlib.Omega.{arith}
