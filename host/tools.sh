@@ -61,9 +61,13 @@ need_objdump() {
     command -v "$objdump" >/dev/null || { say "no $objdump; what was tried is in target/host/install.log"; exit 2; }
 }
 
-# need_library CRATE: its static library, proved anew
+# need_library CRATE: target/staticlib/libCRATE.a, built of the proved crate; of a library that crates stand on, CRATE_c has the exports
 need_library() {
-    (cd "$top" && rt staticlib "$1") >"$out/staticlib.log" 2>&1 || { cat "$out/staticlib.log"; exit 1; }
+    local crate=$1 archives=$top/target/staticlib
+    if [ -d "$top/crates/${1}_c" ]; then crate=${1}_c; fi
+    mkdir -p "$out" "$archives"
+    (cd "$top/crates/$crate" && rt lib) >"$out/staticlib.log" 2>&1 || { cat "$out/staticlib.log"; exit 1; }
+    cp "$top/crates/$crate/out/lib$crate.a" "$archives/lib$1.a"
 }
 
 flags=(--edition 2021 -O)

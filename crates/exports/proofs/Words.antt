@@ -71,3 +71,12 @@ pub put_all :
     (at n : ℕ) (s xs after : List ℕ) → length xs ≡ n → after ≡ put_row s at (replicate (length xs) 4) xs
     → after ≡ put_row s at (replicate n 4) xs
 put_all at n s xs after l e = e ∙ ap (λ (k : ℕ). put_row s at (replicate k 4) xs) l
+
+-- two words and then sixteen are the row of all eighteen
+pub headed :
+    (a b : ℕ) (s s₁ s₂ row xs : List ℕ) → s₁ ≡ put_number s 0 4 a → s₂ ≡ put_number s₁ 4 4 b → row ≡ xs
+    → put_row s₂ 8 (replicate 16 4) row ≡ put_row s 0 (replicate 18 4) (a ∷ b ∷ xs)
+unfolding put_row
+headed a b s s₁ s₂ row xs first second e =
+    ap (λ (t : List ℕ). put_row t 8 (replicate 16 4) row) (second ∙ ap (λ (t : List ℕ). put_number t 4 4 b) first)
+    ∙ ap (λ (t : List ℕ). put_row (put_number (put_number s 0 4 a) 4 4 b) 8 (replicate 16 4) t) e

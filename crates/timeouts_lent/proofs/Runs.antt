@@ -59,3 +59,11 @@ module _ (l : Limits) (clock : ℕ) where
   mid_end w (suc i) (y ∷ ys) h =
       let t = turn_of l clock w y in
       ap (headed t.awaiting) (mid_end t.walk i ys (omega arith))
+
+  -- the same of the numbers and the run that the code has midway
+  pub mid_kept : (w : Walk) (i : ℕ) (ys zs : List Awaiting) (v : Walk) (d : Awaiting) (t : Turned) → i < length ys
+      → record { walk = v; run = zs } ≡ midway w i ys → t ≡ turn_of l clock v (get_or zs i d)
+      → record { walk = t.walk; run = set zs i t.awaiting } ≡ midway w (i + 1) ys
+  mid_kept w i ys zs v d t h e made =
+      ap (λ (m : Walked). stored m i t) e
+      ∙ mid_next w i ys d t h (made ∙ ap (λ (m : Walked). turn_of l clock m.walk (get_or m.run i d)) e)

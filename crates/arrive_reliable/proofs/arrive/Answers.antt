@@ -5,13 +5,13 @@ use Rattle.arrive_reliable.proofs.Placed.{lent_shut, lent_refused, lent_channel,
 use Rattle.arrive_reliable.proofs.arrive.Goals as goal
 
 pub returns-in-Shut : goal.returns-in-Shut
-returns-in-Shut c =
+returns-in-Shut c second =
     let k = c.ask-asked in
     let a = c.args in
     lent_shut a.settings a.a a.datagram.now (whole a.words.now) a.store.now second (record { gate = k.result; is = k.ensures }) c.in-Shut.why c.in-Shut.is
 
 pub returns-in-Shut-may : goal.returns-in-Shut-may
-returns-in-Shut-may c =
+returns-in-Shut-may c second =
     let m = c.arrival_gate-may in
     let t = c.standing-standing in
     let o = c.in_default.is in
@@ -30,7 +30,7 @@ fate_on-fate-requires c =
     record { words_len = search rules; channel_lt_channels = lent_channel a.settings a.a a.datagram.now (whole a.words.now) a.store.now a.store.now (record { gate = k.result; is = k.ensures }) o t.result t.ensures m.result m.ensures y }
 
 pub returns-in_default-fate : goal.returns-in_default-fate
-returns-in_default-fate c =
+returns-in_default-fate c second =
     let f = c.fate_on-fate in
     let y = c.in_default-may.is in
     let m = c.arrival_gate-may in
@@ -52,7 +52,7 @@ settle-requires c =
     record { words_len = search rules; i_lt_channels = lent_channel a.settings a.a a.datagram.now (whole a.words.now) a.store.now a.store.now (record { gate = k.result; is = k.ensures }) o t.result t.ensures m.result m.ensures y }
 
 pub returns : goal.returns
-returns c =
+returns c second =
     let f = c.fate_on-fate in
     let y = c.in_default-may.is in
     let m = c.arrival_gate-may in

@@ -8,14 +8,14 @@ use Rattle.arrive_unsequenced.proofs.Placed.{lent_refused, lent_left, lent_store
 use Rattle.arrive_unsequenced.proofs.arrive.Goals as goal
 
 pub returns-in-Shut : goal.returns-in-Shut
-returns-in-Shut c =
+returns-in-Shut c second =
     let a = c.args in
     let p = whole a.words.now in
     let q : AtGate a.settings (Store (length a.store.now)) p = record { gate = c.ask-asked.result; is = c.ask-asked.ensures } in
     arrive_shut a.settings a.a a.group a.datagram.now p a.store.now second q c.in-Shut.why c.in-Shut.is
 
 pub returns-in-Shut-may : goal.returns-in-Shut-may
-returns-in-Shut-may c =
+returns-in-Shut-may c second =
     let a = c.args in
     let p = whole a.words.now in
     let q : AtGate a.settings (Store (length a.store.now)) p = record { gate = c.ask-asked.result; is = c.ask-asked.ensures } in
@@ -23,7 +23,7 @@ returns-in-Shut-may c =
     c.standing-standing.result c.standing-standing.ensures c.arrival_gate-may.result c.arrival_gate-may.ensures c.in-Shut-may.why c.in-Shut-may.is
 
 pub returns-in_default-fate : goal.returns-in_default-fate
-returns-in_default-fate c =
+returns-in_default-fate c second =
     let a = c.args in
     let p = whole a.words.now in
     let q : AtGate a.settings (Store (length a.store.now)) p = record { gate = c.ask-asked.result; is = c.ask-asked.ensures } in
@@ -32,7 +32,7 @@ returns-in_default-fate c =
     c.judge_on-fate.result (whole c.judge_on-fate.new.words) c.judge_on-fate.ensures.value c.judge_on-fate.ensures.words_after c.in_default-fate.not-Stored c.reply_of.result c.reply_of.ensures
 
 pub returns : goal.returns
-returns c =
+returns c second =
     let a = c.args in
     let p = whole a.words.now in
     let q : AtGate a.settings (Store (length a.store.now)) p = record { gate = c.ask-asked.result; is = c.ask-asked.ensures } in

@@ -22,16 +22,16 @@ returns-in_default c =
 
 pub overflow_sub-next : goal.overflow_sub-next
 overflow_sub-next c =
-    let command = c.command-1.given in
-    let next = next_is c.args.bytes.now c.args.place c.read.result c.read.ensures command.0.0 command.0.1.0 command.1 in
+    let found = c.in-Found in
+    let next = next_is c.args.bytes.now c.args.place c.read.result c.read.ensures found.command found.next found.is in
     omega arith
 
 pub put_command-requires : goal.put_command-requires
 put_command-requires c =
     let s = c.args.bytes.now in
     let i = c.args.place in
-    let command = c.command-1.given in
-    let next = next_is s i c.read.result c.read.ensures command.0.0 command.0.1.0 command.1 in
+    let found = c.in-Found in
+    let next = next_is s i c.read.result c.read.ensures found.command found.next found.is in
     (search rules, omega (arith, next, size_small (kind_at s i)))
 
 pub returns : goal.returns
@@ -40,7 +40,7 @@ returns c =
     let s = c.args.bytes.now in
     let i = c.args.place in
     let read = c.read in
-    let command = c.command-1.given in
-    let some = something s i read.result read.ensures command.0.0 command.0.1.0 command.1 in
-    let numbers = numbers_are s i read.result read.ensures command.0.0 command.0.1.0 command.1 in
+    let found = c.in-Found in
+    let some = something s i read.result read.ensures found.command found.next found.is in
+    let numbers = numbers_are s i read.result read.ensures found.command found.next found.is in
     record { reply = simp (full, some); buffer = c.put_command.ensures ∙ simp (full, some, numbers) }

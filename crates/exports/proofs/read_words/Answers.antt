@@ -1,6 +1,5 @@
 -- `read_words` reads a word a turn: the words read and those left in the buffer are always the whole row.
 use mathlib.Core.Path.{sym, ◌∙◌}
-use Prim.Native.Nat.{◌-◌}
 use native.Mathlib.Omega.{arith}
 use lib.ListN.{replicate, length-set}
 use borrow.Author.Rules.{rules}

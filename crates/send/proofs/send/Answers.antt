@@ -16,29 +16,7 @@ use Rattle.places.specs.Whole.{whole}
 use Rattle.places.proofs.Sized.{sized}
 use Rattle.send.specs.Calls.{sends_sound}
 use Rattle.send.proofs.Placed.{goes_start, goes_turn, lent_shut, lent_left}
-use Rattle.send.proofs.send.Lts as lts
-use Rattle.send.proofs.send.Tie as tie
 use Rattle.send.proofs.send.Goals as goal
-
--- places of the code that the helpers below speak of
-abbrev AfterOpen : Type 0
-AfterOpen = lts.After-open tie.the-claims tie.handed_pre tie.handed_post goal.the-invariant-loop-j goal.the-decreases-loop-j
-
--- where the outbox is open: the gate of every call passed, the call as it begins, the record as it was lent
-abbrev Opened : Type 0
-Opened = AfterOpen
-
-abbrev peer : Opened → Peer
-peer c = whole c.args.words.now
-
-abbrev named : Opened → List ℕ
-named c = c.open-o.new.marks
-
-abbrev asked : (c : Opened) → AtGate c.args.settings Nothing (peer c)
-asked c = let g = (passed c).before.before.ask in record { gate = g.result; is = g.ensures }
-
-good : (c : Opened) → sound (peer c) ≡ true
-good c = open_sound (asked c) c.in_default.is
 
 pub returns-in-Shut : goal.returns-in-Shut
 returns-in-Shut c =
@@ -50,44 +28,60 @@ returns-in-Shut c =
 
 pub packet_of-packet-requires : goal.packet_of-packet-requires
 packet_of-packet-requires c =
-    let h : (peer c.before.before.before.before.before).flow.mtu ≤ most_mtu = mtu_high (peer c.before.before.before.before.before) (good c.before.before.before.before.before) in
+    let peer : Peer = whole c.args.words.now in
+    let asked : AtGate c.args.settings Nothing peer = let g = c.ask-gate in record { gate = g.result; is = g.ensures } in
+    let good : sound peer ≡ true = open_sound asked c.in_default.is in
+    let h : peer.flow.mtu ≤ most_mtu = mtu_high peer good in
     search rules
 
 pub plan_gate-room-requires : goal.plan_gate-room-requires
 plan_gate-room-requires c =
-    let h = good c.before.before.before.before.before.before.before.before.before in
+    let peer : Peer = whole c.args.words.now in
+    let asked : AtGate c.args.settings Nothing peer = let g = c.ask-gate in record { gate = g.result; is = g.ensures } in
+    let good : sound peer ≡ true = open_sound asked c.in_default.is in
+    let h = good in
     search rules
 
 pub returns-in-Shut-room : goal.returns-in-Shut-room
 returns-in-Shut-room c =
+    let peer : Peer = whole c.args.words.now in
+    let named : List ℕ = c.open-o.new.marks in
+    let asked : AtGate c.args.settings Nothing peer = let g = c.ask-gate in record { gate = g.result; is = g.ensures } in
     let a = c.args in
-    lent_shut a.settings a.channel a.length a.flags (peer c.before.before.before.before.before.before.before.before.before.before.before.before.before) (asked c.before.before.before.before.before.before.before.before.before.before.before.before.before) c.in_default.is c.open-o.result (named c.before.before.before.before.before.before.before.before.before.before.before.before.before) c.open-o.ensures
+    lent_shut a.settings a.channel a.length a.flags peer asked c.in_default.is c.open-o.result named c.open-o.ensures
     c.packet_of-packet.result c.packet_of-packet.ensures c.count_of-count.result c.count_of-count.ensures c.plan_gate-room.result c.plan_gate-room.ensures c.in-Shut-room.why c.in-Shut-room.is
 
 pub loop-j-init : goal.loop-j-init
 loop-j-init c =
+    let peer : Peer = whole c.args.words.now in
+    let named : List ℕ = c.open-o.new.marks in
+    let asked : AtGate c.args.settings Nothing peer = let g = c.ask-gate in record { gate = g.result; is = g.ensures } in
     let a = c.args in
-    goes_start a.settings a.channel a.length a.flags (peer c.before.before.before.before.before.before.before.before.before.before.before.before) (asked c.before.before.before.before.before.before.before.before.before.before.before.before) c.in_default.is c.open-o.result (named c.before.before.before.before.before.before.before.before.before.before.before.before) c.open-o.ensures
+    goes_start a.settings a.channel a.length a.flags peer asked c.in_default.is c.open-o.result named c.open-o.ensures
     c.packet_of-packet.result c.packet_of-packet.ensures c.count_of-count.result c.count_of-count.ensures c.plan_gate-room.result c.plan_gate-room.ensures
     (sized a.words.now) c.in_default-room.is
 
 pub overflow_add-j : goal.overflow_add-j
 overflow_add-j c =
-    let h = c.count_of-count.ok in
+    let h = c.count_of-count.type_inv in
     search rules
 
 pub loop-j-preserved : goal.loop-j-preserved
 loop-j-preserved c =
+    let peer : Peer = whole c.args.words.now in
     let q = c.queue-o in
     let l = c.loop-j in
-    goes_turn c.packet_of-packet.result c.count_of-count.result c.args.channel (peer c.before.before.before.before.before.before.before.before.before.before.before.before.before.before.before.before.before.before.before) (whole l.words) l.o l.marks l.j l.offset l.invariant
-    c.loop-j-test.true q.result q.new.marks (whole q.new.words) q.ensures c.next_at-offset.result c.next_at-offset.ensures
+    goes_turn c.packet_of-packet.result c.count_of-count.result c.args.channel peer (whole l.words) l.o l.marks l.j l.offset l.invariant
+    c.loop-j-test.true q.result q.new.marks (whole q.new.words) (q.ensures.out, q.ensures.kept) c.next_at-offset.result c.next_at-offset.ensures
 
 pub returns : goal.returns
 returns c =
+    let peer : Peer = whole c.args.words.now in
+    let named : List ℕ = c.open-o.new.marks in
+    let asked : AtGate c.args.settings Nothing peer = let g = c.ask-gate in record { gate = g.result; is = g.ensures } in
     let l = c.loop-j in
     let a = c.args in
-    lent_left a.settings a.channel a.length a.flags (peer c.before.before.before.before.before.before.before.before.before.before.before.before.before.before.before.before) (asked c.before.before.before.before.before.before.before.before.before.before.before.before.before.before.before.before) c.in_default.is c.open-o.result (named c.before.before.before.before.before.before.before.before.before.before.before.before.before.before.before.before) c.open-o.ensures
+    lent_left a.settings a.channel a.length a.flags peer asked c.in_default.is c.open-o.result named c.open-o.ensures
     c.packet_of-packet.result c.packet_of-packet.ensures c.count_of-count.result c.count_of-count.ensures c.plan_gate-room.result c.plan_gate-room.ensures
     (sized a.words.now) c.in_default-room.is (whole l.words) l.o l.marks l.j l.offset l.invariant c.loop-j-test.false
     (whole c.close.new.words) c.close.ensures

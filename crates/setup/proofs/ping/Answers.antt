@@ -14,28 +14,7 @@ use Rattle.setup.specs.Pings.{ping_piece, ping_gate, pings_sound}
 use Rattle.setup.proofs.Setups.{one_shut}
 use Rattle.setup.proofs.Placed.{lent_left}
 use Rattle.setup.proofs.Pings.{ping_some}
-use Rattle.setup.proofs.ping.Lts as lts
-use Rattle.setup.proofs.ping.Tie as tie
 use Rattle.setup.proofs.ping.Goals as goal
-
--- places of the code that the helpers below speak of
-abbrev AfterEnumTold : Type 0
-AfterEnumTold = lts.After-enum_told tie.the-claims tie.handed_pre tie.handed_post
-
-abbrev AfterPingGate : Type 0
-AfterPingGate = lts.After-ping_gate tie.the-claims tie.handed_pre tie.handed_post
-
-abbrev peer : AfterEnumTold → Peer
-peer c = whole c.args.words.now
-
-abbrev asked : (c : AfterEnumTold) → AtGate c.args.settings Nothing (peer c)
-asked c = let g = c.before.before.ask in record { gate = g.result; is = g.ensures }
-
-judged : (c : AfterPingGate) → let p = peer c.before.before.before.before.before.before.before in c.ping_gate-may.result ≡ ping_gate p.standing (room p)
-judged c =
-    let p = peer c.before.before.before.before.before.before.before in
-    let free = c.room_in in
-    c.ping_gate-may.ensures ∙ ap (λ (s : Standing). ping_gate s free.result) c.standing.ensures ∙ ap (ping_gate p.standing) free.ensures
 
 pub returns-in-Shut : goal.returns-in-Shut
 returns-in-Shut c =
@@ -47,15 +26,29 @@ returns-in-Shut c =
 
 pub room_in-requires : goal.room_in-requires
 room_in-requires c =
-    let h : sound (peer c.before.before.before.before.before.before) ≡ true = open_sound (asked c.before.before.before.before.before.before) c.in_default.is in
+    let peer : Peer = whole c.args.words.now in
+    let asked : AtGate c.args.settings Nothing peer = let g = c.ask-gate in record { gate = g.result; is = g.ensures } in
+    let h : sound peer ≡ true = open_sound asked c.in_default.is in
     search rules
 
 pub returns-in-Shut-may : goal.returns-in-Shut-may
 returns-in-Shut-may c =
-    one_shut c.args.settings ping_piece (peer c.before.before.before.before.before.before.before.before.before.before.before) (asked c.before.before.before.before.before.before.before.before.before.before.before) c.in_default.is (ping_gate (peer c.before.before.before.before.before.before.before.before.before.before.before).standing (room (peer c.before.before.before.before.before.before.before.before.before.before.before))) c.ping_gate-may.result (judged c.before.before.before.before) c.in-Shut-may.why c.in-Shut-may.is
+    let peer : Peer = whole c.args.words.now in
+    let asked : AtGate c.args.settings Nothing peer = let g = c.ask-gate in record { gate = g.result; is = g.ensures } in
+    let judged : let p = peer in c.ping_gate-may.result ≡ ping_gate p.standing (room p) =
+    let p = peer in
+    let free = c.room_in in
+    c.ping_gate-may.ensures ∙ ap (λ (s : Standing). ping_gate s free.result) c.standing.ensures ∙ ap (ping_gate p.standing) free.ensures in
+    one_shut c.args.settings ping_piece peer asked c.in_default.is (ping_gate peer.standing (room peer)) c.ping_gate-may.result judged c.in-Shut-may.why c.in-Shut-may.is
 
 pub returns : goal.returns
 returns c =
-    lent_left c.args.settings ping_piece (peer c.before.before.before.before.before.before.before.before.before.before.before.before.before.before.before.before.before.before.before.before.before) (asked c.before.before.before.before.before.before.before.before.before.before.before.before.before.before.before.before.before.before.before.before.before) c.in_default.is (ping_gate (peer c.before.before.before.before.before.before.before.before.before.before.before.before.before.before.before.before.before.before.before.before.before).standing (room (peer c.before.before.before.before.before.before.before.before.before.before.before.before.before.before.before.before.before.before.before.before.before))) c.ping_gate-may.result (judged c.before.before.before.before.before.before.before.before.before.before.before.before.before.before) (ping_some (peer c.before.before.before.before.before.before.before.before.before.before.before.before.before.before.before.before.before.before.before.before.before)) c.in_default-may.is
+    let peer : Peer = whole c.args.words.now in
+    let asked : AtGate c.args.settings Nothing peer = let g = c.ask-gate in record { gate = g.result; is = g.ensures } in
+    let judged : let p = peer in c.ping_gate-may.result ≡ ping_gate p.standing (room p) =
+    let p = peer in
+    let free = c.room_in in
+    c.ping_gate-may.ensures ∙ ap (λ (s : Standing). ping_gate s free.result) c.standing.ensures ∙ ap (ping_gate p.standing) free.ensures in
+    lent_left c.args.settings ping_piece peer asked c.in_default.is (ping_gate peer.standing (room peer)) c.ping_gate-may.result judged (ping_some peer) c.in_default-may.is
     c.open-o.result c.open-o.new.marks c.open-o.ensures c.queue-after.result c.queue-after.new.marks (whole c.queue-after.new.words) (whole c.close.new.words)
-    c.queue-after.ensures c.close.ensures
+    (c.queue-after.ensures.out, c.queue-after.ensures.kept) c.close.ensures

@@ -6,6 +6,5 @@ use Rattle.snapshot.proofs.replace.Goals as goal
 pub returns : goal.returns
 returns c =
     let a = c.args in
-    let p = c.requires in
-    let same = copied a.words.now a.fresh.now _ p.0.0 p.0.1 c.copy.ensures in
-    replace_is a.fresh.now (drop a.at a.bytes.now) _ same _ _ _ _ _ _ p.1.0.0 p.1.0.1 c.clear.ensures c.clear-2.ensures c.lay.ensures
+    let same = copied a.words.now a.fresh.now _ c.requires.words_len.0 c.requires.words_len.1 c.copy.ensures in
+    replace_is a.fresh.now (drop a.at a.bytes.now) _ same _ _ _ _ _ _ c.requires.store_len.0 c.requires.store_len.1 c.clear.ensures c.clear-2.ensures c.lay.ensures

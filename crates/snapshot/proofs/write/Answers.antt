@@ -10,41 +10,21 @@ use Rattle.places.specs.Whole.{whole}
 use Rattle.places.proofs.Sized.{sized}
 use Rattle.snapshot.specs.Calls.{lent_both}
 use Rattle.snapshot.proofs.WriteLaws.{numbers, total, numbers_few, stored_few, write_shut, stores_fit, write_unknown, write_room, write_none, write_done}
-use Rattle.snapshot.proofs.write.Lts as lts
-use Rattle.snapshot.proofs.write.Tie as tie
 use Rattle.snapshot.proofs.write.Goals as goal
-
--- places of the code that the helpers below speak of
-abbrev Start : Type 0
-Start = lts.Start tie.the-claims tie.handed_pre tie.handed_post
-
-abbrev AfterAsk : Type 0
-AfterAsk = lts.After-ask tie.the-claims tie.handed_pre tie.handed_post
-
-abbrev AfterSize2 : Type 0
-AfterSize2 = lts.After-size2 tie.the-claims tie.handed_pre tie.handed_post
-
--- what is written
-abbrev state : Start → State
-state c = record { peer = whole c.args.words.now; store = c.args.store.now; second = c.args.second.now }
-
--- what the gate answered
-abbrev asked : (c : AfterAsk) → AtGate c.args.settings (lent_both (state c.before.before.before.before.before)) (state c.before.before.before.before.before).peer
-asked c = record { gate = c.ask.result; is = c.ask-gate.ensures }
-
--- the length that is asked for
-size_is : (c : AfterSize2) → 1 + c.size.result + c.size-2.result ≡ 1 + length (numbers (state c.before.before.before.before.before.before.before.before.before.before.before.before)) + total (state c.before.before.before.before.before.before.before.before.before.before.before.before)
-size_is c = omega (arith, c.size.ensures, c.size-2.ensures)
 
 pub returns-in-Shut : goal.returns-in-Shut
 returns-in-Shut c =
+    let state : State = record { peer = whole c.args.words.now; store = c.args.store.now; second = c.args.second.now } in
+    let asked : AtGate c.args.settings (lent_both state) state.peer = record { gate = c.ask-gate.result; is = c.ask-gate.ensures } in
     let a = c.args in
-    write_shut a.settings a.edition (state c.before.before.before.before.before.before.before.before.before) a.buffer.now (asked c.before.before.before.before) c.in-Shut.why c.in-Shut.is
+    write_shut a.settings a.edition state a.buffer.now asked c.in-Shut.why c.in-Shut.is
 
 pub returns-then-edition-ne-EDITION : goal.returns-then-edition-ne-EDITION
 returns-then-edition-ne-EDITION c =
+    let state : State = record { peer = whole c.args.words.now; store = c.args.store.now; second = c.args.second.now } in
+    let asked : AtGate c.args.settings (lent_both state) state.peer = record { gate = c.ask-gate.result; is = c.ask-gate.ensures } in
     let a = c.args in
-    write_unknown a.settings a.edition (state c.before.before.before.before.before.before.before.before.before) a.buffer.now (asked c.before.before.before.before) c.in_default.is c.if-edition-ne-EDITION.true
+    write_unknown a.settings a.edition state a.buffer.now asked c.in_default.is c.if-edition-ne-EDITION.true
 
 pub overflow_add-length : goal.overflow_add-length
 overflow_add-length c =
@@ -60,22 +40,31 @@ overflow_add-length-2 c =
 
 pub returns-then-buffer-length : goal.returns-then-buffer-length
 returns-then-buffer-length c =
+    let state : State = record { peer = whole c.args.words.now; store = c.args.store.now; second = c.args.second.now } in
+    let asked : AtGate c.args.settings (lent_both state) state.peer = record { gate = c.ask-gate.result; is = c.ask-gate.ensures } in
+    let size_is : 1 + c.size.result + c.size-2.result ≡ 1 + length (numbers state) + total state = omega (arith, c.size.ensures, c.size-2.ensures) in
     let a = c.args in
-    write_none a.settings a.edition (state c.before.before.before.before.before.before.before.before.before.before.before.before.before.before) a.buffer.now (asked c.before.before.before.before.before.before.before.before.before) c.in_default.is c.if-edition-ne-EDITION.false
-    (sized a.words.now).incoming _ (size_is c.before.before) c.if-buffer-length.true
+    write_none a.settings a.edition state a.buffer.now asked c.in_default.is c.if-edition-ne-EDITION.false
+    (sized a.words.now).incoming _ size_is c.if-buffer-length.true
 
 pub put-requires : goal.put-requires
 put-requires c =
+    let state : State = record { peer = whole c.args.words.now; store = c.args.store.now; second = c.args.second.now } in
+    let asked : AtGate c.args.settings (lent_both state) state.peer = record { gate = c.ask-gate.result; is = c.ask-gate.ensures } in
+    let size_is : 1 + c.size.result + c.size-2.result ≡ 1 + length (numbers state) + total state = omega (arith, c.size.ensures, c.size-2.ensures) in
     let a = c.args in
     let o = c.in_default.is in record {
       words_len = search rules;
-      store_len = stores_fit a.settings a.edition (state c.before.before.before.before.before.before.before.before.before.before.before.before.before.before.before.before) a.buffer.now (asked c.before.before.before.before.before.before.before.before.before.before.before) o;
-      second_in_bounds = write_room a.settings a.edition (state c.before.before.before.before.before.before.before.before.before.before.before.before.before.before.before.before) a.buffer.now (asked c.before.before.before.before.before.before.before.before.before.before.before) o c.if-edition-ne-EDITION.false (sized a.words.now).incoming _
-          (size_is c.before.before.before.before) c.if-buffer-length.false;
+      store_len = stores_fit a.settings a.edition state a.buffer.now asked o;
+      second_in_bounds = write_room a.settings a.edition state a.buffer.now asked o c.if-edition-ne-EDITION.false (sized a.words.now).incoming _
+          size_is c.if-buffer-length.false;
     }
 
 pub returns : goal.returns
 returns c =
+    let state : State = record { peer = whole c.args.words.now; store = c.args.store.now; second = c.args.second.now } in
+    let asked : AtGate c.args.settings (lent_both state) state.peer = record { gate = c.ask-gate.result; is = c.ask-gate.ensures } in
+    let size_is : 1 + c.size.result + c.size-2.result ≡ 1 + length (numbers state) + total state = omega (arith, c.size.ensures, c.size-2.ensures) in
     let a = c.args in
-    write_done a.settings a.edition (state c.before.before.before.before.before.before.before.before.before.before.before.before.before.before.before.before.before.before.before) a.buffer.now (asked c.before.before.before.before.before.before.before.before.before.before.before.before.before.before) c.in_default.is c.if-edition-ne-EDITION.false
-    (sized a.words.now).incoming _ (size_is c.before.before.before.before.before.before.before) c.if-buffer-length.false _ c.put.ensures
+    write_done a.settings a.edition state a.buffer.now asked c.in_default.is c.if-edition-ne-EDITION.false
+    (sized a.words.now).incoming _ size_is c.if-buffer-length.false _ c.put.ensures

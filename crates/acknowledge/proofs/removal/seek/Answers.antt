@@ -8,14 +8,8 @@ use Rattle.queues.specs.declared.Out.{Out}
 use Rattle.acknowledge.specs.Removal.{seek}
 use Rattle.acknowledge.specs.CodeSearches.{look_of, at}
 use Rattle.acknowledge.proofs.RemovalChanges.{turn_found, turn_ends, turn_goes_on, turn_end}
+use Rattle.acknowledge.proofs.removal.seek.Invariants.{named, made}
 use Rattle.acknowledge.proofs.removal.seek.Goals as goal
-
--- the slots that the list names, and what the search makes of a slot
-abbrev named : List ℕ → Out → List ℕ
-named ws list = out_items (out_of list (whole ws).lists)
-
-abbrev made : List ℕ → Reliable → ℕ → Bool → ℕ → ℕ
-made ws number channel sent s = at (map (look_of sent number.0 channel) (whole ws).outgoing) s
 
 pub loop-k-init : goal.loop-k-init
 loop-k-init c =

@@ -20,7 +20,7 @@ returns-then-own-number c =
     let low : n.result ≤ length xs = omega (arith, n.ensures) in
     let all = take_all n.result xs (omega (arith, n.ensures)) in
     let is = c.incoming_at-slot.ensures ∙ ap (λ (x : ℕ). get_or p.incoming x no_incoming) c.slot_at-s.ensures in
-    let hit = held_hit p.incoming xs n.result c.loop-k.k low c.loop-k-test.taken c.incoming_at-slot.result is a.number.0 c.if-own-number.true in
+    let hit = held_hit p.incoming xs n.result c.loop-k.k low c.loop-k-test.true c.incoming_at-slot.result is a.number.0 c.if-own-number.true in
     sym (c.loop-k.invariant.1 ∙ hit) ∙ ap (λ (ys : List ℕ). holds p.incoming ys a.number.0) all
 
 pub loop-k-preserved : goal.loop-k-preserved
@@ -29,7 +29,7 @@ loop-k-preserved c =
     let a = c.args in
     let p = whole a.words.now in
     let xs = in_items (held_of p a.i) in
-    let h = c.loop-k-test.taken in
+    let h = c.loop-k-test.true in
     let low : n.result ≤ length xs = omega (arith, n.ensures) in
     let is = c.incoming_at-slot.ensures ∙ ap (λ (x : ℕ). get_or p.incoming x no_incoming) c.slot_at-s.ensures in
     let miss = held_miss p.incoming xs n.result c.loop-k.k low h c.incoming_at-slot.result is a.number.0 c.if-own-number.false in

@@ -2,7 +2,6 @@
 -- a turn is one more place, with or without its slot. The measure is what is left of the slots.
 use Prim.Native.Nat.{◌+◌, ◌<◌, ◌-◌}
 use mathlib.Core.Path.{refl, ap, ◌∙◌}
-use mathlib.Core.Logic.{⊎_elim}
 use native.Mathlib.Omega.{arith}
 use lib.ListN.{length, take}
 use lib.Seq.{length-sets}
@@ -12,6 +11,7 @@ use Rattle.overdue.specs.Walking.{bearing}
 use Rattle.overdue.proofs.Laws.{Borne, borne_none, borne_low, borne_with, borne_without}
 use Rattle.timeouts.proofs.BackLaws.{sent_fits, gathered}
 use Rattle.timeouts.proofs.back.gather.Goals as goal
+use Rattle.timeouts.proofs.back.gather.Goals.{then-marks-k, else-marks-k}
 
 pub loop-k-init : goal.loop-k-init
 loop-k-init c =
@@ -30,8 +30,10 @@ loop-k-preserved c =
     let items = out_items (whole a.words.now).lists.sent in
     let h : c.loop-k.k < length items = omega (arith, c.count-n.ensures) in
     let next : Borne a.mark a.marks.now items a.cells.now (c.loop-k.k + 1) c.if-marks-k.cells c.if-marks-k.m =
-    ⊎_elim (λ w. rw (w.2, w.3, w.1.ensures) (borne_with a.mark a.marks.now items a.cells.now i.4 h w.0.taken))
-    (λ w. rw (w.1, w.2) (borne_without a.mark a.marks.now items a.cells.now i.4 h w.0.left)) c.if-marks-k.branch in
+    elim c.if-marks-k.branch [
+      | then-marks-k w ↦ rw (w.cells-is, w.m-is, w.slot_at.ensures) (borne_with a.mark a.marks.now items a.cells.now i.4 h w.if-marks-k.true)
+      | else-marks-k w ↦ rw (w.cells-is, w.m-is) (borne_without a.mark a.marks.now items a.cells.now i.4 h w.if-marks-k.false)
+    ] in
     (omega arith, i.1, borne_low a.mark a.marks.now items a.cells.now next, ap length next.stored ∙ length-sets a.cells.now 0 (bearing a.mark a.marks.now (take (c.loop-k.k + 1) items)), next)
 
 pub returns : goal.returns
