@@ -9,4 +9,5 @@ pub returns : goal.returns
 returns c =
     let q = c.queue in
     let a = c.args in
-    subst (λ (x : Piece). Sets (whole a.words.now) a.o a.marks.now x q.result q.new.marks (whole q.new.words)) c.piece_at.ensures q.ensures
+    let it = subst (λ (x : Piece). Sets (whole a.words.now) a.o a.marks.now x q.result q.new.marks (whole q.new.words)) c.piece_at.ensures (q.ensures.out, q.ensures.kept) in
+    record { out = it.0; kept = it.1 }

@@ -63,7 +63,7 @@ loop-j-init c =
 
 pub overflow_add-j : goal.overflow_add-j
 overflow_add-j c =
-    let h = c.count_of-count.ok in
+    let h = c.count_of-count.type_inv in
     search rules
 
 pub loop-j-preserved : goal.loop-j-preserved
@@ -72,7 +72,7 @@ loop-j-preserved c =
     let q = c.queue-o in
     let l = c.loop-j in
     goes_turn c.packet_of-packet.result c.count_of-count.result c.args.channel peer (whole l.words) l.o l.marks l.j l.offset l.invariant
-    c.loop-j-test.true q.result q.new.marks (whole q.new.words) q.ensures c.next_at-offset.result c.next_at-offset.ensures
+    c.loop-j-test.true q.result q.new.marks (whole q.new.words) (q.ensures.out, q.ensures.kept) c.next_at-offset.result c.next_at-offset.ensures
 
 pub returns : goal.returns
 returns c =

@@ -6,5 +6,4 @@ use Rattle.arrive_fragment.proofs.storing.begin.Goals as goal
 pub returns : goal.returns
 returns c =
     let a = c.args in
-    let e = c.add.ensures in
-    record { words_after = e.0 ∙ ap (piece_on a.s a.a) c.open.ensures; second_after = e.1 ∙ ap (with_bytes a.a a.datagram.now) c.clear.ensures }
+    record { words_after = c.add.ensures.words_after ∙ ap (piece_on a.s a.a) c.open.ensures; second_after = c.add.ensures.second_after ∙ ap (with_bytes a.a a.datagram.now) c.clear.ensures }
