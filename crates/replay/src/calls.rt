@@ -4,23 +4,26 @@ use crate::settings::Bench;
 use places::RECORD;
 use script::frames;
 use script::frames::Frame;
+use std::io;
+use std::io::Write;
 
 // Op 0 lets no length above a store's pass.
-pub(crate) fn call(
+pub(crate) fn call<W: Write>(
+    out: &mut W,
     f: Frame,
     input: &[u8],
     bench: Bench,
     words: &mut [u32; RECORD],
     store: &mut [u8],
     second: &mut [u8],
-) {
+) -> io::Result<()> {
     let n = bench.store as usize;
     let m = bench.second as usize;
     if store.len() < n {
-        return;
+        return Ok(());
     }
     if second.len() < m {
-        return;
+        return Ok(());
     }
     let command = script_commands::command(input, 0, 4);
     let asked = script_calls::call_of(f, command);
@@ -32,5 +35,5 @@ pub(crate) fn call(
         &mut second[..m],
         frames::bytes(input),
     );
-    replies::tell(reply);
+    replies::tell(out, reply)
 }

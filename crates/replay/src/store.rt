@@ -2,20 +2,22 @@
 use numbers::widths::wide8;
 use script::frames::Frame;
 use script::{line, row};
+use std::io;
+use std::io::Write;
 
 // The third number names the store: 0 the first, 1 the second.
-pub(crate) fn told(f: Frame, store: &[u8], second: &[u8]) {
+pub(crate) fn told<W: Write>(out: &mut W, f: Frame, store: &[u8], second: &[u8]) -> io::Result<()> {
     if f.n2 == 1 {
-        return of(f, second);
+        return of(out, f, second);
     }
-    of(f, store)
+    of(out, f, store)
 }
 
-fn of(f: Frame, store: &[u8]) {
+fn of<W: Write>(out: &mut W, f: Frame, store: &[u8]) -> io::Result<()> {
     if f.op == 16 {
-        return line::value(hash(store, f.n0, f.n1));
+        return line::value(out, hash(store, f.n0, f.n1));
     }
-    tell(store, f.n0, f.n1)
+    tell(out, store, f.n0, f.n1)
 }
 
 fn hash(store: &[u8], first: u32, count: u32) -> u32 {
@@ -30,12 +32,13 @@ fn hash(store: &[u8], first: u32, count: u32) -> u32 {
     hash
 }
 
-fn tell(store: &[u8], first: u32, count: u32) {
+fn tell<W: Write>(out: &mut W, store: &[u8], first: u32, count: u32) -> io::Result<()> {
     let mut left = count;
     let mut i = first as usize;
     while 0 < left && i < store.len() {
-        line::value(wide8(store[i]));
+        line::value(out, wide8(store[i]))?;
         left -= 1;
         i += 1;
     }
+    Ok(())
 }

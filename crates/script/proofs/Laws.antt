@@ -24,6 +24,10 @@ told_part row after xs ys e = sym (told_append row xs ys) ∙ ap (λ (r : Row). 
 pub told_then : (row mid after : Row) (xs ys : List ℕ) → mid ≡ told row xs → after ≡ told mid ys → after ≡ told row (xs ++ ys)
 told_then row mid after xs ys e f = f ∙ sym (told_part row mid xs ys e)
 
+-- whether it is shown stays
+pub shown_kept : (row after : Row) (xs : List ℕ) → after ≡ told row xs → after.is_shown ≡ row.is_shown
+shown_kept row after xs e = ap (λ (r : Row). r.is_shown) e
+
 pub told_none : (row : Row) → told row [] ≡ row
 unfolding hashed
 told_none row = refl

@@ -2,7 +2,9 @@
 ghost use Rattle.std.specs.Prelude.{◌≡◌, ◌+◌, ◌<◌};
 ghost use Rattle.script.specs.Frames.{byte_at, pair_at, number_at, length_place, part_of, bytes_of};
 
-use libc::{STDIN_FILENO, STDOUT_FILENO};
+use crate::line;
+use std::io;
+use std::io::{ErrorKind, Read, Write};
 
 // The op and the first ten numbers; further ones are a command's.
 #[derive(Clone, Copy)]
@@ -108,35 +110,45 @@ fn part(input: &[u8], from: u32, n: u32) -> &[u8]
 }
 
 // Reads the next frame. An input that ends is the end of the run; inside a frame that has its line.
-pub fn is_next(input: &mut [u8]) -> bool {
-    if !is_read(input, 0, 1) {
-        return false;
+pub fn is_next<R: Read, W: Write>(from: &mut R, out: &mut W, input: &mut [u8]) -> io::Result<bool> {
+    if !is_read(from, input, 0, 1)? {
+        return Ok(false);
     }
-    if is_rest(input) {
-        return true;
+    if is_rest(from, input)? {
+        return Ok(true);
     }
-    io::write_all(STDOUT_FILENO, b"short\n");
-    false
+    line::word(out, b"short\n")?;
+    out.flush()?;
+    Ok(false)
 }
 
-fn is_rest(input: &mut [u8]) -> bool {
-    if !is_read(input, 1, 2) {
-        return false;
+fn is_rest<R: Read>(from: &mut R, input: &mut [u8]) -> io::Result<bool> {
+    if !is_read(from, input, 1, 2)? {
+        return Ok(false);
     }
     let place = length_place(input);
-    let from = place + 2;
-    if !is_read(input, 2, from) {
-        return false;
+    let start = place + 2;
+    if !is_read(from, input, 2, start)? {
+        return Ok(false);
     }
-    let end = from + pair(input, place);
-    is_read(input, from, end)
+    let end = start + pair(input, place);
+    is_read(from, input, start, end)
 }
 
-fn is_read(input: &mut [u8], from: u32, end: u32) -> bool {
-    let a = from as usize;
+// Whether the input had bytes for all of the part.
+fn is_read<R: Read>(from: &mut R, input: &mut [u8], start: u32, end: u32) -> io::Result<bool> {
+    let a = start as usize;
     let b = end as usize;
     if a <= b && b <= input.len() {
-        return io::read_full(STDIN_FILENO, &mut input[a..b]) == b - a;
+        return is_filled(from.read_exact(&mut input[a..b]));
     }
-    false
+    Ok(false)
+}
+
+fn is_filled(read: io::Result<()>) -> io::Result<bool> {
+    match read {
+        Ok(()) => Ok(true),
+        Err(e) if e.kind() == ErrorKind::UnexpectedEof => Ok(false),
+        Err(e) => Err(e),
+    }
 }

@@ -1,35 +1,53 @@
-// Lines: decimal numbers and words with one space between, each handed out as it is made.
-use libc::STDOUT_FILENO;
+// Lines: decimal numbers and words with one space between, written to what takes them. A line is handed out as it ends.
+ghost use Rattle.std.specs.Prelude.{◌∷◌, [], ◌++◌, OnOk, decimal};
+ghost use Rattle.std.specs.Io.KnownBytes.{Appends};
+ghost use Rattle.script.specs.Line.{ending};
 
-pub fn word(s: &[u8]) {
-    io::write_all(STDOUT_FILENO, s);
+use std::io;
+use std::io::Write;
+
+pub fn word<W: Write>(out: &mut W, s: &[u8]) -> io::Result<()>
+    ensures { OnOk result (Appends (W.contents out.old) (W.contents out.new) s.now) }
+{
+    out.write_all(s)
 }
 
 // The op begins its line.
-pub fn begin(op: u32) {
-    io::print_decimal(STDOUT_FILENO, op as u64);
+pub fn begin<W: Write>(out: &mut W, op: u32) -> io::Result<()>
+    ensures { OnOk result (Appends (W.contents out.old) (W.contents out.new) (decimal op)) }
+{
+    write!(out, "{op}")
 }
 
-pub fn value(x: u32) {
-    byte(b' ');
-    begin(x);
+pub fn value<W: Write>(out: &mut W, x: u32) -> io::Result<()>
+    ensures { OnOk result (Appends (W.contents out.old) (W.contents out.new) (32 ∷ decimal x)) }
+{
+    byte(out, b' ')?;
+    begin(out, x)
 }
 
-pub fn pair(x: u32, y: u32) {
-    value(x);
-    value(y);
+pub fn pair<W: Write>(out: &mut W, x: u32, y: u32) -> io::Result<()>
+    ensures { OnOk result (Appends (W.contents out.old) (W.contents out.new) (32 ∷ decimal x ++ 32 ∷ decimal y)) }
+{
+    value(out, x)?;
+    value(out, y)
 }
 
-fn byte(b: u8) {
-    word(&[b]);
+fn byte<W: Write>(out: &mut W, b: u8) -> io::Result<()>
+    ensures { OnOk result (Appends (W.contents out.old) (W.contents out.new) (b ∷ [])) }
+{
+    word(out, &[b])
 }
 
 // A call ends its line with the record's hash.
-pub fn end(op: u32, hash: u32) {
+pub fn end<W: Write>(out: &mut W, op: u32, hash: u32) -> io::Result<()>
+    ensures { OnOk result (Appends (W.contents out.old) (W.contents out.new) (ending op hash)) }
+{
     if ((0 < op) & (op < 15)) | (op == 18) {
-        byte(b' ');
-        byte(b'#');
-        value(hash);
+        byte(out, b' ')?;
+        byte(out, b'#')?;
+        value(out, hash)?;
     }
-    byte(b'\n');
+    byte(out, b'\n')?;
+    out.flush()
 }

@@ -1,8 +1,10 @@
 // Where a row of numbers goes: into its hash, and for op 15 into the line too, which no contract speaks of.
-ghost use Rattle.std.specs.Prelude.{◌≡◌, [], ◌∷◌, take};
+ghost use Rattle.std.specs.Prelude.{◌≡◌, [], ◌∷◌, take, IfOk, IsOk, IsFalse};
 ghost use Rattle.script.specs.Row.{mixed as mix, told};
 
 use crate::line;
+use std::io;
+use std::io::Write;
 
 #[derive(Clone, Copy)]
 pub struct Row {
@@ -10,42 +12,45 @@ pub struct Row {
     pub is_shown: bool,
 }
 
-// The row with one number more; so are all below.
-pub fn put(row: Row, x: u32) -> Row
-    ensures { result ≡ told row (x ∷ []) }
+// The row with one number more; so are all below. What writes can fail; a row that is not shown is not written.
+pub fn put<W: Write>(out: &mut W, row: Row, x: u32) -> io::Result<Row>
+    ensures value { IfOk result (λ after. after ≡ told row (x ∷ [])) }
+    ensures silent { IsFalse row.is_shown → IsOk result }
 {
     if row.is_shown {
-        line::value(x);
+        line::value(out, x)?;
     }
-    Row {
+    Ok(Row {
         hash: mixed(row.hash, x),
         is_shown: row.is_shown,
-    }
+    })
 }
 
-pub fn put_all(row: Row, numbers: &[u32]) -> Row
-    ensures { result ≡ told row numbers.now }
+pub fn put_all<W: Write>(out: &mut W, row: Row, numbers: &[u32]) -> io::Result<Row>
+    ensures value { IfOk result (λ after. after ≡ told row numbers.now) }
+    ensures silent { IsFalse row.is_shown → IsOk result }
 {
     let mut after = row;
     let mut i = 0;
     while i < numbers.len() {
-        after = put(after, numbers[i]);
+        after = put(out, after, numbers[i])?;
         i += 1;
     }
-    after
+    Ok(after)
 }
 
 // The first n of them, or all.
-pub fn put_slots(row: Row, slots: &[u16], n: usize) -> Row
-    ensures { result ≡ told row (take n slots.now) }
+pub fn put_slots<W: Write>(out: &mut W, row: Row, slots: &[u16], n: usize) -> io::Result<Row>
+    ensures value { IfOk result (λ after. after ≡ told row (take n slots.now)) }
+    ensures silent { IsFalse row.is_shown → IsOk result }
 {
     let mut after = row;
     let mut i = 0;
     while i < n && i < slots.len() {
-        after = put(after, slots[i] as u32);
+        after = put(out, after, slots[i] as u32)?;
         i += 1;
     }
-    after
+    Ok(after)
 }
 
 // The hash of a row with one number more.

@@ -13,6 +13,8 @@ use numbers::counters::Reliable;
 use numbers::widths::wide8;
 use script::row::Row;
 use script::{frames, line};
+use std::io;
+use std::io::Write;
 use wire::build::Built;
 use wire::reader::Reading;
 use wire::writer::Writing;
@@ -84,38 +86,40 @@ pub fn command(input: &[u8], head: u8, tail: u8) -> Command
     }
 }
 
-pub fn read(bytes: &[u8], place: u32) {
+pub fn read<W: Write>(out: &mut W, bytes: &[u8], place: u32) -> io::Result<()> {
     match reader::read(bytes, place as usize) {
-        Reading::Found { command, next } => found(command, next),
-        Reading::Refused => line::value(REFUSED),
+        Reading::Found { command, next } => found(out, command, next),
+        Reading::Refused => line::value(out, REFUSED),
     }
 }
 
 // The next place, then the command's numbers.
-fn found(c: Command, next: usize) {
-    line::pair(0, (next % 65536) as u32);
+fn found<W: Write>(out: &mut W, c: Command, next: usize) -> io::Result<()> {
+    line::pair(out, 0, (next % 65536) as u32)?;
     let row = Row {
         hash: 0,
         is_shown: true,
     };
-    script_record::command(row, c);
+    script_record::command(out, row, c)?;
+    Ok(())
 }
 
-pub fn write(input: &[u8], room: u32) {
+pub fn write<W: Write>(out: &mut W, input: &[u8], room: u32) -> io::Result<()> {
     let mut buffer = [0u8; 64];
     let n = (room % 65) as usize;
     match writer::write(&mut buffer[0..n], 0, command(input, 0, 2)) {
-        Writing::Done(end) => listed(&buffer, end),
-        Writing::Refused => line::value(REFUSED),
+        Writing::Done(end) => listed(out, &buffer, end),
+        Writing::Refused => line::value(out, REFUSED),
     }
 }
 
 // Each byte written.
-fn listed(buffer: &[u8; 64], end: usize) {
-    line::value(0);
+fn listed<W: Write>(out: &mut W, buffer: &[u8; 64], end: usize) -> io::Result<()> {
+    line::value(out, 0)?;
     let mut i = 0;
     while i < 64 && i < end {
-        line::value(wide8(buffer[i]));
+        line::value(out, wide8(buffer[i]))?;
         i += 1;
     }
+    Ok(())
 }

@@ -1,7 +1,7 @@
 // The record's row of numbers, by the table of its places, in document 01's order; a slot's row and a command's, which replies tell.
 #![tactic(auto)]
 
-ghost use Rattle.std.specs.Prelude.{◌≡◌, [], ◌∷◌, take, length};
+ghost use Rattle.std.specs.Prelude.{◌≡◌, [], ◌∷◌, take, length, IfOk, IsOk, IsFalse};
 ghost use Rattle.numbers.specs.Pick.{pick};
 ghost use Rattle.command.specs.Layout.{layout as widths};
 ghost use Rattle.command.specs.Rows.{row_of as numbers_of};
@@ -17,32 +17,37 @@ use places::RECORD;
 use record::groups::Outgoing;
 use script::row;
 use script::row::Row;
+use std::io;
+use std::io::Write;
 
 // Each number of the record that is written.
-pub fn record(row: Row, words: &[u32]) -> Row
+pub fn record<W: Write>(out: &mut W, row: Row, words: &[u32]) -> io::Result<Row>
     requires { length words.now ≡ record_length }
-    ensures { result ≡ told row (row_of (whole words.now)) }
+    ensures value { IfOk result (λ after. after ≡ told row (row_of (whole words.now))) }
+    ensures silent { IsFalse row.is_shown → IsOk result }
 {
     let mut after = row;
     let mut i: usize = 0;
     while i < RECORD {
-        after = number(after, order::place_at(words, i));
+        after = number(out, after, order::place_at(words, i))?;
         i = i + 1;
     }
-    after
+    Ok(after)
 }
 
-fn number(row: Row, place: Place) -> Row
-    ensures { result ≡ pick place.is_written (told row (place.number ∷ [])) row }
+fn number<W: Write>(out: &mut W, row: Row, place: Place) -> io::Result<Row>
+    ensures value { IfOk result (λ after. after ≡ pick place.is_written (told row (place.number ∷ [])) row) }
+    ensures silent { IsFalse row.is_shown → IsOk result }
 {
     if place.is_written {
-        return row::put(row, place.number);
+        return row::put(out, row, place.number);
     }
-    row
+    Ok(row)
 }
 
-pub fn outgoing_slot(row: Row, s: Outgoing) -> Row
-    ensures { result ≡ told row (slot_row s) }
+pub fn outgoing_slot<W: Write>(out: &mut W, row: Row, s: Outgoing) -> io::Result<Row>
+    ensures value { IfOk result (λ after. after ≡ told row (slot_row s)) }
+    ensures silent { IsFalse row.is_shown → IsOk result }
 {
     let a = s.reliable;
     let b = s.unreliable;
@@ -57,27 +62,29 @@ pub fn outgoing_slot(row: Row, s: Outgoing) -> Row
         s.attempts as u32,
         s.packet as u32,
     ];
-    let row = row::put_all(row, &numbers);
+    let row = row::put_all(out, row, &numbers)?;
     let c = s.command;
-    command(row, c)
+    command(out, row, c)
 }
 
-pub fn command(row: Row, c: Command) -> Row
-    ensures { result ≡ told row (numbers_of c) }
+pub fn command<W: Write>(out: &mut W, row: Row, c: Command) -> io::Result<Row>
+    ensures value { IfOk result (λ after. after ≡ told row (numbers_of c)) }
+    ensures silent { IsFalse row.is_shown → IsOk result }
 {
     let fields = c.fields;
-    fitted(row, rows::kind_of(fields), rows::of(c))
+    fitted(out, row, rows::kind_of(fields), rows::of(c))
 }
 
 // As many numbers as a command of this kind has.
-fn fitted(row: Row, kind: u8, numbers: [u32; 16]) -> Row
-    ensures { result ≡ told row (take (length (widths kind)) numbers) }
+fn fitted<W: Write>(out: &mut W, row: Row, kind: u8, numbers: [u32; 16]) -> io::Result<Row>
+    ensures value { IfOk result (λ after. after ≡ told row (take (length (widths kind)) numbers)) }
+    ensures silent { IsFalse row.is_shown → IsOk result }
 {
     let mut after = row;
     let mut j = 0;
     while j < 16 && 0 < layout::width_of(kind, j) {
-        after = row::put(after, numbers[j]);
+        after = row::put(out, after, numbers[j])?;
         j += 1;
     }
-    after
+    Ok(after)
 }

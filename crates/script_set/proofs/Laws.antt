@@ -6,11 +6,11 @@ use mathlib.Core.Bool.{Bool, true, false}
 use mathlib.Core.List.{List, [], ◌∷◌, ◌++◌}
 use native.Mathlib.Omega.{arith}
 use lib.Dec.{ltb, eqb}
-use lib.ListN.{length, get_or, set, take, drop}
+use lib.ListN.{length, set, take, drop}
 use lib.Pow.{pow_mono, shr_lt, shr_mono, shl-shr}
 use lib.Seq.{sets, sets-eq, paste, take_all}
 use borrow.Author.Tests.{lt-ltb, ltb-true, ltb-false, eq-eqb, ne_eqb}
-use Rattle.numbers.specs.Pick.{pick, both}
+use Rattle.numbers.specs.Pick.{both}
 use Rattle.command.proofs.ByteLaws.{sets_append}
 use Rattle.peer.specs.declared.Peer.{Peer}
 use Rattle.script.specs.Frames.{number_at}

@@ -1,5 +1,5 @@
 -- Ops 20 to 24, the bench's own (SCRIPT.md): which places of the record they set, and what fits there. A place that does not exist is 1,236, past the last.
-use Rattle.std.specs.Prelude.{ℕ, zero, suc, ◌+◌, ◌*◌, ◌-◌, ◌^◌, Bool, true, List, [], ◌∷◌, ◌++◌, leb, ltb, eqb, get_or}
+use Rattle.std.specs.Prelude.{ℕ, zero, suc, ◌+◌, ◌*◌, ◌-◌, ◌^◌, Bool, true, List, [], ◌∷◌, ◌++◌, leb, ltb, get_or}
 use Rattle.numbers.specs.Pick.{pick, both}
 use Rattle.command.specs.Bytes.{pad}
 use Rattle.command.specs.Rows.{row_of, kind_of}

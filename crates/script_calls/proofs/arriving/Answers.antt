@@ -21,5 +21,5 @@ returns-in-18 c =
 pub returns-in_default : goal.returns-in_default
 returns-in_default c =
     let op = c.args.f.op in
-    let h = c.in_default.rest in
+    let h = c.in_default.in_default-own.rest in
     rw (ne_eqb (op) 10 h.0.0.1, ne_eqb (op) 11 h.0.1, ne_eqb (op) 18 h.1)

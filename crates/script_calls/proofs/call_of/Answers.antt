@@ -41,5 +41,5 @@ returns-in-7 c =
 pub returns-in_default : goal.returns-in_default
 returns-in_default c =
     let op = c.args.f.op in
-    let h = c.in_default.rest in
+    let h = c.in_default.in_default-own.rest in
     rw (ne_eqb (op) 1 h.0.0.0.0.0.0.1, ne_eqb (op) 2 h.0.0.0.0.0.1, ne_eqb (op) 3 h.0.0.0.0.1, ne_eqb (op) 4 h.0.0.0.1, ne_eqb (op) 5 h.0.0.1, ne_eqb (op) 6 h.0.1, ne_eqb (op) 7 h.1) c.second.ensures

@@ -26,5 +26,5 @@ returns-in-13 c =
 pub returns-in_default : goal.returns-in_default
 returns-in_default c =
     let op = c.args.f.op in
-    let h = c.in_default.rest in
+    let h = c.in_default.in_default-own.rest in
     rw (ne_eqb (op) 8 h.0.0.0.1, ne_eqb (op) 9 h.0.0.1, ne_eqb (op) 12 h.0.1, ne_eqb (op) 13 h.1) c.arriving.ensures

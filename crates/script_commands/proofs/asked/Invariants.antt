@@ -1,5 +1,5 @@
 -- `asked`: the row so far and the numbers still to come are the whole row; the measure is the places of the row that are left.
-use Prim.Native.Nat.{◌+◌, ◌≤◌, ◌-◌}
+use Prim.Native.Nat.{◌≤◌, ◌-◌}
 use mathlib.Core.Path.{◌≡◌}
 use mathlib.Core.List.{◌++◌}
 use lib.ListN.{length, take}

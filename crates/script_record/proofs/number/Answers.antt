@@ -1,6 +1,6 @@
 -- `number` meets its contract: one test.
-use mathlib.Core.Path.{◌∙◌}
+use borrow.Author.Rules.{rules}
 use Rattle.script_record.proofs.number.Goals as goal
 
 pub returns-then-place : goal.returns-then-place
-returns-then-place c = c.put.ensures ∙ simp c.if-place.true
+returns-then-place g c = record { value = rw c.if-place.true c.put.ensures.value; silent = search rules }

@@ -1,5 +1,4 @@
 -- `record` meets its contract: the row of all places told is that of the places that are left, told after the ones before place i; the measure is the places that are left.
-use Prim.Native.Nat.{◌-◌}
 use mathlib.Core.Path.{◌≡◌, refl, ap, sym, ◌∙◌}
 use mathlib.Core.List.{[], ◌∷◌}
 use native.Mathlib.Omega.{arith}
@@ -11,25 +10,26 @@ use Rattle.order.specs.Table.{table, nowhere}
 use Rattle.order.specs.declared.Place.{Place}
 use Rattle.order.proofs.WholeLaws.{table-length}
 use Rattle.script.specs.Row.{told}
-use Rattle.script_record.proofs.Laws.{place_turn, places_end}
+use Rattle.script_record.proofs.Laws.{place_turn, places_end, shown_placed}
 use Rattle.script_record.proofs.record.Goals as goal
 
 pub loop-i-init : goal.loop-i-init
-loop-i-init c = (search rules, refl)
+loop-i-init g c = (search rules, refl, refl)
 
 pub loop-i-preserved : goal.loop-i-preserved
-loop-i-preserved c =
+loop-i-preserved g c =
     let ws = c.args.words.now in
     let l = c.loop-i in
     let n : length (table (whole ws)) ≡ 1236 = table-length ws (search rules) in
     let e : c.place_at.result ≡ get_or (table (whole ws)) l.i nowhere = c.place_at.ensures in (
       omega arith,
-      l.invariant.1 ∙ place_turn l.after c.number-after.result (table (whole ws)) l.i (omega arith) (c.number-after.ensures ∙ ap (λ (q : Place). pick q.is_written (told l.after (q.number ∷ [])) l.after) e),
+      shown_placed l.after c.in_ok-after.after c.place_at.result c.in_ok-after.ensures.value ∙ l.invariant.1,
+      l.invariant.2 ∙ place_turn l.after c.in_ok-after.after (table (whole ws)) l.i (omega arith) (c.in_ok-after.ensures.value ∙ ap (λ (q : Place). pick q.is_written (told l.after (q.number ∷ [])) l.after) e),
     )
 
 pub returns : goal.returns
-returns c =
+returns g c =
     let l = c.loop-i in
     let ws = c.args.words.now in
     let n : length (table (whole ws)) ≡ 1236 = table-length ws (search rules) in
-    sym (l.invariant.1 ∙ places_end l.after (table (whole ws)) l.i (omega arith))
+    record { value = sym (l.invariant.2 ∙ places_end l.after (table (whole ws)) l.i (omega arith)); silent = search rules }

@@ -1,5 +1,5 @@
 -- `all_fit` meets its contract: whether all numbers fit is whether those that are left do, once those before fit.
-use Prim.Native.Nat.{◌+◌, ◌-◌}
+use Prim.Native.Nat.{◌+◌}
 use mathlib.Core.Path.{◌≡◌, ap, sym, ◌∙◌}
 use mathlib.Core.Bool.{true, false}
 use native.Mathlib.Omega.{arith}

@@ -1,5 +1,4 @@
 -- `put_all` meets its contract: what all numbers make of the record is what those that are left make of it, once those before are set.
-use Prim.Native.Nat.{◌-◌}
 use mathlib.Core.Path.{refl, sym, ◌∙◌}
 use native.Mathlib.Omega.{arith}
 use lib.ListN.{length-set}

@@ -6,7 +6,7 @@ use Rattle.script.specs.Row.{told}
 use Rattle.script.proofs.row.put_all.Given as goal
 
 abbrev pub invariant-loop-i : goal.invariant-loop-i
-invariant-loop-i l = (l.i ≤ length l.numbers) × (told l.initial.after l.numbers ≡ told l.after (drop l.i l.numbers))
+invariant-loop-i g l = (l.i ≤ length l.numbers) × (l.after.is_shown ≡ l.initial.after.is_shown) × (told l.initial.after l.numbers ≡ told l.after (drop l.i l.numbers))
 
 abbrev pub decreases-loop-i : goal.decreases-loop-i
-decreases-loop-i l = length l.numbers - l.i
+decreases-loop-i g l = length l.numbers - l.i

@@ -6,7 +6,7 @@ use Rattle.script.specs.Row.{told}
 use Rattle.script.proofs.row.put_slots.Given as goal
 
 abbrev pub invariant-loop-i : goal.invariant-loop-i
-invariant-loop-i l = (l.i ≤ length l.slots) × (told l.initial.after (take l.n l.slots) ≡ told l.after (drop l.i (take l.n l.slots)))
+invariant-loop-i g l = (l.i ≤ length l.slots) × (l.after.is_shown ≡ l.initial.after.is_shown) × (told l.initial.after (take l.n l.slots) ≡ told l.after (drop l.i (take l.n l.slots)))
 
 abbrev pub decreases-loop-i : goal.decreases-loop-i
-decreases-loop-i l = length l.slots - l.i
+decreases-loop-i g l = length l.slots - l.i
