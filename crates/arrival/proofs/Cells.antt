@@ -1,8 +1,7 @@
 -- What laying bytes into a store does to it: its length stays, from the place on stands the payload, every other byte is as it was.
 -- The argument: the tests pick between a `paste` and the store itself; the laws of `paste` are those of its three parts.
-use Rattle.std.proofs.Common.{◌≡◌, ℕ, ◌+◌, ◌-◌, ◌*◌, ◌<◌, ◌≤◌, Bool, true, false, leb, ◌⊎◌, List, ◌++◌, length, get_or, take, drop, set, sym, refl, ap, ◌∙◌, ⊎_elim, append_assoc, add-sub_of_le, add-one, arith, length-drop, length-take-le, get_or-drop, get_or-take, take_at, drop_at, le-leb, leb-true}
-use lib.ListN.{get_or-append}
-use lib.Seq.{paste, paste-suc, length-paste, drop-paste, length_paste_head}
+use Rattle.std.proofs.Common.{◌≡◌, ℕ, ◌+◌, ◌-◌, ◌<◌, ◌≤◌, Bool, true, false, leb, ◌⊎◌, List, length, get_or, take, drop, set, refl, ap, ◌∙◌, ⊎_elim, add-one, arith, length-drop, get_or-drop, le-leb, leb-true}
+use lib.Seq.{paste, paste-suc, length-paste}
 use borrow.Author.Tests.{lt-leb}
 use Rattle.numbers.specs.Pick.{pick, both}
 use Rattle.cells.proofs.Pasting.{pasted, pasted_before, pasted_after}

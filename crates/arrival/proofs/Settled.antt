@@ -1,6 +1,6 @@
 -- Any two results that an arrival's contract allows are equal: reply, record and store.
 -- The argument: `answer_of` tells the replies apart, so the answer settles the reply; record and store are an equation.
-use Rattle.std.proofs.Common.{◌≡◌, ℕ, get_or, sym, refl, ap, ◌∙◌, arith}
+use Rattle.std.proofs.Common.{◌≡◌, ℕ, get_or, sym, refl, ap, arith}
 use Rattle.numbers.specs.Answers.{Answer, numbers_of}
 use Rattle.numbers.proofs.Settled.{refused_apart, refused_not_done}
 use Rattle.peer.specs.Outcome.{State, Outcome, Came}

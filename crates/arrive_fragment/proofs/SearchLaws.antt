@@ -9,7 +9,6 @@ use lib.Dec.{eqb}
 use lib.ListN.{length, take, drop, get_or}
 use borrow.Author.Tests.{eqb-true, eq-eqb, ne_eqb}
 use Rattle.numbers.specs.Pick.{pick}
-use Rattle.cells.specs.declared.First.{First}
 use Rattle.cells.specs.declared.First.TheVariants.{Slot, Empty}
 use Rattle.cells.proofs.Views.{part_step, part_end}
 use Rattle.record.specs.Fresh.{no_incoming, no_channel}

@@ -1,7 +1,7 @@
 -- The arrival of a piece, C-11, on the record and both stores: refused by 11, 13, 9, 6 and 7 as the other arrivals, then by what becomes of it.
 -- "A block .. is assembled in a second lent store of that size and an incoming slot .. its total counts as waiting from the first piece, which first sets that store
 -- to 0 .. The block is complete exactly when all count pieces are marked, and is then dispatched in its turn."
-use Rattle.std.specs.Prelude.{ℕ, Bool, List, eqb, length, get_or, set, replicate}
+use Rattle.std.specs.Prelude.{ℕ, List, eqb, length, get_or, set, replicate}
 use Rattle.numbers.specs.Pick.{pick}
 use Rattle.record.specs.Fresh.{no_incoming}
 use Rattle.record.specs.Marks.{with_piece}

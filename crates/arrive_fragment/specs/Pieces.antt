@@ -13,8 +13,6 @@ use Rattle.record.specs.Blocks.{is_block}
 use Rattle.record.specs.Damage.{below, used_in, blocks}
 use Rattle.record.specs.declared.groups.Channel.{Channel}
 use Rattle.record.specs.declared.groups.Incoming.{Incoming}
-use Rattle.record.specs.declared.groups.Marks.{Marks}
-use Rattle.command.specs.declared.fields.Fragment.{Fragment}
 use Rattle.blocks.specs.Blocks.{fields_fit, like_first}
 use Rattle.peer.specs.States.{disconnect_later}
 use Rattle.peer.specs.declared.settings.Settings.{Settings}

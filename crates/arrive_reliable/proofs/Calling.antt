@@ -1,6 +1,6 @@
 -- The reliable arrival comes out as the rule says: refused by either gate, left by its fate, or stored. The argument: each part that the code
 -- makes is given by its equation, so the state made of them is the rule's; past 6 the channel exists, and what is stored has a slot that exists.
-use Rattle.std.proofs.Common.{◌≡◌, ℕ, ◌<◌, Bool, true, false, List, [], ◌∷◌, length, set, sym, refl, ap, ◌∙◌, arith}
+use Rattle.std.proofs.Common.{◌≡◌, ℕ, ◌<◌, Bool, true, false, List, length, set, sym, refl, ap, ◌∙◌, arith}
 use Rattle.numbers.specs.declared.refusals.Refusal.{Refusal}
 use Rattle.cells.specs.declared.Free.{Free}
 use Rattle.cells.proofs.Lowest.{lowest_exists}

@@ -1,6 +1,6 @@
 -- Marking what a list names, whatever the list: slots that do not exist leave no mark, so from no marks at all the marks say what the list names.
 -- The argument: one cell's mark at a time; a slot in the pool is marked then where it was before or is that cell.
-use Prim.Native.Nat.{ℕ, ◌+◌, ◌≤◌, ◌<◌}
+use Prim.Native.Nat.{ℕ, ◌<◌}
 use mathlib.Core.Path.{◌≡◌, refl, ◌∙◌}
 use mathlib.Core.List.{List, [], ◌∷◌, ◌++◌}
 use mathlib.Core.Bool.{true}

@@ -1,5 +1,5 @@
 -- Which slots of a pool are free: "A slot is free when no list names it; the lowest free one is taken"
-use Rattle.std.specs.Prelude.{ℕ, zero, suc, ◌+◌, ◌≡◌, Bool, true, false, not, List, [], ◌∷◌, ltb, eqb, length, get_or, set}
+use Rattle.std.specs.Prelude.{ℕ, zero, suc, ◌+◌, Bool, true, false, not, List, [], ◌∷◌, ltb, eqb, length, get_or, set}
 use Rattle.numbers.specs.Pick.{pick, both}
 use Rattle.cells.specs.Runs.{has}
 use Rattle.cells.specs.declared.Free.{Free}

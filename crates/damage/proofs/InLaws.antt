@@ -1,6 +1,6 @@
 -- The incoming pool is sound when the walks over dispatched and the channels' lists, one after another from no marks, get to their ends.
 -- The argument: the walks are one walk over all the slots that the lists name, with the tests of each list beside it.
-use Prim.Native.Nat.{ℕ, ◌+◌, ◌-◌}
+use Prim.Native.Nat.{ℕ, ◌+◌}
 use mathlib.Core.Path.{◌≡◌, ap, sym, ◌∙◌}
 use mathlib.Core.List.{List, ◌++◌}
 use mathlib.Core.Bool.{Bool, false}

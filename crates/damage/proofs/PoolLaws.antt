@@ -1,6 +1,6 @@
 -- Each pool is sound when the walks over its lists, one after another from no marks, get to their ends.
 -- The argument: the walks are one walk over all the slots that the lists name, with the tests of each list beside it.
-use Prim.Native.Nat.{ℕ, zero, suc, ◌+◌, ◌-◌, ◌≤◌, ◌<◌}
+use Prim.Native.Nat.{ℕ, zero, suc, ◌+◌, ◌-◌}
 use mathlib.Core.Path.{◌≡◌, refl, ap, sym, ◌∙◌}
 use mathlib.Core.List.{List, [], ◌∷◌, ◌++◌, map}
 use mathlib.Core.Bool.{Bool, true, false}

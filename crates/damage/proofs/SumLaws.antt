@@ -1,6 +1,6 @@
 -- The lengths that a walk sums and the blocks that it counts: over lists joined, and the bound of each length.
 -- The argument: what is left to sum is the length of the slot at place k and what is left after it.
-use Prim.Native.Nat.{ℕ, ◌+◌, ◌≤◌, ◌<◌}
+use Prim.Native.Nat.{ℕ, ◌+◌, ◌≤◌}
 use mathlib.Core.Path.{◌≡◌, refl}
 use mathlib.Core.List.{List, [], ◌∷◌, ◌++◌}
 use mathlib.Core.Bool.{Bool, true, false}

@@ -1,6 +1,6 @@
 -- The walks: a turn of each loop, and what a whole walk says by the rule.
 -- The argument: a walk is a conjunction, so that of the test leaves it, and walks one after another are one walk over the lists joined.
-use Prim.Native.Nat.{ℕ, ◌+◌, ◌≤◌, ◌<◌}
+use Prim.Native.Nat.{ℕ, ◌+◌}
 use mathlib.Core.Path.{◌≡◌, refl, ◌∙◌}
 use mathlib.Core.List.{List, [], ◌∷◌, ◌++◌}
 use mathlib.Core.Bool.{Bool, true, false, not}

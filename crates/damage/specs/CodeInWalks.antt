@@ -1,6 +1,6 @@
 -- For functions inside the house alone: what each walk over a list answers, that every slot exists, has no mark yet and passes
 -- a test, and is marked then. Nothing here need be believed: `in_is` in proofs/InLaws gives the rule back.
-use Rattle.std.specs.Prelude.{ℕ, ◌+◌, ◌≤◌, ◌≡◌, Bool, true, not, List, [], ◌∷◌, ltb, eqb, length, get_or, set}
+use Rattle.std.specs.Prelude.{ℕ, ◌+◌, Bool, true, not, List, [], ◌∷◌, ltb, eqb, length, get_or, set}
 use Rattle.numbers.specs.Pick.{pick, both}
 use Rattle.cells.specs.Free.{is_marked, marked_all}
 use Rattle.record.specs.Lists.{in_items}

@@ -1,6 +1,6 @@
 -- Dispatch comes out as the rule says, where the gate is open: refused with 2, or done, with nothing ready or some. The argument: each part
 -- is given by its equation; a sound record's count is at most 8; a channel stored as it was leaves the record as it was.
-use Rattle.std.proofs.Common.{◌≡◌, ℕ, ◌<◌, ◌≤◌, Bool, true, false, eqb, [], ◌∷◌, get_or, refl, arith, le-ltb, lt-ltb, eqb-true}
+use Rattle.std.proofs.Common.{◌≡◌, ℕ, ◌<◌, ◌≤◌, Bool, true, false, eqb, get_or, refl, arith, le-ltb, lt-ltb, eqb-true}
 use lib.Seq.{set-get_or}
 use Rattle.numbers.specs.Pick.{pick}
 use Rattle.numbers.specs.declared.refusals.Refusal.TheVariants.{InvalidChannel}

@@ -1,6 +1,6 @@
 -- The turns of the walk over a channel's list, and two laws of numbers: a sum less 1, and a bit of value 1 in a word of 16.
 -- The argument: what is left of the list is the slot at place k and what is left after it; whether it follows picks the rule's case.
-use Rattle.std.proofs.Common.{◌≡◌, ℕ, suc, ◌+◌, ◌-◌, ◌/◌, ◌%◌, ◌<◌, ◌≤◌, Bool, true, false, List, length, get_or, take, drop, ◌∙◌, arith}
+use Rattle.std.proofs.Common.{◌≡◌, ℕ, suc, ◌+◌, ◌%◌, ◌<◌, ◌≤◌, Bool, true, false, List, length, get_or, take, drop, ◌∙◌, arith}
 use Rattle.numbers.specs.Pick.{pick}
 use Rattle.cells.proofs.Views.{part_step, part_end}
 use Rattle.record.specs.Fresh.{no_incoming}

@@ -1,7 +1,7 @@
 -- What an unsequenced arrival does to the window, in one law for all inputs (`unsequenced_lands`); how far the base then moved; and that a group
 -- which the window passes over changes nothing at all. The argument: one look at each of the window's four tests, and at each fate of one it takes.
 use Prim.Native.Nat.{ℕ, ◌*◌, ◌%◌, ◌<◌}
-use mathlib.Core.Path.{◌≡◌, refl, ap, ◌∙◌}
+use mathlib.Core.Path.{◌≡◌, refl, ap}
 use mathlib.Core.Bool.{Bool, true, false}
 use mathlib.Core.List.{List, [], ◌∷◌}
 use lib.Dec.{eqb}

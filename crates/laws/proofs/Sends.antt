@@ -2,7 +2,7 @@
 -- The argument: what is done has passed each gate. With setup's Taking, such a send takes as many free slots as it has commands, the lowest
 -- in order, and changes no other.
 use Prim.Native.Nat.{ℕ, zero, suc, ◌+◌, ◌≤◌, ◌<◌}
-use mathlib.Core.Path.{◌≡◌, refl, ap, sym, ◌∙◌}
+use mathlib.Core.Path.{◌≡◌, refl, ap, sym, subst, ◌∙◌}
 use mathlib.Core.Bool.{Bool, true, false, not}
 use mathlib.Core.List.{List, [], ◌∷◌}
 use native.Mathlib.Omega.{arith}
@@ -80,7 +80,7 @@ pieces_to x (suc left) j offset =
 
 all_first : (b : Bool) (xs : List Piece) → AllTo b xs → AllTo (reliably xs) xs
 all_first b [] to = tt
-all_first b (x ∷ xs) to = rw to.0 (refl, to.1)
+all_first b (x ∷ xs) to = subst (λ (c : Bool). AllTo c (x ∷ xs)) (sym to.0) to
 
 commands_to : (fragment channel n flags : ℕ) (p : Peer) → AllTo (reliably (commands fragment channel n flags p)) (commands fragment channel n flags p)
 commands_to fragment channel n flags p = go (leb n fragment)

@@ -1,7 +1,7 @@
 -- What an arrival does beside the window, whatever its answer: `unsequenced_stores`, `reliable_stores`; and dispatched only grows at its end:
 -- `unsequenced_adds`, `reliable_adds`. The argument: each fate of the definition in turn; the laws of a filled cell; a dispatch only adds.
-use Prim.Native.Nat.{ℕ, ◌+◌, ◌*◌, ◌≤◌, ◌<◌, ◌^◌}
-use mathlib.Core.Path.{◌≡◌, refl, ap, ◌∙◌}
+use Prim.Native.Nat.{ℕ, ◌+◌, ◌*◌}
+use mathlib.Core.Path.{◌≡◌, refl, ap}
 use mathlib.Core.Bool.{true}
 use mathlib.Core.List.{List, [], ◌∷◌, ◌++◌}
 use native.Mathlib.Omega.{arith}

@@ -1,7 +1,7 @@
 -- What the numbers that a reset or a begin writes make of the record: channels of 0, what is kept, the ids, the limits, the reserved
 -- number; then the writes one after the other. The argument: places' `numbers_put` and `put_channels`; a record of zeros is computed.
 use Prim.Native.Nat.{ℕ, ◌%◌, ◌<◌}
-use mathlib.Core.Path.{◌≡◌, refl, ap, sym, ◌∙◌}
+use mathlib.Core.Path.{◌≡◌, refl, ap, ◌∙◌}
 use mathlib.Core.List.{List, [], ◌∷◌}
 use native.Mathlib.Nat.{mod-eq_of_lt}
 use native.Mathlib.Omega.{arith}

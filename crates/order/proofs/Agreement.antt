@@ -23,7 +23,7 @@ use Rattle.places.specs.Whole.{whole, channels_from}
 use Rattle.places.proofs.Sections.{section-length, section_number}
 use Rattle.places.proofs.GroupLaws.{standing_is}
 use Rattle.places.proofs.ChannelLaws.{channels_is}
-use Rattle.order.specs.Table.{plain, length_of, as_command, unwritten, nowhere, own_bits, group_bits, slot_bits, in_slot_bits, used_outgoing, used_incoming, table}
+use Rattle.order.specs.Table.{plain, length_of, unwritten, nowhere, own_bits, group_bits, slot_bits, in_slot_bits, used_outgoing, used_incoming, table}
 use Rattle.order.specs.CodeCuts.{cut, cut_place, field_from, command_place}
 use Rattle.order.specs.declared.Place.{Place}
 use Rattle.order.proofs.TableLaws.{shown_if}

@@ -13,7 +13,7 @@ use Rattle.command.specs.Layout.{width_of}
 use Rattle.lists.specs.Rows.{low}
 use Rattle.pool.specs.Slots.{kind_from}
 use Rattle.places.specs.Whole.{whole}
-use Rattle.order.specs.Table.{plain, as_command, unwritten, nowhere, slot_bits, in_slot_bits, used_outgoing, used_incoming, table}
+use Rattle.order.specs.Table.{plain, nowhere, slot_bits, in_slot_bits, used_outgoing, used_incoming, table}
 use Rattle.order.specs.CodeCuts.{cut_place, field_from, command_place}
 use Rattle.order.specs.declared.Place.{Place}
 use Rattle.order.proofs.TableLaws.{shown_if}

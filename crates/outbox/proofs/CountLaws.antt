@@ -1,5 +1,5 @@
 -- A channel that is there is read the same whatever stands for one that is not; and the rest never steps the reliable number.
-use Rattle.std.proofs.Common.{◌≡◌, ℕ, ◌<◌, Bool, true, false, eqb, [], refl}
+use Rattle.std.proofs.Common.{◌≡◌, ℕ, Bool, true, false, eqb, refl}
 use Rattle.numbers.specs.Pick.{pick}
 use Rattle.outbox.specs.Counting.{unreliable_step, rest_step}
 use Rattle.outbox.specs.declared.counting.Counters.{Counters}

@@ -1,6 +1,6 @@
 -- Only the code's own: setting up on an outbox, which holds what it changes beside the slots. The rule on the record is setup's Queueing,
 -- and setup's Stored says that the two agree.
-use Rattle.std.specs.Prelude.{ℕ, List, set, replicate, slice_set}
+use Rattle.std.specs.Prelude.{ℕ, List, replicate, slice_set}
 use Rattle.numbers.specs.Modulo.{sum}
 use Rattle.record.specs.Lists.{outgoing}
 use Rattle.cells.specs.Free.{is_marked, marked_all, first_from}

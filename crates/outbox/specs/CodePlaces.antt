@@ -1,5 +1,5 @@
 -- Setting up on the lent record: the outbox keeps no lists and no marks, they change in their places. Only the code's own, as the outbox is.
-use Rattle.std.specs.Prelude.{ℕ, List, set, slice_set}
+use Rattle.std.specs.Prelude.{ℕ, List, slice_set}
 use Rattle.numbers.specs.Modulo.{sum}
 use Rattle.record.specs.Updates.{with_outgoing_total, with_queued, with_reliable, with_outgoing_group}
 use Rattle.record.specs.declared.groups.Lists.{Lists}

@@ -1,6 +1,6 @@
 -- Each group of the record: what its numbers are, and the record after they were written.
 -- The argument: the parts computed; a write is `numbers_put`, a line a group.
-use Prim.Native.Nat.{ℕ, ◌+◌, ◌%◌, ◌<◌, ◌≤◌}
+use Prim.Native.Nat.{ℕ, ◌%◌, ◌<◌}
 use mathlib.Core.Path.{◌≡◌, refl, ◌∙◌}
 use mathlib.Core.List.{List, [], ◌∷◌}
 use native.Mathlib.Omega.{arith}

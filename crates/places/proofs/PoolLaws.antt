@@ -1,6 +1,6 @@
 -- The pools of the record: the slots of their own numbers, and the record after the numbers of a pool were lent and came back.
 -- The argument: the parts computed; what comes back is a paste, and a paste of a whole part is `row_put`.
-use Prim.Native.Nat.{ℕ, ◌+◌, ◌≤◌}
+use Prim.Native.Nat.{ℕ}
 use mathlib.Core.Path.{◌≡◌, refl, ap, sym, ◌∙◌}
 use mathlib.Core.List.{List}
 use native.Mathlib.Omega.{arith}

@@ -1,6 +1,6 @@
 -- The unsequenced window's words with the flags and groups beside them: the words copied out, and the record after all were written.
 -- The argument: the words are a row, the four numbers stand one by one; each write computes.
-use Prim.Native.Nat.{ℕ, ◌%◌, ◌<◌}
+use Prim.Native.Nat.{ℕ, ◌<◌}
 use mathlib.Core.Path.{◌≡◌, refl, ap, ◌∙◌}
 use mathlib.Core.List.{List, [], ◌∷◌}
 use native.Mathlib.Omega.{arith}

@@ -39,7 +39,7 @@ use Rattle.laws.proofs.SameLaws.{Agree, agree_less, agree_set, Lined, lined_used
 use Rattle.laws.proofs.SamePairs.{ranked_by, rebuilt_like}
 use Rattle.round_trip.specs.Interval.{measured}
 use Rattle.round_trip.specs.declared.averages.Measured.{Measured}
-use Rattle.acknowledge.specs.Removal.{in_sent, in_queue, seek, or_else, spot_of, cut, lists_without, slot_at, held_by, flow_without, is_some, times_without_lem, command_at}
+use Rattle.acknowledge.specs.Removal.{in_sent, in_queue, seek, or_else, spot_of, cut, lists_without, slot_at, held_by, flow_without, is_some, times_without, command_at}
 use Rattle.acknowledge.specs.declared.removal.Spot.{Spot}
 use Rattle.acknowledge.specs.declared.removal.Spot.TheVariants as spot
 use Rattle.acknowledge.proofs.RemovalLaws.{Placed}
@@ -200,7 +200,7 @@ module _ (p q : Peer) (k : Like p q) where
           like =
               rebuilt_like p q k k.standing k.totals
               (ap₂ (λ (f g : First). times_without (is_some f) (is_some g) (held_by p.outgoing head) (acknowledging.received clock p.times)) slots heads
-              ∙ ap₂ (λ (o : Outgoing) (t : Times). times_without_lem (is_some (slot_at w q.lists)) (is_some head') o (acknowledging.received clock t)) next k.times)
+              ∙ ap₂ (λ (o : Outgoing) (t : Times). times_without (is_some (slot_at w q.lists)) (is_some head') o (acknowledging.received clock t)) next k.times)
               k.loss (ap (λ (m : Measured). m.throttling) now) (ap (λ (m : Measured). m.trips) now) (ap₂ (flow_without w) removed k.flow) lined
               k.unsequenced k.waiting (ranked_by p q k)
               (agree_less no_outgoing (used_out p.lists) p.outgoing q.outgoing k.outs (used_out left)

@@ -18,12 +18,10 @@ use Rattle.cells.specs.declared.First.TheVariants.{Slot, Empty}
 use Rattle.record.specs.Sizes.{cell}
 use Rattle.record.specs.Fresh.{no_incoming}
 use Rattle.record.specs.Marks.{piece_marked}
-use Rattle.record.specs.Blocks.{is_block, block_fit}
+use Rattle.record.specs.Blocks.{block_fit}
 use Rattle.record.specs.Damage.{below, used_in, all, kind_fit, in_fit}
-use Rattle.record.specs.declared.groups.Incoming.{Incoming}
 use Rattle.blocks.specs.Blocks.{fields_fit, like_first}
 use Rattle.blocks.proofs.BlockLaws.{complete, marked_complete}
-use Rattle.peer.specs.Damage.{sound}
 use Rattle.peer.specs.States.{disconnect_later}
 use Rattle.peer.specs.Outcome.{State, Outcome}
 use Rattle.peer.specs.declared.settings.Settings.{Settings}

@@ -1,7 +1,7 @@
 -- A near group that is not marked is stored; so an arrival that got 8 is stored once there is room; and a group of the base's window is marked exactly if
 -- it was taken since the base came there. The argument: each premise opens one test; an 8 leaves the base at g's window and g unmarked; only reset and the
 -- unsequenced arrival touch base and words, and what an arrival marks joins the log, on the words as they were or on cleared ones.
-use Prim.Native.Nat.{ℕ, ◌+◌, ◌/◌, ◌%◌, ◌≤◌}
+use Prim.Native.Nat.{ℕ, ◌+◌, ◌≤◌}
 use mathlib.Core.Path.{◌≡◌, refl, ap, ap₂, sym, subst, ◌∙◌}
 use mathlib.Core.Bool.{Bool, true, false}
 use mathlib.Core.List.{List, [], ◌∷◌}

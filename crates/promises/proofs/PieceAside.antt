@@ -1,7 +1,7 @@
 -- What a fragment arrival leaves as it was, whatever it answers: all that goes out (`fragment_aside`).
 -- The argument: neither opening a block nor marking a piece touches it, and a dispatch changes flags and the incoming lists alone (Pieces `fragment_keeps`).
 use Prim.Native.Nat.{ℕ}
-use mathlib.Core.Path.{◌≡◌, refl, ◌∙◌}
+use mathlib.Core.Path.{refl, ◌∙◌}
 use mathlib.Core.List.{List}
 use lib.ListN.{get_or}
 use Rattle.record.specs.Fresh.{no_channel}

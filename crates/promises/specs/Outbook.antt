@@ -1,6 +1,6 @@
 -- The outgoing ledger: along a run every command that was queued is in exactly one place: in one of the three lists, removed by an acknowledgement that named
 -- its number and channel, or freed by a send step that needed no answer. On each channel the reliable numbers are 1, 2, 3 and so on, past 65,535 to 0, in the order of queueing.
-use Rattle.std.specs.Prelude.{ℕ, ◌+◌, ◌<◌, ◌≡◌, Bool, true, List, [], ◌∷◌, ◌++◌, map, eqb, length, get_or, drop}
+use Rattle.std.specs.Prelude.{ℕ, ◌+◌, ◌≡◌, Bool, true, List, [], ◌∷◌, ◌++◌, map, eqb, length, get_or, drop}
 use Rattle.numbers.specs.Pick.{pick, both}
 use Rattle.record.specs.Lists.{out_items}
 use Rattle.cells.specs.Runs.{has}

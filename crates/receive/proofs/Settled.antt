@@ -1,6 +1,6 @@
 -- Receive's contract settles its result: two results, reply and record, that it allows for one input are the same.
 -- The argument: the record is the rule's, and a reply is made again of its answer's values.
-use Rattle.std.proofs.Common.{◌≡◌, ℕ, get_or, sym, refl, ap, ◌∙◌, arith}
+use Rattle.std.proofs.Common.{◌≡◌, ℕ, get_or, sym, refl, ap, arith}
 use Rattle.numbers.specs.Answers.{Answer, numbers_of}
 use Rattle.numbers.proofs.Settled.{refused_apart, refused_not_done}
 use Rattle.peer.specs.Outcome.{Came}

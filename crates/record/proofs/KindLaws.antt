@@ -1,15 +1,15 @@
 -- An incoming slot that fits its kind is at most 32,768 bytes long; a packet that came whole at most 4,096, whatever the marks.
 -- The argument: the kind picks the rule's case.
-use Prim.Native.Nat.{ℕ, ◌+◌, ◌-◌, ◌≤◌}
-use mathlib.Core.Path.{◌≡◌, refl, ap, sym, ◌∙◌}
+use Prim.Native.Nat.{◌-◌, ◌≤◌}
+use mathlib.Core.Path.{◌≡◌, ap, sym, ◌∙◌}
 use mathlib.Core.Bool.{Bool, true, false}
 use native.Mathlib.Omega.{arith}
-use lib.Dec.{leb, eqb}
+use lib.Dec.{leb}
 use borrow.Author.Tests.{leb-true}
 use Rattle.numbers.specs.Pick.{pick, both}
 use Rattle.numbers.proofs.BoolLaws.{both_left, both_right}
 use Rattle.record.specs.Sizes.{cell}
-use Rattle.record.specs.Marks.{most_pieces, marked_from, marked_count}
+use Rattle.record.specs.Marks.{most_pieces}
 use Rattle.record.specs.Blocks.{most_bytes, is_block, block_fit}
 use Rattle.record.specs.Damage.{kind_fit}
 use Rattle.record.specs.declared.groups.Incoming.{Incoming}

@@ -1,5 +1,5 @@
 -- What a list of each pool means: its first `len` cells, and all of them where it is longer than its pool.
-use Rattle.std.specs.Prelude.{ℕ, ◌≤◌, ◌≡◌, List, length, take}
+use Rattle.std.specs.Prelude.{ℕ, List, length, take}
 use Rattle.cells.specs.Runs.{over}
 use Rattle.record.specs.declared.outgoing.OutList.{OutList}
 use Rattle.record.specs.declared.incoming.InList.{InList}

@@ -53,7 +53,7 @@ pub throttles_by : (sample : ℕ) (p : Peer) (th : Throttling) (t : Trips) → t
 throttles_by sample p th t a b new n u e r f z w =
     let here : new ≡ throttled sample p.throttling p.trips = rw (a, b) at n in
     let told : answer_of u ≡ answer_after (throttle_of p.throttling p.trips) sample =
-        e ∙ ap (λ (x : Throttling). answer_after (throttle_of x t) sample) a ∙ ap (λ (y : Trips). answer_after (throttle_of p.throttling y) sample) b in
+    e ∙ ap (λ (x : Throttling). answer_after (throttle_of x t) sample) a ∙ ap (λ (y : Trips). answer_after (throttle_of p.throttling y) sample) b in
     record {
       answer = ap calls.answer_of (f ∙ reply_of_turn (throttle_of p.throttling p.trips) sample u told);
       after = w ∙ ap (with_throttling p) here;

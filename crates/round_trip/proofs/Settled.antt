@@ -1,6 +1,6 @@
 -- The throttle's contract settles its result: two results, reply and record, that it allows for one input are the same.
 -- The argument: the record is the rule's, and the answers tell the replies apart, by cases.
-use Rattle.std.proofs.Common.{◌≡◌, ℕ, get_or, pos, sym, refl, ap, ◌∙◌, arith}
+use Rattle.std.proofs.Common.{◌≡◌, ℕ, get_or, pos, sym, refl, ap, arith}
 use Rattle.numbers.specs.Answers.{Answer}
 use Rattle.numbers.proofs.Settled.{refused_apart, refused_not_done}
 use Rattle.throttle.proofs.Settled.{which}

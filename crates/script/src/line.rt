@@ -1,6 +1,7 @@
 // Lines: decimal numbers and words with one space between, written to what takes them. A line is handed out as it ends.
 ghost use Rattle.std.specs.Prelude.{◌∷◌, [], ◌++◌, OnOk, decimal};
 ghost use Rattle.std.specs.Io.KnownBytes.{Appends};
+ghost use Rattle.script.specs.Line.{ending};
 
 use std::io;
 use std::io::Write;
@@ -39,7 +40,9 @@ fn byte<W: Write>(out: &mut W, b: u8) -> io::Result<()>
 }
 
 // A call ends its line with the record's hash.
-pub fn end<W: Write>(out: &mut W, op: u32, hash: u32) -> io::Result<()> {
+pub fn end<W: Write>(out: &mut W, op: u32, hash: u32) -> io::Result<()>
+    ensures { OnOk result (Appends (W.contents out.old) (W.contents out.new) (ending op hash)) }
+{
     if ((0 < op) & (op < 15)) | (op == 18) {
         byte(out, b' ')?;
         byte(out, b'#')?;

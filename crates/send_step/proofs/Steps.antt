@@ -1,6 +1,6 @@
 -- A step comes out as the rule says, where the gate is open: the parts that the code makes are the rule's, whatever made them.
 -- The argument: each part is given by its equation, so the record made of them is the rule's record.
-use Rattle.std.proofs.Common.{◌≡◌, ℕ, ◌<◌, set, sym, refl, ap, ◌∙◌}
+use Rattle.std.proofs.Common.{◌≡◌, ℕ, set, sym, refl, ap, ◌∙◌}
 use Rattle.record.specs.Lists.{outgoing, out_items}
 use Rattle.cells.specs.Runs.{first}
 use Rattle.cells.specs.declared.First.{First}

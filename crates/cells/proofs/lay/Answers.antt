@@ -1,5 +1,4 @@
 -- `lay` meets its contract: the loop sets a cell a turn: the run so far is laid.
-use Prim.Native.Nat.{◌-◌}
 use mathlib.Core.Path.{◌≡◌}
 use native.Mathlib.Omega.{arith}
 use lib.ListN.{length-set}

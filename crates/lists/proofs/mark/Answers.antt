@@ -20,7 +20,7 @@ loop-k-preserved c =
     let xs = items_of (row_at a.at a.size a.words.now) in
     let turn = l.invariant.3 ∙ marks_turn xs l.k l.marks (omega (arith, l.invariant.1)) in
     elim c.if-s-marks.branch [
-      then-s-marks w ↦ (omega arith, l.invariant.1, rw (w.marks-is, length-set) l.invariant.2, rw (w.marks-is, s.ensures) turn)
+      | then-s-marks w ↦ (omega arith, l.invariant.1, rw (w.marks-is, length-set) l.invariant.2, rw (w.marks-is, s.ensures) turn)
       | else-s-marks w ↦ (omega arith, l.invariant.1, rw w.marks-is l.invariant.2, rw (w.marks-is, ← set_out l.marks s.result 1 w.if-s-marks.false, s.ensures) turn)
     ]
 

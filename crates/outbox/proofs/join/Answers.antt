@@ -12,6 +12,6 @@ returns c =
     let asked = c.is_acknowledged in
     let kept = c.push-2.ensures in
     elim c.if-is_acknowledged.branch [
-      then-is_acknowledged+else-x w ↦ rw (sym asked.ensures ∙ w.if-is_acknowledged.true, w.if-x.false) kept
+      | then-is_acknowledged+else-x w ↦ rw (sym asked.ensures ∙ w.if-is_acknowledged.true, w.if-x.false) kept
       | else-is_acknowledged w ↦ rw (sym asked.ensures ∙ w.if-is_acknowledged.false) kept
     ]

@@ -1,12 +1,6 @@
 -- What the search finds in the whole list is what it finds in what is left of it, a turn at a time.
-use Rattle.std.proofs.Common.{ℕ, ◌-◌, Bool, List, map, sym, ap, arith, take_all}
-use Rattle.numbers.specs.declared.counters.Reliable.{Reliable}
-use Rattle.record.specs.Lists.{out_items}
-use Rattle.places.specs.Whole.{whole}
-use Rattle.queues.specs.Queues.{out_of}
-use Rattle.queues.specs.declared.Out.{Out}
+use Rattle.std.proofs.Common.{◌-◌, sym, ap, arith, take_all}
 use Rattle.acknowledge.specs.Removal.{seek}
-use Rattle.acknowledge.specs.CodeSearches.{look_of, at}
 use Rattle.acknowledge.proofs.RemovalChanges.{turn_found, turn_ends, turn_goes_on, turn_end}
 use Rattle.acknowledge.proofs.removal.seek.Invariants.{named, made}
 use Rattle.acknowledge.proofs.removal.seek.Goals as goal

@@ -1,5 +1,4 @@
 -- `lowest` meets its contract: the search from 0 is the search from k, a turn at a time.
-use Prim.Native.Nat.{◌-◌}
 use mathlib.Core.Path.{sym, ◌∙◌}
 use native.Mathlib.Nat.{sub-zero}
 use native.Mathlib.Omega.{arith}

@@ -1,5 +1,4 @@
 -- `find` meets its contract: the search on the whole view is the search on what is left of it, a turn at a time.
-use Prim.Native.Nat.{◌-◌}
 use mathlib.Core.Path.{sym, ◌∙◌}
 use native.Mathlib.Omega.{arith}
 use Rattle.cells.proofs.CellLaws.{clip}

@@ -1,6 +1,5 @@
 -- The loop tests a number a turn: the whole row fits where the rest does. Sixteen places cover every layout.
 use mathlib.Core.Path.{sym, ap, ◌∙◌}
-use Prim.Native.Nat.{◌-◌}
 use mathlib.Core.Bool.{Bool}
 use lib.ListN.{drop}
 use borrow.Author.Tests.{not-true, not-false}

@@ -1,12 +1,11 @@
 -- `fields_now` meets its contract: the first two arms by their variants, the last because every other variant stays as it is.
-use Rattle.std.proofs.Common.{◌≡◌, ℕ, List, [], ◌∷◌, sym, refl, ap}
+use Rattle.std.proofs.Common.{◌≡◌, ℕ, sym, refl, ap}
 use Rattle.numbers.specs.declared.counters.Unreliable.{Unreliable}
 use Rattle.numbers.specs.declared.counters.Group.{Group}
 use Rattle.command.specs.declared.fields.Fields.{Fields}
 use Rattle.command.specs.declared.fields.Fields.TheVariants as vr
 use Rattle.outbox.specs.Pieces.{fields_now}
 use Rattle.outbox.proofs.pieces.fields_now.Goals as goal
-
 
 others : (u : Unreliable) (g : Group) (f : Fields) → ((x : Unreliable) → (n : ℕ) → f ≡ vr.SendUnreliable x n → ⊥) → ((x : Group) → (n : ℕ) → f ≡ vr.SendUnsequenced x n → ⊥) → f ≡ fields_now u g f
 others u g (vr.Acknowledge a b) k l = refl

@@ -1,6 +1,6 @@
 -- `put_at` meets its contract: its two cases are those of the place's groups.
 use Prim.Native.Nat.{ℕ, ◌+◌}
-use mathlib.Core.Path.{refl, ap, sym}
+use mathlib.Core.Path.{ap, sym}
 use native.Mathlib.Nat.{add-zero}
 use native.Mathlib.Omega.{arith}
 use Rattle.snapshot_parts.proofs.row.put_at.Goals as goal
