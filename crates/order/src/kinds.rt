@@ -1,7 +1,7 @@
 // The kinds of places: numbers of so many bits, a list's length, a command's byte, what is not written.
 ghost use Rattle.std.specs.Prelude.{◌≡◌, ◌-◌, ◌^◌, ◌%◌, leb};
 ghost use Rattle.numbers.specs.Pick.{pick};
-ghost use Rattle.order.specs.Table.{plain as plain_of, length_of, as_command, unwritten as notWritten};
+ghost use Rattle.order.specs.Table.{plain as plain_of, length_of, as_command, unwritten as not_written};
 
 use crate::Place;
 use numbers::widths::{low8, low16, wide8, wide16};
@@ -81,7 +81,7 @@ pub(crate) fn as_command(e: Place) -> Place
 
 // The place as it is where it is written, and else with 0 in it.
 pub(crate) fn written_if(when: bool, e: Place) -> Place
-    ensures { result ≡ pick when e (notWritten e) }
+    ensures { result ≡ pick when e (not_written e) }
 {
     if when {
         return e;

@@ -14,7 +14,7 @@ use script::frames::Frame;
 use script::{frames, line};
 use settings::Bench;
 use std::io;
-use std::io::{BufReader, BufWriter, Read, Write};
+use std::io::{Read, Write};
 
 // What the ops that do not stand on the record write.
 fn told<W: Write>(
@@ -99,8 +99,8 @@ fn play<R: Read, W: Write>(
 
 // The input buffer has room for the largest frame, 66,559 bytes; a reset of zeros keeps none but zeros.
 fn main(rt: HostRuntime) -> io::Result<()> {
-    let mut from = BufReader::new(rt.alloc(), rt.reader())?;
-    let mut out = BufWriter::new(rt.alloc(), io::writer(&rt))?;
+    let mut from = rt.reader();
+    let mut out = io::writer(&rt);
     let mut input = [0u8; 66560];
     let mut words = [0u32; RECORD];
     let mut store = [0u8; 49152];

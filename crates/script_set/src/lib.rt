@@ -6,7 +6,7 @@ pub mod named;
 ghost use Rattle.std.specs.Prelude.{◌≡◌, ◌+◌, ◌≤◌, ◌<◌, length, set};
 ghost use Rattle.std.proofs.lemmas.List.Edits.{sets};
 ghost use Rattle.places.specs.Whole.{whole, record_length};
-ghost use Rattle.script_set.specs.Setting.{fits as fitsIn, fits_at, all_fit, numbers_from, command_numbers};
+ghost use Rattle.script_set.specs.Setting.{fits as fits_in, fits_at, all_fit, numbers_from, command_numbers};
 
 use command::fields::Command;
 use command::rows;
@@ -15,7 +15,7 @@ use script::frames;
 
 // Whether a number fits the bits of a place; none does where there is no place.
 fn fits(place: Place, x: u32) -> bool
-    ensures { result ≡ fitsIn place x }
+    ensures { result ≡ fits_in place x }
 {
     let bits = place.bits;
     if bits == 0 {

@@ -5,7 +5,7 @@ ghost use Rattle.numbers.specs.Pick.{pick};
 ghost use Rattle.sevens.specs.Groups.{written};
 ghost use Rattle.places.specs.Whole.{whole, record_length};
 ghost use Rattle.order.specs.Table.{row_of};
-ghost use Rattle.snapshot_parts.specs.Row.{grouped, fits as fitsIn, put_at, result_of, numbers_from};
+ghost use Rattle.snapshot_parts.specs.Row.{grouped, fits as fits_in, put_at, result_of, numbers_from};
 ghost use Rattle.snapshot_parts.specs.CodeRow.{part_of, end_of};
 
 use order::Place;
@@ -67,7 +67,7 @@ pub fn put(words: &[u32], buffer: &mut [u8], at: usize) -> usize
 
 // Whether a number may stand in a place.
 fn fits(place: Place, x: u64) -> bool
-    ensures { result ≡ fitsIn place x }
+    ensures { result ≡ fits_in place x }
 {
     if (place.most as u64) < x {
         return false;
