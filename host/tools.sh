@@ -1,9 +1,8 @@
 # shellcheck shell=bash
-# Sourced by host/run, host/weigh and host/stack: where results go, and the compiler, linker and emulator for x86-64.
+# Sourced by host/run, host/weigh and host/stack: where results go, and the compiler and linker for x86-64, the one machine of today's kit.
 top=$(cd "$(dirname "${BASH_SOURCE[0]}")/.." && pwd)
 out=$top/target/host
 target=x86_64-unknown-linux-gnu
-machine=$(uname -m)
 source=${ENET_SRC:-$top/../shared/docs/src/src}
 
 say() { printf 'host: %s\n' "$*" >&2; }
@@ -17,27 +16,11 @@ find_rustc() {
     done
     return 1
 }
-# shellcheck disable=SC2034 # what sources this runs by $emulator
-find_tools() {
-    if [ "$machine" = x86_64 ]; then
-        linker=cc emulator=()
-    else
-        linker=x86_64-linux-gnu-gcc
-        kit=$(cd "$(dirname "$(readlink -f "$(command -v rt)")")/.." && pwd)
-        tools=$kit/on/$machine/toolchain
-        emulator=("$tools/bin/qemu-x86_64" "$tools/lib/ld-linux-x86-64.so.2" --library-path "$tools/lib")
-    fi
-    find_rustc && command -v "$linker" >/dev/null
-}
+find_tools() { find_rustc && command -v cc >/dev/null; }
 install() {
-    say "installing a Rust compiler and a linker for x86-64"
-    if [ "$machine" != x86_64 ]; then dpkg --add-architecture amd64; fi
+    say "installing a Rust compiler and a linker"
     apt-get update -qq
-    if [ "$machine" = x86_64 ]; then
-        apt-get install -yqq --no-install-recommends rustc-web gcc libc6-dev
-    else
-        apt-get install -yqq --no-install-recommends rustc-web libstd-rust-web-dev:amd64 gcc-x86-64-linux-gnu libc6-dev-amd64-cross
-    fi
+    apt-get install -yqq --no-install-recommends rustc-web gcc libc6-dev
 }
 
 need_source() { [ -d "$source" ] || { say "the Rust is not at hand: no $source"; exit 2; }; }
@@ -45,20 +28,17 @@ need_source() { [ -d "$source" ] || { say "the Rust is not at hand: no $source";
 # installs what is missing, or names it
 need_tools() {
     command -v rt >/dev/null || { say "rt is not on the PATH"; exit 2; }
+    [ "$(uname -m)" = x86_64 ] || { say "the kit builds for x86-64, and this machine is $(uname -m)"; exit 2; }
     mkdir -p "$out"
     find_tools || install >"$out/install.log" 2>&1 || true
-    find_tools || { say "no rustc with $target, or no $linker; what was tried is in target/host/install.log"; exit 2; }
+    find_tools || { say "no rustc with $target, or no cc; what was tried is in target/host/install.log"; exit 2; }
 }
 
-# a disassembler for x86-64
-# shellcheck disable=SC2034 # host/stack asks for it
+# a disassembler, for host/stack
 need_objdump() {
-    local package=binutils-x86-64-linux-gnu
-    objdump=x86_64-linux-gnu-objdump
-    if [ "$machine" = x86_64 ]; then package=binutils objdump=objdump; fi
     mkdir -p "$out"
-    command -v "$objdump" >/dev/null || { apt-get update -qq && apt-get install -yqq --no-install-recommends "$package"; } >"$out/install.log" 2>&1 || true
-    command -v "$objdump" >/dev/null || { say "no $objdump; what was tried is in target/host/install.log"; exit 2; }
+    command -v objdump >/dev/null || { apt-get update -qq && apt-get install -yqq --no-install-recommends binutils; } >"$out/install.log" 2>&1 || true
+    command -v objdump >/dev/null || { say "no objdump; what was tried is in target/host/install.log"; exit 2; }
 }
 
 # need_library CRATE: target/staticlib/libCRATE.a, built of the proved crate; of a library that crates stand on, CRATE_c has the exports
@@ -72,7 +52,7 @@ need_library() {
 
 flags=(--edition 2021 -O)
 # cross WORD..: rustc for the target
-cross() { "$rustc" "${flags[@]}" --target "$target" -C "linker=$linker" "$@"; }
+cross() { "$rustc" "${flags[@]}" --target "$target" "$@"; }
 
 # the source as a library for the target, at the same level as ours
 build_enet() {

@@ -16,7 +16,7 @@ declare -A counted=()
 # The program on a fresh record; it answers each call before it waits for the next.
 start() {
     coproc peer { run; }
-    program=$peer_PID
+    at_work=$peer_PID
     # shellcheck disable=SC1083 # {peer[1]} names the descriptor to close
     exec 3>&"${peer[1]}" 4<&"${peer[0]}" {peer[1]}>&- {peer[0]}<&-
 }
@@ -24,7 +24,7 @@ start() {
 # At the end of its input it ends.
 stop() {
     exec 3>&-
-    wait "$program" || die "the program failed"
+    wait "$at_work" || die "the program failed"
     exec 4<&-
 }
 
