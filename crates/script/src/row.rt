@@ -1,5 +1,6 @@
 // Where a row of numbers goes: into its hash, and for op 15 into the line too, which no contract speaks of.
 ghost use Rattle.std.specs.Prelude.{◌≡◌, [], ◌∷◌, take, IfOk, IsOk, IsFalse};
+ghost use Rattle.script.specs.Line.{Grows};
 ghost use Rattle.script.specs.Row.{mixed as mix, told};
 
 use crate::line;
@@ -16,6 +17,7 @@ pub struct Row {
 pub fn put<W: Write>(out: &mut W, row: Row, x: u32) -> io::Result<Row>
     ensures value { IfOk result (λ after. after ≡ told row (x ∷ [])) }
     ensures silent { IsFalse row.is_shown → IsOk result }
+    ensures front { Grows (W.contents out.old) (W.contents out.new) }
 {
     if row.is_shown {
         line::value(out, x)?;
@@ -29,6 +31,7 @@ pub fn put<W: Write>(out: &mut W, row: Row, x: u32) -> io::Result<Row>
 pub fn put_all<W: Write>(out: &mut W, row: Row, numbers: &[u32]) -> io::Result<Row>
     ensures value { IfOk result (λ after. after ≡ told row numbers.now) }
     ensures silent { IsFalse row.is_shown → IsOk result }
+    ensures front { Grows (W.contents out.old) (W.contents out.new) }
 {
     let mut after = row;
     let mut i = 0;
@@ -43,6 +46,7 @@ pub fn put_all<W: Write>(out: &mut W, row: Row, numbers: &[u32]) -> io::Result<R
 pub fn put_slots<W: Write>(out: &mut W, row: Row, slots: &[u16], n: usize) -> io::Result<Row>
     ensures value { IfOk result (λ after. after ≡ told row (take n slots.now)) }
     ensures silent { IsFalse row.is_shown → IsOk result }
+    ensures front { Grows (W.contents out.old) (W.contents out.new) }
 {
     let mut after = row;
     let mut i = 0;

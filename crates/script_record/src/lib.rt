@@ -8,6 +8,7 @@ ghost use Rattle.command.specs.Rows.{row_of as numbers_of};
 ghost use Rattle.record.specs.Rows.{slot_row};
 ghost use Rattle.places.specs.Whole.{whole, record_length};
 ghost use Rattle.order.specs.Table.{row_of};
+ghost use Rattle.script.specs.Line.{Grows};
 ghost use Rattle.script.specs.Row.{told};
 
 use command::fields::Command;
@@ -25,6 +26,7 @@ pub fn record<W: Write>(out: &mut W, row: Row, words: &[u32]) -> io::Result<Row>
     requires { length words.now ≡ record_length }
     ensures value { IfOk result (λ after. after ≡ told row (row_of (whole words.now))) }
     ensures silent { IsFalse row.is_shown → IsOk result }
+    ensures front { Grows (W.contents out.old) (W.contents out.new) }
 {
     let mut after = row;
     let mut i: usize = 0;
@@ -38,6 +40,7 @@ pub fn record<W: Write>(out: &mut W, row: Row, words: &[u32]) -> io::Result<Row>
 fn number<W: Write>(out: &mut W, row: Row, place: Place) -> io::Result<Row>
     ensures value { IfOk result (λ after. after ≡ pick place.is_written (told row (place.number ∷ [])) row) }
     ensures silent { IsFalse row.is_shown → IsOk result }
+    ensures front { Grows (W.contents out.old) (W.contents out.new) }
 {
     if place.is_written {
         return row::put(out, row, place.number);
@@ -48,6 +51,7 @@ fn number<W: Write>(out: &mut W, row: Row, place: Place) -> io::Result<Row>
 pub fn outgoing_slot<W: Write>(out: &mut W, row: Row, s: Outgoing) -> io::Result<Row>
     ensures value { IfOk result (λ after. after ≡ told row (slot_row s)) }
     ensures silent { IsFalse row.is_shown → IsOk result }
+    ensures front { Grows (W.contents out.old) (W.contents out.new) }
 {
     let a = s.reliable;
     let b = s.unreliable;
@@ -70,6 +74,7 @@ pub fn outgoing_slot<W: Write>(out: &mut W, row: Row, s: Outgoing) -> io::Result
 pub fn command<W: Write>(out: &mut W, row: Row, c: Command) -> io::Result<Row>
     ensures value { IfOk result (λ after. after ≡ told row (numbers_of c)) }
     ensures silent { IsFalse row.is_shown → IsOk result }
+    ensures front { Grows (W.contents out.old) (W.contents out.new) }
 {
     let fields = c.fields;
     fitted(out, row, rows::kind_of(fields), rows::of(c))
@@ -79,6 +84,7 @@ pub fn command<W: Write>(out: &mut W, row: Row, c: Command) -> io::Result<Row>
 fn fitted<W: Write>(out: &mut W, row: Row, kind: u8, numbers: [u32; 16]) -> io::Result<Row>
     ensures value { IfOk result (λ after. after ≡ told row (take (length (widths kind)) numbers)) }
     ensures silent { IsFalse row.is_shown → IsOk result }
+    ensures front { Grows (W.contents out.old) (W.contents out.new) }
 {
     let mut after = row;
     let mut j = 0;

@@ -9,4 +9,4 @@ returns g c =
     let a = c.args in
     let k = c.kind_of in
     let r = c.of in
-    record { value = rw (sym (row_whole a.c k.result r.result k.ensures r.ensures)) c.fitted.ensures.value; silent = search rules }
+    record { value = rw (sym (row_whole a.c k.result r.result k.ensures r.ensures)) c.fitted.ensures.value; silent = search rules; front = c.fitted.ensures.front }

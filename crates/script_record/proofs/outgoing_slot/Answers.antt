@@ -7,7 +7,7 @@ use mir.Val.{bool_byte}
 use Rattle.numbers.specs.Pick.{pick}
 use Rattle.command.specs.Rows.{row_of}
 use Rattle.script.specs.Row.{told}
-use Rattle.script.proofs.Laws.{told_then}
+use Rattle.script.proofs.Laws.{told_then, grows_then}
 use Rattle.script_record.proofs.Laws.{bit}
 use Rattle.script_record.proofs.outgoing_slot.Goals as goal
 
@@ -23,4 +23,4 @@ returns g c =
     told_then a.row p.row (told p.row (row_of s.command)) (row (bool_byte s.packet) []) (row_of s.command) p.ensures.value refl
     ∙ ap (λ (x : ℕ). told a.row (row x (row_of s.command))) (bit s.packet)
     in
-    record { value = rw (sym whole) c.command.ensures.value; silent = search rules }
+    record { value = rw (sym whole) c.command.ensures.value; silent = search rules; front = grows_then (g.W.Write.contents a.out.now) (g.W.Write.contents c.put_all.new.out) _ p.ensures.front c.command.ensures.front }
