@@ -19,6 +19,10 @@ use Rattle.arrival.specs.declared.Fate.{Fate}
 use Rattle.arrival.specs.declared.Fate.TheVariants as fate
 use Rattle.arrival.specs.declared.Judged.{Judged}
 
+-- a fate that leaves record and store
+abbrev pub Leaves : Fate → Type 0
+Leaves f = (n : ℕ) → f ≡ fate.Stored n → ⊥
+
 -- 1 where the group is taken
 abbrev tells : Answer → ℕ
 tells a = get_or (numbers_of a) 0 0

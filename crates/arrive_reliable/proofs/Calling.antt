@@ -30,13 +30,9 @@ use Rattle.arrival.specs.declared.Reply.TheVariants as reply
 use Rattle.arrival.specs.declared.Fate.{Fate}
 use Rattle.arrival.specs.declared.Fate.TheVariants as fate
 use Rattle.arrival.proofs.Admitted.{admitted}
-use Rattle.arrival.proofs.Laws.{room_stored}
+use Rattle.arrival.proofs.Laws.{Leaves, room_stored}
 use Rattle.arrive_reliable.specs.Holding.{is_passed, held_with}
 use Rattle.arrive_reliable.specs.Calls.{send_reliable, channel_of, dispatched_with, reliable_after, fate_of, fate_on, reliable_sound, arrives_reliable}
-
--- a fate that leaves record and store
-abbrev pub Leaves : Fate → Type 0
-Leaves f = (n : ℕ) → f ≡ fate.Stored n → ⊥
 
 -- what is stored was not passed over
 pub room_of_lem : (passed : Bool) (room : Fate) (n : ℕ) → fate_of passed room ≡ fate.Stored n → room ≡ fate.Stored n

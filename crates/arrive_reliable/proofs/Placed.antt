@@ -18,6 +18,7 @@ use Rattle.peer.specs.declared.gate.Gate.{Gate}
 use Rattle.peer.specs.declared.gate.Gate.TheVariants.{Open, Shut}
 use Rattle.peer.proofs.Gates.{AtGate}
 use Rattle.places.specs.Updates.{channel_at, with_incoming}
+use Rattle.arrival.proofs.Laws.{Leaves}
 use Rattle.arrival.specs.Storing.{free_slot, awaiting, filled}
 use Rattle.dispatch.specs.Dispatching.{dispatched_by}
 use Rattle.dispatch.specs.Calls.{with_dispatch, dispatched_on}
@@ -30,7 +31,7 @@ use Rattle.arrival.specs.declared.Fate.TheVariants as fate
 use Rattle.arrive_reliable.specs.Holding.{is_passed, held_with}
 use Rattle.arrive_reliable.specs.Calls.{send_reliable, channel_of, fate_of, fate_on, arrives_reliable}
 use Rattle.arrive_reliable.specs.CodeSettling.{settled_on}
-use Rattle.arrive_reliable.proofs.Calling.{Leaves, arrive_shut, arrive_refused, channel_exists, arrive_left, arrive_stored}
+use Rattle.arrive_reliable.proofs.Calling.{arrive_shut, arrive_refused, channel_exists, arrive_left, arrive_stored}
 
 -- what becomes of it, by what was read of the record
 pub fate_read : (s : Settings) (a : Arrival) (p : Peer) (standing : Standing) (waiting : Waiting) (free : Free) (room : Fate) (passed : Bool) (f : Fate)

@@ -31,12 +31,8 @@ use Rattle.arrival.specs.declared.Reply.TheVariants as reply
 use Rattle.arrival.specs.declared.Fate.{Fate}
 use Rattle.arrival.specs.declared.Fate.TheVariants as fate
 use Rattle.arrival.specs.declared.Judged.{Judged}
-use Rattle.arrival.proofs.Laws.{judged_stored, room_stored}
+use Rattle.arrival.proofs.Laws.{Leaves, judged_stored, room_stored}
 use Rattle.arrive_unsequenced.specs.Calls.{send_unsequenced, regrouped, unsequenced_after, judged_on, unsequenced_sound, arrives_unsequenced}
-
--- a fate that leaves the store
-abbrev pub Leaves : Fate → Type 0
-Leaves f = (n : ℕ) → f ≡ fate.Stored n → ⊥
 
 -- ws and g are what the code answered
 module _ (s : Settings) (a : Arrival) (group : Group) (datagram : List ℕ) (p : Peer) (store second : List ℕ)

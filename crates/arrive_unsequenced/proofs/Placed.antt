@@ -22,6 +22,7 @@ use Rattle.peer.specs.declared.gate.Gate.TheVariants.{Open, Shut}
 use Rattle.peer.proofs.Gates.{AtGate}
 use Rattle.places.specs.Updates.{with_incoming}
 use Rattle.queues.specs.Queues.{put_dispatched}
+use Rattle.arrival.proofs.Laws.{Leaves}
 use Rattle.arrival.specs.Storing.{free_slot, delivered, awaiting, filled}
 use Rattle.arrival.specs.Arrivals.{answer_of, arrival_gate, room_for, room_of, reply_of, arrived_slot}
 use Rattle.arrival.specs.Window.{judge_window}
@@ -32,7 +33,7 @@ use Rattle.arrival.specs.declared.Fate.{Fate}
 use Rattle.arrival.specs.declared.Fate.TheVariants as fate
 use Rattle.arrival.specs.declared.Judged.{Judged}
 use Rattle.arrive_unsequenced.specs.Calls.{send_unsequenced, judged_on, arrives_unsequenced}
-use Rattle.arrive_unsequenced.proofs.Calling.{Leaves, arrive_refused, arrive_left, arrive_stored}
+use Rattle.arrive_unsequenced.proofs.Calling.{arrive_refused, arrive_left, arrive_stored}
 
 -- what judges: each part is what its reader answered, q is the record after the groups were written
 pub judged_lent : (s : Settings) (group : Group) (p q : Peer) (free : Free) (standing : Standing) (waiting : Waiting) (room : Fate) (unsequenced : Unsequenced) (j : Judged)
