@@ -9,7 +9,7 @@ use Rattle.script.specs.Row.{mixed, hashed, told}
 use Rattle.script.specs.declared.row.Row.{Row}
 use Rattle.std.specs.Prelude.{Option, Some, None}
 use Rattle.std.proofs.Common.{append_assoc, append-nil}
-use Rattle.std.specs.Io.KnownBytes.{Appends, Keeps}
+use Rattle.std.specs.Io.KnownBytes.{Appends}
 use Rattle.script.specs.Line.{Grows}
 
 -- one row after the other
@@ -54,20 +54,12 @@ appends_then (Some xs) None w a b x y = absurd x
 appends_then (Some xs) (Some ys) None a b x y = y
 appends_then (Some xs) (Some ys) (Some zs) a b x y = y ∙ ap (λ (t : List ℕ). t ++ b) x ∙ append_assoc xs a b
 
-pub kept_appends : (u v : Option (List ℕ)) → Keeps u v → Appends u v []
-kept_appends None v k = tt
-kept_appends (Some xs) None k = absurd k
-kept_appends (Some xs) (Some ys) k = k ∙ sym (append-nil xs)
-
 pub grows_none : (u : Option (List ℕ)) → Grows u u
 grows_none None = record { bytes = []; behind = tt }
 grows_none (Some xs) = record { bytes = []; behind = sym (append-nil xs) }
 
 pub grows_then : (u v w : Option (List ℕ)) → Grows u v → Grows v w → Grows u w
 grows_then u v w x y = record { bytes = x.bytes ++ y.bytes; behind = appends_then u v w x.bytes y.bytes x.behind y.behind }
-
-pub grows_kept : (u v : Option (List ℕ)) → Keeps u v → Grows u v
-grows_kept u v k = record { bytes = []; behind = kept_appends u v k }
 
 pub grows_by : (u v : Option (List ℕ)) (bs : List ℕ) → Appends u v bs → Grows u v
 grows_by u v bs a = record { bytes = bs; behind = a }
