@@ -3,5 +3,4 @@ pub mod Settled
 pub mod Counted
 pub mod Changes
 pub mod RemovalLaws
-pub mod Kept
 pub mod RemovalChanges

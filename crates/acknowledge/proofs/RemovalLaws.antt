@@ -2,13 +2,10 @@
 -- Then what the owner needs: the searches by looks are the rule's, and the slot found, and sent's head then, exist.
 -- The argument: what is left of a list is the slot at place k and what is left after it; what the search makes of it picks the rule's case.
 -- A search finds a place of its list, and the lists of a sound record name slots that exist: there the looks are the rule's.
-use Rattle.std.proofs.Common.{◌≡◌, ℕ, ◌+◌, ◌<◌, ◌≤◌, Bool, true, false, eqb, ltb, List, [], ◌∷◌, ◌++◌, map, length, get_or, take, drop, sym, refl, ◌∙◌, arith, ltb-true, ne_eqb}
+use Rattle.std.proofs.Common.{◌≡◌, ℕ, ◌+◌, ◌<◌, ◌≤◌, Bool, true, false, Option, Some, None, ltb, List, [], ◌∷◌, ◌++◌, map, length, get_or, take, drop, sym, refl, ◌∙◌, arith, ltb-true}
 use lib.ListN.{length-map, get_or-map}
-use Rattle.numbers.specs.Pick.{pick}
 use Rattle.numbers.proofs.BoolLaws.{both_left, both_right}
 use Rattle.cells.specs.Free.{exist}
-use Rattle.cells.specs.declared.Found.{Found}
-use Rattle.cells.specs.declared.Found.TheVariants.{At, Nowhere}
 use Rattle.cells.proofs.Views.{at_any, part_step, part_end}
 use Rattle.record.specs.Lists.{outgoing, out_items}
 use Rattle.record.proofs.Keeps.{exist_append}
@@ -16,40 +13,44 @@ use Rattle.record.specs.Fresh.{no_outgoing}
 use Rattle.record.specs.Damage.{used_out}
 use Rattle.record.specs.declared.groups.Lists.{Lists}
 use Rattle.record.specs.declared.groups.Outgoing.{Outgoing}
-use Rattle.acknowledge.specs.Removal.{seek, or_else, spot_by, spot_of}
+use Rattle.queues.specs.Queues.{out_of}
+use Rattle.queues.specs.declared.Out.{Out}
+use Rattle.queues.specs.declared.Out.TheVariants as out
+use Rattle.acknowledge.specs.Removal.{found_by, seek, or_else, spot_by, spot_of}
 use Rattle.acknowledge.specs.CodeSearches.{look_of, at}
+use Rattle.acknowledge.specs.declared.removal.Seen.{Seen}
+use Rattle.acknowledge.specs.declared.removal.Seen.TheVariants as seen
 use Rattle.acknowledge.specs.declared.removal.Spot.{Spot}
-use Rattle.acknowledge.specs.declared.removal.Spot.TheVariants as spot
 
 -- ---- the loops
--- any number f made of every slot
-module _ (f : Outgoing → ℕ) (slots : List Outgoing) (m : ℕ) (h : m < length slots) where
-  pub made_at : get_or (map f slots) m 0 ≡ f (get_or slots m no_outgoing)
+-- whatever f made of every slot
+module _ (f : Outgoing → Seen) (slots : List Outgoing) (m : ℕ) (h : m < length slots) where
+  pub made_at : at (map f slots) m ≡ f (get_or slots m no_outgoing)
   made_at =
       let l = length-map slots f in
-      at_any (map f slots) m 0 (f no_outgoing) (omega arith) ∙ get_or-map f slots m no_outgoing
+      at_any (map f slots) m seen.GoesOn (f no_outgoing) (omega arith) ∙ get_or-map f slots m no_outgoing
 
 -- v is what the search makes of the slot at place k
-module _ (f : ℕ → ℕ) (xs : List ℕ) (n k : ℕ) (e : n ≤ length xs) (h : k < n) (v : ℕ) (is : v ≡ f (get_or xs k 0)) where
-  seek_step : seek f k (drop k (take n xs)) ≡ pick (eqb v 0) (seek f (k + 1) (drop (k + 1) (take n xs))) (pick (eqb v 1) (At k) Nowhere)
+module _ (f : ℕ → Seen) (xs : List ℕ) (n k : ℕ) (e : n ≤ length xs) (h : k < n) (v : Seen) (is : v ≡ f (get_or xs k 0)) where
+  seek_step : seek f k (drop k (take n xs)) ≡ found_by v k (seek f (k + 1) (drop (k + 1) (take n xs)))
   unfolding seek
   seek_step = rw (part_step xs k n 0 h (omega arith), is)
 
-  pub seek_found : v ≡ 1 → seek f k (drop k (take n xs)) ≡ At k
+  pub seek_found : v ≡ seen.Found → seek f k (drop k (take n xs)) ≡ Some k
   seek_found q = seek_step ∙ rw q
 
-  pub seek_ends : (v ≡ 1 → ⊥) → (v ≡ 0 → ⊥) → seek f k (drop k (take n xs)) ≡ Nowhere
-  seek_ends p q = seek_step ∙ rw (ne_eqb v 0 q, ne_eqb v 1 p)
+  pub seek_ends : v ≡ seen.Ends → seek f k (drop k (take n xs)) ≡ None
+  seek_ends q = seek_step ∙ rw q
 
-  pub seek_goes_on : v ≡ 0 → seek f k (drop k (take n xs)) ≡ seek f (k + 1) (drop (k + 1) (take n xs))
+  pub seek_goes_on : v ≡ seen.GoesOn → seek f k (drop k (take n xs)) ≡ seek f (k + 1) (drop (k + 1) (take n xs))
   seek_goes_on q = seek_step ∙ rw q
 
-pub seek_end : (f : ℕ → ℕ) (xs : List ℕ) (n k : ℕ) → n ≤ k → seek f k (drop k (take n xs)) ≡ Nowhere
+pub seek_end : (f : ℕ → Seen) (xs : List ℕ) (n k : ℕ) → n ≤ k → seek f k (drop k (take n xs)) ≡ None
 unfolding seek
 seek_end f xs n k h = rw (part_end xs k n h)
 
 -- ---- the searches by looks
-seek_same : (f g : ℕ → ℕ) (n : ℕ) → ((s : ℕ) → s < n → f s ≡ g s) → (xs : List ℕ) → exist n xs ≡ true → (k : ℕ) → seek f k xs ≡ seek g k xs
+seek_same : (f g : ℕ → Seen) (n : ℕ) → ((s : ℕ) → s < n → f s ≡ g s) → (xs : List ℕ) → exist n xs ≡ true → (k : ℕ) → seek f k xs ≡ seek g k xs
 unfolding seek exist
 seek_same f g n same [] e k = refl
 seek_same f g n same (x ∷ xs) e k =
@@ -66,48 +67,47 @@ searched slots number channel n sent xs e =
     seek_same (at (map f slots)) (λ (s : ℕ). f (get_or slots s no_outgoing)) outgoing (λ s h. made_at f slots s (omega arith)) xs e 0
 
 -- a search finds a place of its list
-seek_within : (f : ℕ → ℕ) (xs : List ℕ) (k i : ℕ) → seek f k xs ≡ At i → i < k + length xs
+seek_within : (f : ℕ → Seen) (xs : List ℕ) (k i : ℕ) → seek f k xs ≡ Some i → i < k + length xs
 unfolding seek
 seek_within f [] k i e = let z : ◌≡◌ {A = ℕ} 0 1 = cc in absurd (omega arith)
-seek_within f (x ∷ xs) k i e = go (seek_within f xs (k + 1) i) (eqb (f x) 0) refl (eqb (f x) 1) refl
+seek_within f (x ∷ xs) k i e = go (f x) e (seek_within f xs (k + 1) i)
   where
-    go : (seek f (k + 1) xs ≡ At i → i < k + 1 + length xs) → (a : Bool) → eqb (f x) 0 ≡ a → (b : Bool) → eqb (f x) 1 ≡ b
-        → i < k + length (x ∷ xs)
-    go rest true p b q = omega (arith, rest (rw p at e))
-    go rest false p true q =
-        let s : At k ≡ At i = rw (p, q) at e in
+    go : (v : Seen) → found_by v k (seek f (k + 1) xs) ≡ Some i → (seek f (k + 1) xs ≡ Some i → i < k + 1 + length xs) → i < k + length (x ∷ xs)
+    go seen.GoesOn e rest = omega (arith, rest e)
+    go seen.Found e rest =
         let z : k ≡ i = cc in
         omega arith
-    go rest false p false q =
-        let s : Nowhere ≡ At i = rw (p, q) at e in
+    go seen.Ends e rest =
         let z : ◌≡◌ {A = ℕ} 0 1 = cc in
         absurd (omega arith)
 
--- its list has the place
-abbrev pub Placed : Spot → Lists → Type 0
-Placed (spot.Sent k) l = k < length (out_items l.sent)
-Placed (spot.Outgoing k) l = k < length (out_items l.outgoing)
-Placed (spot.Reliable k) l = k < length (out_items l.send_reliable)
-Placed spot.Nowhere l = Unit {0}
+-- place k of a list
+abbrev pub spot_at : Out → ℕ → Option Spot
+spot_at list k = Some (record { list = list; place = k })
 
-pub spot_placed : (f g : ℕ → ℕ) (l : Lists) → Placed (spot_by f g l) l
-spot_placed f g l = go (seek f 0 sent) refl (seek g 0 out) refl (seek g 0 reliable) refl
+-- its list has the place
+abbrev pub Placed : Option Spot → Lists → Type 0
+Placed (Some s) l = s.place < length (out_items (out_of s.list l))
+Placed None l = Unit {0}
+
+pub spot_placed : (f g : ℕ → Seen) (l : Lists) → Placed (spot_by f g l) l
+spot_placed f g l = go (seek f 0 sent) refl (seek g 0 queued) refl (seek g 0 reliable) refl
   where
     sent : List ℕ
     sent = out_items l.sent
 
-    out : List ℕ
-    out = out_items l.outgoing
+    queued : List ℕ
+    queued = out_items l.outgoing
 
     reliable : List ℕ
     reliable = out_items l.send_reliable
 
-    go : (a : Found) → seek f 0 sent ≡ a → (b : Found) → seek g 0 out ≡ b → (c : Found) → seek g 0 reliable ≡ c
-        → Placed (or_else a spot.Sent (or_else b spot.Outgoing (or_else c spot.Reliable spot.Nowhere))) l
-    go (At k) p b q c r = omega (arith, seek_within f sent 0 k p)
-    go Nowhere p (At k) q c r = omega (arith, seek_within g out 0 k q)
-    go Nowhere p Nowhere q (At k) r = omega (arith, seek_within g reliable 0 k r)
-    go Nowhere p Nowhere q Nowhere r = tt
+    go : (a : Option ℕ) → seek f 0 sent ≡ a → (b : Option ℕ) → seek g 0 queued ≡ b → (c : Option ℕ) → seek g 0 reliable ≡ c
+        → Placed (or_else a out.Sent (or_else b out.Outgoing (or_else c out.Reliable None))) l
+    go (Some k) p b q c r = omega (arith, seek_within f sent 0 k p)
+    go None p (Some k) q c r = omega (arith, seek_within g queued 0 k q)
+    go None p None q (Some k) r = omega (arith, seek_within g reliable 0 k r)
+    go None p None q None r = tt
 
 -- the three lists name slots that exist
 module _ (l : Lists) (e : exist outgoing (used_out l) ≡ true) where
@@ -124,7 +124,7 @@ module _ (l : Lists) (e : exist outgoing (used_out l) ≡ true) where
   outgoing-exist = both_right (exist outgoing (out_items l.send_reliable)) _ (sym (exist_append outgoing (out_items l.send_reliable) _) ∙ queued)
 
   -- so the searches by looks are the rule's
-  pub spot_by_lem : (slots : List Outgoing) (number channel : ℕ) → length slots ≡ outgoing → (sent queued : List ℕ)
+  pub spot_by_lem : (slots : List Outgoing) (number channel : ℕ) → length slots ≡ outgoing → (sent queued : List Seen)
       → sent ≡ map (look_of true number channel) slots → queued ≡ map (look_of false number channel) slots
       → spot_by (at sent) (at queued) l ≡ spot_of slots number channel l
   spot_by_lem slots number channel n sent queued p q =

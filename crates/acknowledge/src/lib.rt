@@ -3,48 +3,45 @@
 
 pub mod removal;
 
-ghost use Rattle.std.specs.Prelude.{◌≡◌, length};
+ghost use Rattle.std.specs.Prelude.{◌≡◌, length, is_some};
 ghost use Rattle.acknowledge.specs.Calls.{heard_in, received, removed_or, answer_of, event_in, heard_at, acknowledges};
 ghost use Rattle.cells.specs.Runs.{is_empty};
 ghost use Rattle.record.specs.Damage.{used_out};
 ghost use Rattle.peer.specs.Outcome.{Came};
 ghost use Rattle.places.specs.Whole.{whole, record_length};
-ghost use Rattle.acknowledge.specs.Removal.{held_by, is_some, command_at};
+ghost use Rattle.acknowledge.specs.Removal.{held_by, command_at};
 ghost use Rattle.acknowledge.specs.CodeSearches.{spot_in};
 ghost use Rattle.acknowledge.specs.CodeParts.{measured_in, freed_in, timed_in};
 
-use crate::removal::{Spot, is_some};
-use cells::First;
+use crate::removal::Spot;
 use command::bytes::{DISCONNECT, VERIFY_CONNECT};
 use numbers::clock;
-use numbers::clock::Trip;
 use numbers::counters::Reliable;
 use numbers::refusals::Refusal;
 use peer::Peer;
-use peer::gate::{Gate, Lent};
+use peer::gate::Lent;
 use peer::settings::Settings;
 use places::{RECORD, groups};
 use queues::{Out, outgoing};
 use record::groups::Times;
 
 #[derive(Clone, Copy)]
-pub enum Reply {
+pub enum Event {
     Passed,
     Done,
     Connect,
     Disconnect,
     DisconnectNow,
-    Refused(Refusal),
 }
 
-fn heard_in(state: u32, clock: u32, sent: u16) -> Trip
+fn heard_in(state: u32, clock: u32, sent: u16) -> Option<u32>
     ensures { result ≡ heard_in state clock sent }
 {
     if state == Peer::DISCONNECTED {
-        return Trip::PassedOver;
+        return None;
     }
     if state == Peer::ZOMBIE {
-        return Trip::PassedOver;
+        return None;
     }
     clock::sample(clock, sent)
 }
@@ -62,18 +59,17 @@ fn received(times: Times, clock: u32) -> Times
 }
 
 // Done, or 10.
-fn removed_or(command: u8, wanted: u8, event: Reply) -> Reply
+fn removed_or(command: u8, wanted: u8, event: Event) -> Result<Event, Refusal>
     ensures { result ≡ removed_or command wanted event }
 {
     if command == wanted {
-        return event;
+        return Ok(event);
     }
-    Reply::Refused(Refusal::NotRemoved)
+    Err(Refusal::NotRemoved)
 }
 
 // The sample goes into the round trips and the throttle.
-fn measure(words: &mut [u32], sample: u32, clock: u32)
-    requires { length words.old ≡ record_length }
+fn measure(words: &mut [u32; RECORD], sample: u32, clock: u32)
     ensures { whole words.new ≡ measured_in sample clock (whole words.old) }
 {
     let times = groups::times(words);
@@ -86,8 +82,7 @@ fn measure(words: &mut [u32], sample: u32, clock: u32)
 }
 
 // The command at this spot leaves its list; the number of the command is the answer.
-fn free(words: &mut [u32], spot: Spot, slot: First) -> u8
-    requires { length words.old ≡ record_length }
+fn free(words: &mut [u32; RECORD], spot: Option<Spot>, slot: Option<u16>) -> u8
     ensures number { result ≡ command_at (is_some slot) (held_by (whole words.old).outgoing slot) }
     ensures kept { whole words.new ≡ freed_in spot slot (whole words.old) }
 {
@@ -96,17 +91,16 @@ fn free(words: &mut [u32], spot: Spot, slot: First) -> u8
     let carried = removal::flow_without(spot, o, flow);
     groups::put_flow(words, carried);
     removal::leave(words, spot);
-    removal::command_at(is_some(slot), o)
+    removal::command_at(slot.is_some(), o)
 }
 
 // The last receive; and the next timeout, if one was removed, by sent's head then.
-fn time(words: &mut [u32], removed: bool, clock: u32)
-    requires { length words.old ≡ record_length }
+fn time(words: &mut [u32; RECORD], removed: bool, clock: u32)
     ensures { whole words.new ≡ timed_in removed clock (whole words.old) }
 {
     let head = outgoing::head(words, Out::Sent);
     let h = removal::held(words, head);
-    let left = is_some(head);
+    let left = head.is_some();
     let times = groups::times(words);
     let heard = received(times, clock);
     let timed = removal::times_without(removed, left, h, heard);
@@ -114,8 +108,7 @@ fn time(words: &mut [u32], removed: bool, clock: u32)
 }
 
 // Whether the three outgoing lists are empty.
-fn is_empty(words: &[u32]) -> bool
-    requires { length words.now ≡ record_length }
+fn is_empty(words: &[u32; RECORD]) -> bool
     ensures { result ≡ is_empty (used_out (whole words.now).lists) }
 {
     if outgoing::count(words, Out::Sent) != 0 {
@@ -128,36 +121,40 @@ fn is_empty(words: &[u32]) -> bool
 }
 
 // By the state as it was.
-fn event_in(words: &[u32], command: u8) -> Reply
-    requires { length words.now ≡ record_length }
+fn event_in(words: &[u32; RECORD], command: u8) -> Result<Event, Refusal>
     ensures { result ≡ event_in (whole words.now).standing.state command (whole words.now).lists }
 {
     let standing = groups::standing(words);
     if standing.state == Peer::ACKNOWLEDGING_CONNECT {
-        return removed_or(command, VERIFY_CONNECT, Reply::Connect);
+        return removed_or(command, VERIFY_CONNECT, Event::Connect);
     }
     if standing.state == Peer::DISCONNECTING {
-        return removed_or(command, DISCONNECT, Reply::Disconnect);
+        return removed_or(command, DISCONNECT, Event::Disconnect);
     }
     if standing.state != Peer::DISCONNECT_LATER {
-        return Reply::Done;
+        return Ok(Event::Done);
     }
     if is_empty(words) {
-        return Reply::DisconnectNow;
+        return Ok(Event::DisconnectNow);
     }
-    Reply::Done
+    Ok(Event::Done)
 }
 
 // A sample taken, and the command removed.
-fn heard(words: &mut [u32], sample: u32, channel: u8, number: Reliable, clock: u32) -> Reply
-    requires { length words.old ≡ record_length }
+fn heard(
+    words: &mut [u32; RECORD],
+    sample: u32,
+    channel: u8,
+    number: Reliable,
+    clock: u32,
+) -> Result<Event, Refusal>
     ensures { Came answer_of (heard_at (spot_in (whole words.old).outgoing number.0 channel (whole words.old).lists) sample clock (whole words.old)) result (whole words.new) }
 {
     measure(words, sample, clock);
     let spot = removal::spot_in(words, number, channel);
     let slot = removal::slot_at(words, spot);
     let command = free(words, spot, slot);
-    time(words, is_some(slot), clock);
+    time(words, slot.is_some(), clock);
     event_in(words, command)
 }
 
@@ -169,17 +166,14 @@ pub fn acknowledge(
     number: Reliable,
     sent: u16,
     clock: u32,
-) -> Reply
+) -> Result<Event, Refusal>
     ensures { Came answer_of (acknowledges settings channel number.0 sent clock (whole words.old)) result (whole words.new) }
 {
-    let gate = gate::ask(words, settings, Lent::Nothing);
-    if let Gate::Shut(why) = gate {
-        return Reply::Refused(why);
-    }
+    gate::ask(words, settings, Lent::Nothing)?;
     let standing = groups::standing(words);
     let trip = heard_in(standing.state, clock, sent);
-    let Trip::Taken(sample) = trip else {
-        return Reply::Passed;
+    let Some(sample) = trip else {
+        return Ok(Event::Passed);
     };
     heard(words, sample, channel, number, clock)
 }

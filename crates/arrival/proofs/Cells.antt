@@ -1,7 +1,7 @@
 -- What laying bytes into a store does to it: its length stays, from the place on stands the payload, every other byte is as it was.
 -- The argument: the tests pick between a `paste` and the store itself; the laws of `paste` are those of its three parts.
-use Rattle.std.proofs.Common.{◌≡◌, ℕ, ◌+◌, ◌-◌, ◌<◌, ◌≤◌, Bool, true, false, leb, ◌⊎◌, List, length, get_or, take, drop, set, refl, ap, ◌∙◌, ⊎_elim, add-one, arith, length-drop, get_or-drop, le-leb, leb-true}
-use lib.Seq.{paste, paste-suc, length-paste}
+use Rattle.std.proofs.Common.{◌≡◌, ℕ, ◌+◌, ◌<◌, ◌≤◌, Bool, true, false, leb, ◌⊎◌, List, length, get_or, take, drop, refl, ap, ◌∙◌, ⊎_elim, arith, length-drop, le-leb, leb-true}
+use lib.Seq.{paste, length-paste}
 use borrow.Author.Tests.{lt-leb}
 use Rattle.numbers.specs.Pick.{pick, both}
 use Rattle.cells.proofs.Pasting.{pasted, pasted_before, pasted_after}
@@ -10,13 +10,6 @@ use Rattle.arrival.specs.Storing.{laid, within_datagram}
 -- what is left of a list from a place on
 left : (s : List ℕ) (from n : ℕ) → from + n ≤ length s → n ≤ length (drop from s)
 left s from n h = rw (length-drop from s) (omega arith)
-
--- a turn of the loop that copies
-pub copy_turn : (d e s : List ℕ) (at from j : ℕ) → at + j < length d → from + j < length s → e ≡ paste d at (drop from s) j
-    → set e (at + j) (get_or s (from + j) 0) ≡ paste d at (drop from s) (j + 1)
-copy_turn d e s at from j p q h =
-    let more : j < length (drop from s) = rw (length-drop from s) (omega arith) in
-    rw (h, add-one, ← get_or-drop from s j 0) (paste-suc d at (drop from s) j 0 p more)
 
 module _ (store : List ℕ) (to : ℕ) (datagram : List ℕ) (place n : ℕ) where
   pub laid_is : to + n ≤ length store → place + n ≤ length datagram → laid store to datagram place n ≡ paste store to (drop place datagram) n

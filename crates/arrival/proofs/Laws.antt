@@ -1,5 +1,6 @@
 -- A group against the window, on the groups: what `window` answers is the rule's case; and what is stored is stored in a free slot.
 -- The argument: by the window's tests in their order; an answer tells a verdict that takes the group from the others.
+use Rattle.std.specs.Prelude.{None, Option, Some}
 use Rattle.std.proofs.Common.{◌≡◌, ℕ, Bool, true, false, eqb, leb, List, [], ◌∷◌, get_or, sym, refl, ap, ◌∙◌, arith}
 use Rattle.numbers.specs.Pick.{pick}
 use Rattle.numbers.specs.Answers.{Answer, done, numbers_of}
@@ -9,8 +10,6 @@ use Rattle.window.specs.declared.Judged as window
 use Rattle.window.specs.declared.Verdict.{Verdict}
 use Rattle.window.specs.declared.Verdict.TheVariants.{Distant, Marked, Taken}
 use Rattle.record.specs.declared.groups.Unsequenced.{Unsequenced}
-use Rattle.cells.specs.declared.Free.{Free}
-use Rattle.cells.specs.declared.Free.TheVariants.{Lowest, Full}
 use Rattle.peer.specs.States.{disconnect_later}
 use Rattle.peer.specs.declared.settings.Settings.{Settings}
 use Rattle.arrival.specs.Arrivals.{in_slot, room_for}
@@ -98,14 +97,14 @@ module _ (g : Unsequenced) (group : Group) where
       go false true false e = taken_stored room g.incoming g.words n e
       go false false m e = taken_stored room (record { 0 = first group.0 }) cleared n e
 
-in_slot_lem : (f : Free) (n : ℕ) → in_slot f ≡ fate.Stored n → f ≡ Lowest n
-in_slot_lem (Lowest s) n e = let z : s ≡ n = cc in ap Lowest z
-in_slot_lem Full n e = let z : ◌≡◌ {A = ℕ} 0 1 = cc in absurd (omega arith)
+in_slot_lem : (f : Option ℕ) (n : ℕ) → in_slot f ≡ fate.Stored n → f ≡ Some n
+in_slot_lem (Some s) n e = let z : s ≡ n = cc in ap Some z
+in_slot_lem None n e = let z : ◌≡◌ {A = ℕ} 0 1 = cc in absurd (omega arith)
 
-pub room_stored : (s : Settings) (state total : ℕ) (free : Free) (n : ℕ) → room_for s state total free ≡ fate.Stored n → free ≡ Lowest n
+pub room_stored : (s : Settings) (state total : ℕ) (free : Option ℕ) (n : ℕ) → room_for s state total free ≡ fate.Stored n → free ≡ Some n
 room_stored s state total free n = go (eqb state disconnect_later) (leb s.waiting total)
   where
-    go : (later full : Bool) → pick later fate.Passed (pick full fate.NoRoom (in_slot free)) ≡ fate.Stored n → free ≡ Lowest n
+    go : (later full : Bool) → pick later fate.Passed (pick full fate.NoRoom (in_slot free)) ≡ fate.Stored n → free ≡ Some n
     go true full e = let z : ◌≡◌ {A = ℕ} 0 1 = cc in absurd (omega arith)
     go false true e = let z : ◌≡◌ {A = ℕ} 0 1 = cc in absurd (omega arith)
     go false false e = in_slot_lem free n e

@@ -1,11 +1,10 @@
 -- What both arrivals refuse, reply and store. "Order for every call: settings and store (11), record (13), then the table's order downward; an
 -- arrival is passed over after 7 and before 8." A byte that names another command is refused with 9 straight after 13 (decision 81).
-use Rattle.std.specs.Prelude.{ℕ, ◌+◌, ◌%◌, Bool, true, List, [], ◌∷◌, ◌==◌, nat_le, nat_lt, slice_set}
+use Rattle.std.specs.Prelude.{ℕ, ◌+◌, ◌%◌, Bool, true, List, [], ◌∷◌, ◌==◌, nat_le, nat_lt, slice_set, ⊤, Result, Ok, Err, Option, Some, None}
 use Rattle.numbers.specs.Pick.{pick, both}
 use Rattle.numbers.specs.Answers.{Answer, done, refused}
+use Rattle.numbers.specs.declared.refusals.Refusal.{Refusal}
 use Rattle.numbers.specs.declared.refusals.Refusal.TheVariants.{NotReceiving, LengthTooLarge, NotStored, BadCommand}
-use Rattle.cells.specs.declared.Free.{Free}
-use Rattle.cells.specs.declared.Free.TheVariants.{Lowest, Full}
 use Rattle.record.specs.Sizes.{cell}
 use Rattle.record.specs.declared.groups.Standing.{Standing}
 use Rattle.record.specs.declared.groups.Lists.{Lists}
@@ -18,12 +17,10 @@ use Rattle.peer.specs.States.{connected, disconnect_later}
 use Rattle.peer.specs.Updates.{with_arrival}
 use Rattle.peer.specs.declared.settings.Settings.{Settings}
 use Rattle.peer.specs.declared.Peer.{Peer}
-use Rattle.peer.specs.declared.gate.Gate.{Gate}
-use Rattle.peer.specs.declared.gate.Gate.TheVariants.{Open, Shut}
 use Rattle.arrival.specs.Storing.{free_slot, incoming_of, awaiting, filled}
 use Rattle.arrival.specs.declared.Arrival.{Arrival}
-use Rattle.arrival.specs.declared.Reply.{Reply}
-use Rattle.arrival.specs.declared.Reply.TheVariants as reply
+use Rattle.arrival.specs.declared.Arrived.{Arrived}
+use Rattle.arrival.specs.declared.Arrived.TheVariants as arrived
 use Rattle.arrival.specs.declared.Fate.{Fate}
 use Rattle.arrival.specs.declared.Fate.TheVariants as fate
 
@@ -34,10 +31,10 @@ passed_over = done (0 ∷ [])
 abbrev pub stored : Answer
 stored = done (1 ∷ [])
 
-abbrev pub answer_of : Reply → Answer
-answer_of reply.Passed = passed_over
-answer_of reply.Stored = stored
-answer_of (reply.Refused why) = refused why
+abbrev pub answer_of : Result Arrived Refusal → Answer
+answer_of (Ok arrived.Passed) = passed_over
+answer_of (Ok arrived.Stored) = stored
+answer_of (Err why) = refused why
 
 -- "The low four bits are the number"
 abbrev pub names : ℕ → ℕ → Bool
@@ -52,30 +49,30 @@ is_receiving channel standing =
 abbrev pub is_whole : Arrival → Settings → ℕ → Bool
 is_whole a s end = both (nat_le a.length s.packet) (both (nat_le a.length cell) (nat_le (a.place + a.length) end))
 
-abbrev pub arrival_gate : ℕ → Arrival → Settings → Standing → ℕ → Gate
+abbrev pub arrival_gate : ℕ → Arrival → Settings → Standing → ℕ → Result ⊤ Refusal
 arrival_gate command a s standing end =
-    then (pick (names a.byte command) Open (Shut BadCommand))
-    (then (pick (is_receiving a.channel standing) Open (Shut NotReceiving))
-    (pick (is_whole a s end) Open (Shut LengthTooLarge)))
+    then (pick (names a.byte command) (Ok tt) (Err BadCommand))
+    (then (pick (is_receiving a.channel standing) (Ok tt) (Err NotReceiving))
+    (pick (is_whole a s end) (Ok tt) (Err LengthTooLarge)))
 
 -- "the lowest free one is taken"
-abbrev pub in_slot : Free → Fate
-in_slot (Lowest s) = fate.Stored s
-in_slot Full = fate.NoRoom
+abbrev pub in_slot : Option ℕ → Fate
+in_slot (Some s) = fate.Stored s
+in_slot None = fate.NoRoom
 
 -- what becomes of an arrival that its group or number does not pass over: in state 6 it is passed over all the same;
 -- 8: "no incoming slot, or waiting total at or above the waiting setting"
-abbrev pub room_for : Settings → ℕ → ℕ → Free → Fate
+abbrev pub room_for : Settings → ℕ → ℕ → Option ℕ → Fate
 room_for s state total free = pick (state == disconnect_later) fate.Passed (pick (nat_le s.waiting total) fate.NoRoom (in_slot free))
 
 -- of a record, in its lowest free slot
 abbrev pub room_of : Settings → Peer → Fate
 room_of s p = room_for s p.standing.state p.waiting.total (free_slot p.lists p.channels p.standing.channels)
 
-abbrev pub reply_of : Fate → Reply
-reply_of fate.Passed = reply.Passed
-reply_of fate.NoRoom = reply.Refused NotStored
-reply_of (fate.Stored s) = reply.Stored
+abbrev pub reply_of : Fate → Result Arrived Refusal
+reply_of fate.Passed = Ok arrived.Passed
+reply_of fate.NoRoom = Err NotStored
+reply_of (fate.Stored s) = Ok arrived.Stored
 
 -- the slot of an arrival
 abbrev pub arrived_slot : Arrival → Incoming

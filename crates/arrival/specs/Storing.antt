@@ -1,13 +1,12 @@
 -- What "stored" means, for both arrivals: "the lowest free one is taken", "each a cell of 4,096 bytes in one lent store", "the cell's bytes past
 -- the length stay", "length added to the waiting total". A stored packet has 0 fragments and 0 remaining (decision 83).
-use Rattle.std.specs.Prelude.{ℕ, ◌+◌, ◌*◌, Bool, List, length, drop, nat_le}
+use Rattle.std.specs.Prelude.{ℕ, ◌+◌, ◌*◌, Bool, List, length, drop, nat_le, Option}
 use Rattle.std.proofs.Math.Seq.{paste}
 use Rattle.numbers.specs.Pick.{pick, both}
 use Rattle.numbers.specs.Modulo.{sum}
 use Rattle.numbers.specs.declared.counters.Reliable.{Reliable}
 use Rattle.record.specs.Lists.{incoming}
 use Rattle.cells.specs.Free.{lowest}
-use Rattle.cells.specs.declared.Free.{Free}
 use Rattle.record.specs.Sizes.{cell}
 use Rattle.record.specs.Damage.{below, used_in}
 use Rattle.record.specs.Updates.{with_dispatched, with_total, in_longer}
@@ -17,7 +16,7 @@ use Rattle.record.specs.declared.groups.Incoming.{Incoming}
 use Rattle.record.specs.declared.groups.Waiting.{Waiting}
 
 -- "A slot is free when no list names it", of those below the count
-abbrev pub free_slot : Lists → List Channel → ℕ → Free
+abbrev pub free_slot : Lists → List Channel → ℕ → Option ℕ
 free_slot l cs count = lowest incoming (used_in l (below cs count))
 
 -- the whole byte and the header's number are kept

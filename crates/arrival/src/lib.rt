@@ -9,12 +9,10 @@ ghost use Rattle.arrival.specs.Storing.{awaiting, filled};
 ghost use Rattle.arrival.specs.Arrivals.{is_receiving, is_whole, arrival_gate, room_for, reply_of, arrived_slot};
 ghost use Rattle.arrival.specs.Window.{taken_at, judge_window};
 
-use cells::Free;
 use numbers::consts::UNSEQUENCED_WORDS;
 use numbers::counters::{Group, Reliable};
 use numbers::refusals::Refusal;
 use peer::Peer;
-use peer::gate::Gate;
 use peer::settings::Settings;
 use record::flags::flagged;
 use record::groups::{CELL, Incoming, Standing, Unsequenced, Waiting};
@@ -31,10 +29,9 @@ pub struct Arrival {
 }
 
 #[derive(Clone, Copy)]
-pub enum Reply {
+pub enum Arrived {
     Passed,
     Stored,
-    Refused(Refusal),
 }
 
 // What becomes of an arrival that nothing refuses before 8.
@@ -90,23 +87,23 @@ pub fn arrival_gate(
     settings: Settings,
     standing: Standing,
     end: usize,
-) -> Gate
+) -> Result<(), Refusal>
     ensures { result ≡ arrival_gate command a settings standing end }
 {
     if a.byte % 16 != command {
-        return Gate::Shut(Refusal::BadCommand);
+        return Err(Refusal::BadCommand);
     }
     if !is_receiving(a.channel, standing) {
-        return Gate::Shut(Refusal::NotReceiving);
+        return Err(Refusal::NotReceiving);
     }
     if !is_whole(a, settings, end) {
-        return Gate::Shut(Refusal::LengthTooLarge);
+        return Err(Refusal::LengthTooLarge);
     }
-    Gate::Open
+    Ok(())
 }
 
 // State 6 passes over, then 8, then the lowest free slot.
-pub fn room_for(settings: Settings, state: u32, total: u32, free: Free) -> Fate
+pub fn room_for(settings: Settings, state: u32, total: u32, free: Option<u16>) -> Fate
     ensures { result ≡ room_for settings state total free }
 {
     if state == Peer::DISCONNECT_LATER {
@@ -116,8 +113,8 @@ pub fn room_for(settings: Settings, state: u32, total: u32, free: Free) -> Fate
         return Fate::NoRoom;
     }
     match free {
-        Free::Lowest(s) => Fate::Stored(s),
-        Free::Full => Fate::NoRoom,
+        Some(s) => Fate::Stored(s),
+        None => Fate::NoRoom,
     }
 }
 
@@ -189,12 +186,12 @@ pub fn judge_window(unsequenced: Unsequenced, group: Group, room: Fate) -> Judge
 }
 
 // What a fate comes to for the caller.
-pub fn reply_of(fate: Fate) -> Reply
+pub fn reply_of(fate: Fate) -> Result<Arrived, Refusal>
     ensures { result ≡ reply_of fate }
 {
     match fate {
-        Fate::Passed => Reply::Passed,
-        Fate::NoRoom => Reply::Refused(Refusal::NotStored),
-        Fate::Stored(_) => Reply::Stored,
+        Fate::Passed => Ok(Arrived::Passed),
+        Fate::NoRoom => Err(Refusal::NotStored),
+        Fate::Stored(_) => Ok(Arrived::Stored),
     }
 }

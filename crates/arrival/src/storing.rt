@@ -1,14 +1,13 @@
 // What "stored" means, on what it changes: the lowest free incoming slot, its cell of the store, the waiting total.
-ghost use Rattle.std.specs.Prelude.{◌≡◌, ◌+◌, ◌≤◌, length, drop};
-ghost use Rattle.std.proofs.Math.Seq.{paste};
+ghost use Rattle.std.specs.Prelude.{◌≡◌, length};
 ghost use Rattle.arrival.specs.Storing.{incoming_of, awaiting, laid, filled, free_slot};
 ghost use Rattle.cells.specs.Free.{marked_all};
 ghost use Rattle.record.specs.Damage.{below, held};
 ghost use Rattle.places.specs.Whole.{whole, record_length};
 
-use cells::{Free, marks};
+use cells::marks;
 use numbers::counters::Reliable;
-use places::groups;
+use places::{RECORD, groups};
 use record::INCOMING;
 use record::groups::{CELL, CHANNELS, Incoming, Waiting};
 
@@ -47,7 +46,7 @@ pub fn lay(store: &mut [u8], to: u32, datagram: &[u8], place: u32, n: u32)
     if datagram.len() < from + count {
         return;
     }
-    copy(store, at, datagram, from, count);
+    store[at..at + count].copy_from_slice(&datagram[from..from + count]);
 }
 
 // To cell s.
@@ -57,33 +56,17 @@ pub fn fill(store: &mut [u8], s: u16, datagram: &[u8], place: u32, n: u32)
     lay(store, s as u32 * CELL, datagram, place, n);
 }
 
-fn copy(store: &mut [u8], to: usize, datagram: &[u8], from: usize, count: usize)
-    requires count_in_bounds { to + count ≤ length store.old }
-    requires count_in_bounds_2 { from + count ≤ length datagram.now }
-    ensures { store.new ≡ paste store.old to (drop from datagram.now) count }
-{
-    let mut i: usize = 0;
-    while i < count {
-        store[to + i] = datagram[from + i];
-        i = i + 1;
-    }
-}
-
 // The slots that the channels below the count hold get a mark too.
-fn mark_held(words: &[u32], count: u32, marks: &mut [u8])
-    requires { length words.now ≡ record_length }
+fn mark_held(words: &[u32; RECORD], count: u32, marks: &mut [u8])
     ensures { marks.new ≡ marked_all marks.old (held (below (whole words.now).channels count)) }
 {
-    let mut k: usize = 0;
-    while k < CHANNELS && k < count as usize {
+    for k in 0..CHANNELS.min(count as usize) {
         queues::held::mark(words, k, marks);
-        k = k + 1;
     }
 }
 
 // The lowest free incoming slot.
-pub fn free_slot(words: &[u32]) -> Free
-    requires { length words.now ≡ record_length }
+pub fn free_slot(words: &[u32; RECORD]) -> Option<u16>
     ensures { result ≡ free_slot (whole words.now).lists (whole words.now).channels (whole words.now).standing.channels }
 {
     let mut marks = [0u8; INCOMING];

@@ -1,5 +1,6 @@
 -- The turns of the walks that look for a block. The argument: what is left of the list is the slot at place k and what is left after it; the test on it picks the
 -- rule's case.
+use Rattle.std.specs.Prelude.{None, Some}
 use Prim.Native.Nat.{ℕ, zero, suc, ◌+◌, ◌≤◌, ◌<◌}
 use mathlib.Core.Path.{◌≡◌, refl, ap, sym, ◌∙◌}
 use mathlib.Core.Bool.{Bool, true, false, not, false≢true}
@@ -9,7 +10,6 @@ use lib.Dec.{eqb}
 use lib.ListN.{length, take, drop, get_or}
 use borrow.Author.Tests.{eqb-true, eq-eqb, ne_eqb}
 use Rattle.numbers.specs.Pick.{pick}
-use Rattle.cells.specs.declared.First.TheVariants.{Slot, Empty}
 use Rattle.cells.proofs.Views.{part_step, part_end}
 use Rattle.record.specs.Fresh.{no_incoming, no_channel}
 use Rattle.record.specs.Lists.{in_items}
@@ -24,11 +24,11 @@ use Rattle.arrive_fragment.specs.Pieces.{is_unfinished, unfinished}
 module _ (slots : List Incoming) (xs : List ℕ) (n k : ℕ) (e : n ≤ length xs) (h : k < n)
     (s : ℕ) (at : s ≡ get_or xs k 0) (i : Incoming) (is : i ≡ get_or slots s no_incoming) where
   module _ (start : ℕ) where
-    found_step : unfinished slots (drop k (take n xs)) start ≡ pick (is_unfinished start i) (Slot s) (unfinished slots (drop (k + 1) (take n xs)) start)
+    found_step : unfinished slots (drop k (take n xs)) start ≡ pick (is_unfinished start i) (Some s) (unfinished slots (drop (k + 1) (take n xs)) start)
     unfolding unfinished
     found_step = rw (part_step xs k n 0 h (omega arith), is, at)
 
-    pub found_hit : is_unfinished start i ≡ true → unfinished slots (drop k (take n xs)) start ≡ Slot s
+    pub found_hit : is_unfinished start i ≡ true → unfinished slots (drop k (take n xs)) start ≡ Some s
     found_hit q = found_step ∙ rw q
 
     pub found_miss : is_unfinished start i ≡ false → unfinished slots (drop k (take n xs)) start ≡ unfinished slots (drop (k + 1) (take n xs)) start
@@ -47,7 +47,7 @@ module _ (slots : List Incoming) (xs : List ℕ) (n k : ℕ) (e : n ≤ length x
   block_miss q = let none : blocks slots (drop k (take n xs)) ≡ 0 + blocks slots (drop (k + 1) (take n xs)) = block_step ∙ rw q in omega arith
 
 -- the list is at its end
-pub found_end : (slots : List Incoming) (xs : List ℕ) (n k start : ℕ) → n ≤ k → unfinished slots (drop k (take n xs)) start ≡ Empty
+pub found_end : (slots : List Incoming) (xs : List ℕ) (n k start : ℕ) → n ≤ k → unfinished slots (drop k (take n xs)) start ≡ None
 unfolding unfinished
 found_end slots xs n k start h = rw (part_end xs k n h)
 

@@ -4,8 +4,7 @@
 pub mod searching;
 pub mod storing;
 
-ghost use Rattle.std.specs.Prelude.{◌≡◌, List, ℕ, ◌<◌, length};
-ghost use Rattle.cells.specs.declared.First.TheVariants.{Slot, Empty};
+ghost use Rattle.std.specs.Prelude.{◌≡◌, List, ℕ, ◌<◌, length, Some, None};
 ghost use Rattle.record.specs.Sizes.{channels};
 ghost use Rattle.peer.specs.Outcome.{Came};
 ghost use Rattle.places.specs.Whole.{whole, record_length};
@@ -13,14 +12,13 @@ ghost use Rattle.arrival.specs.Arrivals.{answer_of};
 ghost use Rattle.arrive_fragment.specs.Pieces.{opens, fate_by, fate_on, reply_of};
 ghost use Rattle.arrive_fragment.specs.Calls.{arrival_of, fragment_after, arrives_fragment};
 
-use arrival::{Arrival, Reply};
-use cells::First;
+use arrival::{Arrival, Arrived};
 use command::bytes::SEND_FRAGMENT;
 use command::fields::Fragment;
 use numbers::counters::Reliable;
 use numbers::refusals::Refusal;
 use peer::Peer;
-use peer::gate::{Gate, Lent};
+use peer::gate::Lent;
 use peer::settings::Settings;
 use places::{RECORD, groups, pools};
 
@@ -76,10 +74,9 @@ fn opens(another: bool, room: arrival::Fate) -> Fate
 }
 
 // Passed over by its start, then 14, then 8.
-fn first_fate(words: &[u32], settings: Settings, a: Piece) -> Fate
-    requires words_len { length words.now ≡ record_length }
-    requires channel_lt_channels { a.channel < channels }
-    ensures { result ≡ fate_by Empty settings a (whole words.now) }
+fn first_fate(words: &[u32; RECORD], settings: Settings, a: Piece) -> Fate
+    requires { a.channel < channels }
+    ensures { result ≡ fate_by None settings a (whole words.now) }
 {
     if arrive_reliable::holding::is_passed(words, a.channel as usize, a.start) {
         return Fate::Passed;
@@ -95,9 +92,8 @@ fn first_fate(words: &[u32], settings: Settings, a: Piece) -> Fate
 }
 
 // Of the block in slot s: 14, then passed over if it is marked.
-fn later_fate(words: &[u32], settings: Settings, a: Piece, s: u16) -> Fate
-    requires { length words.now ≡ record_length }
-    ensures { result ≡ fate_by (Slot s) settings a (whole words.now) }
+fn later_fate(words: &[u32; RECORD], settings: Settings, a: Piece, s: u16) -> Fate
+    ensures { result ≡ fate_by (Some s) settings a (whole words.now) }
 {
     let f = a.fragment;
     if !blocks::fields_fit(settings.packet, f) {
@@ -114,9 +110,8 @@ fn later_fate(words: &[u32], settings: Settings, a: Piece, s: u16) -> Fate
 }
 
 // What becomes of a piece that nothing refuses before 14.
-fn fate_on(words: &[u32], settings: Settings, a: Piece) -> Fate
-    requires words_len { length words.now ≡ record_length }
-    requires channel_lt_channels { a.channel < channels }
+fn fate_on(words: &[u32; RECORD], settings: Settings, a: Piece) -> Fate
+    requires { a.channel < channels }
     ensures { result ≡ fate_on settings a (whole words.now) }
 {
     let standing = groups::standing(words);
@@ -125,28 +120,27 @@ fn fate_on(words: &[u32], settings: Settings, a: Piece) -> Fate
     }
     let block = searching::unfinished(words, a.channel as usize, a.start);
     match block {
-        First::Empty => first_fate(words, settings, a),
-        First::Slot(s) => later_fate(words, settings, a, s),
+        None => first_fate(words, settings, a),
+        Some(s) => later_fate(words, settings, a, s),
     }
 }
 
 // What a fate comes to for the caller.
-fn reply_of(fate: Fate) -> Reply
+fn reply_of(fate: Fate) -> Result<Arrived, Refusal>
     ensures { result ≡ reply_of fate }
 {
     match fate {
-        Fate::Passed => Reply::Passed,
-        Fate::Unfit => Reply::Refused(Refusal::BadFragment),
-        Fate::NoRoom => Reply::Refused(Refusal::NotStored),
-        Fate::First(_) => Reply::Stored,
-        Fate::Later(_) => Reply::Stored,
+        Fate::Passed => Ok(Arrived::Passed),
+        Fate::Unfit => Err(Refusal::BadFragment),
+        Fate::NoRoom => Err(Refusal::NotStored),
+        Fate::First(_) => Ok(Arrived::Stored),
+        Fate::Later(_) => Ok(Arrived::Stored),
     }
 }
 
 // What a fate leaves: a first piece begins its block, a later one is added to it.
-fn keep(words: &mut [u32], second: &mut [u8], datagram: &[u8], a: Piece, fate: Fate)
-    requires words_len { length words.old ≡ record_length }
-    requires channel_lt_channels { a.channel < channels }
+fn keep(words: &mut [u32; RECORD], second: &mut [u8], datagram: &[u8], a: Piece, fate: Fate)
+    requires { a.channel < channels }
     ensures { (store : List ℕ) → fragment_after fate a datagram.now (record { peer = whole words.old; store = store; second = second.old }) ≡ record { peer = whole words.new; store = store; second = second.new } }
 {
     match fate {
@@ -172,28 +166,22 @@ pub fn arrive(
     second: &mut [u8],
     datagram: &[u8],
     a: Piece,
-) -> Reply
+) -> Result<Arrived, Refusal>
     ensures { Came answer_of (arrives_fragment settings a datagram.now (record { peer = whole words.old; store = store.now; second = second.old })) result (record { peer = whole words.new; store = store.now; second = second.new }) }
 {
     let lent = Lent::Both {
         store: store.len(),
         second: second.len(),
     };
-    let asked = gate::ask(words, settings, lent);
-    if let Gate::Shut(why) = asked {
-        return Reply::Refused(why);
-    }
+    gate::ask(words, settings, lent)?;
     let standing = groups::standing(words);
-    let may = arrival::arrival_gate(
+    arrival::arrival_gate(
         SEND_FRAGMENT,
         arrival_of(a),
         settings,
         standing,
         datagram.len(),
-    );
-    if let Gate::Shut(why) = may {
-        return Reply::Refused(why);
-    }
+    )?;
     let fate = fate_on(words, settings, a);
     keep(words, second, datagram, a, fate);
     reply_of(fate)

@@ -8,9 +8,8 @@ ghost use Rattle.places.specs.Whole.{whole, record_length};
 ghost use Rattle.queues.specs.Queues.{held_of};
 ghost use Rattle.arrive_fragment.specs.Pieces.{is_unfinished, unfinished, any_block};
 
-use cells::First;
 use numbers::counters::Reliable;
-use places::{groups, pools};
+use places::{RECORD, groups, pools};
 use record::INCOMING;
 use record::groups::{CHANNELS, Incoming};
 
@@ -28,64 +27,52 @@ fn is_unfinished(start: Reliable, slot: Incoming) -> bool
 }
 
 // The slot of channel i's unfinished block, if it has that start.
-pub fn unfinished(words: &[u32], i: usize, start: Reliable) -> First
-    requires words_len { length words.now ≡ record_length }
-    requires i_lt_channels { i < channels }
+pub fn unfinished(words: &[u32; RECORD], i: usize, start: Reliable) -> Option<u16>
+    requires { i < channels }
     ensures { result ≡ unfinished (whole words.now).incoming (in_items (held_of (whole words.now) i)) start.0 }
 {
-    let n = queues::held::count(words, i);
-    let mut k: usize = 0;
-    while k < n {
+    for k in 0..queues::held::count(words, i) {
         let s = queues::held::slot_at(words, i, k);
         let slot = pools::incoming_at(words, s as usize);
         if is_unfinished(start, slot) {
-            return First::Slot(s);
+            return Some(s);
         }
-        k = k + 1;
     }
-    First::Empty
+    None
 }
 
 // Whether the list at a place names a block.
-fn block_in(words: &[u32], at: usize) -> bool
-    requires words_len { length words.now ≡ record_length }
-    requires incoming_bound { at + incoming + 1 ≤ record_length }
+fn block_in(words: &[u32; RECORD], at: usize) -> bool
+    requires { at + incoming + 1 ≤ record_length }
     ensures { result ≡ not (eqb (blocks (whole words.now).incoming (items_of (row_at at incoming words.now))) 0) }
 {
-    let n = lists::count(words, at, INCOMING);
-    let mut k: usize = 0;
-    while k < n {
+    for k in 0..lists::count(words, at, INCOMING) {
         let s = lists::slot_at(words, at, INCOMING, k);
         let slot = pools::incoming_at(words, s as usize);
         if blocks::is_block(slot) {
             return true;
         }
-        k = k + 1;
     }
     false
 }
 
 // Whether a channel below the count holds one.
-fn block_held(words: &[u32], count: u32) -> bool
-    requires { length words.now ≡ record_length }
+fn block_held(words: &[u32; RECORD], count: u32) -> bool
     ensures { result ≡ not (eqb (blocks (whole words.now).incoming (held (below (whole words.now).channels count))) 0) }
 {
-    let mut k: usize = 0;
-    while k < CHANNELS && k < count as usize {
+    for k in 0..CHANNELS.min(count as usize) {
         if block_in(
             words,
             places::CHANNELS + k * places::CHANNEL_WIDTH + places::HELD,
         ) {
             return true;
         }
-        k = k + 1;
     }
     false
 }
 
 // Whether a block is held or dispatched.
-pub fn any_block(words: &[u32]) -> bool
-    requires { length words.now ≡ record_length }
+pub fn any_block(words: &[u32; RECORD]) -> bool
     ensures { result ≡ any_block (whole words.now) }
 {
     if block_in(words, places::DISPATCHED) {

@@ -6,12 +6,11 @@ ghost use Rattle.places.specs.Whole.{whole, record_length};
 ghost use Rattle.arrive_fragment.specs.Calls.{opened_on, pieced_on, finished_on, piece_on, with_bytes, cleared};
 
 use crate::Piece;
-use places::{groups, pools};
+use places::{RECORD, groups, pools};
 
 // The block's slot s, in the channel's list by its start, its total awaited.
-fn open(words: &mut [u32], a: Piece, s: u16)
-    requires words_len { length words.old ≡ record_length }
-    requires channel_lt_channels { a.channel < channels }
+fn open(words: &mut [u32; RECORD], a: Piece, s: u16)
+    requires { a.channel < channels }
     ensures { whole words.new ≡ opened_on s a (whole words.old) }
 {
     let f = a.fragment;
@@ -23,8 +22,7 @@ fn open(words: &mut [u32], a: Piece, s: u16)
 }
 
 // The piece's mark, and one less remains in slot s.
-fn mark(words: &mut [u32], a: Piece, s: u16)
-    requires { length words.old ≡ record_length }
+fn mark(words: &mut [u32; RECORD], a: Piece, s: u16)
     ensures { whole words.new ≡ pieced_on s a (whole words.old) }
 {
     let f = a.fragment;
@@ -35,9 +33,8 @@ fn mark(words: &mut [u32], a: Piece, s: u16)
 }
 
 // Where none remains in slot s, the channel is dispatched.
-fn finish(words: &mut [u32], a: Piece, s: u16)
-    requires words_len { length words.old ≡ record_length }
-    requires channel_lt_channels { a.channel < channels }
+fn finish(words: &mut [u32; RECORD], a: Piece, s: u16)
+    requires { a.channel < channels }
     ensures { whole words.new ≡ finished_on s a (whole words.old) }
 {
     let slot = pools::incoming_at(words, s as usize);
@@ -47,9 +44,8 @@ fn finish(words: &mut [u32], a: Piece, s: u16)
 }
 
 // A piece of the block in slot s.
-pub fn add(words: &mut [u32], second: &mut [u8], datagram: &[u8], a: Piece, s: u16)
-    requires words_len { length words.old ≡ record_length }
-    requires channel_lt_channels { a.channel < channels }
+pub fn add(words: &mut [u32; RECORD], second: &mut [u8], datagram: &[u8], a: Piece, s: u16)
+    requires { a.channel < channels }
     ensures words_after { whole words.new ≡ piece_on s a (whole words.old) }
     ensures second_after { second.new ≡ with_bytes a datagram.now second.old }
 {
@@ -60,9 +56,8 @@ pub fn add(words: &mut [u32], second: &mut [u8], datagram: &[u8], a: Piece, s: u
 }
 
 // The first piece of a block, which begins in slot s.
-pub fn begin(words: &mut [u32], second: &mut [u8], datagram: &[u8], a: Piece, s: u16)
-    requires words_len { length words.old ≡ record_length }
-    requires channel_lt_channels { a.channel < channels }
+pub fn begin(words: &mut [u32; RECORD], second: &mut [u8], datagram: &[u8], a: Piece, s: u16)
+    requires { a.channel < channels }
     ensures words_after { whole words.new ≡ piece_on s a (opened_on s a (whole words.old)) }
     ensures second_after { second.new ≡ with_bytes a datagram.now (cleared second.old) }
 {

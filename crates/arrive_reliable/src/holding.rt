@@ -9,7 +9,7 @@ ghost use Rattle.places.specs.Updates.{channel_at};
 ghost use Rattle.queues.specs.Queues.{held_of};
 
 use numbers::counters::Reliable;
-use places::{channels, pools};
+use places::{RECORD, channels, pools};
 use queues::held;
 
 // How far past the last number one is still new.
@@ -21,29 +21,24 @@ fn number_distance(last: Reliable, number: Reliable) -> u16
     std::num::wrapping_sub_u16(number.0, last.0)
 }
 
-fn holds(words: &[u32], i: usize, number: Reliable) -> bool
-    requires words_len { length words.now ≡ record_length }
-    requires i_lt_channels { i < channels }
+fn holds(words: &[u32; RECORD], i: usize, number: Reliable) -> bool
+    requires { i < channels }
     ensures { result ≡ holds (whole words.now).incoming (in_items (held_of (whole words.now) i)) number.0 }
 {
-    let n = held::count(words, i);
-    let mut k: usize = 0;
-    while k < n {
+    for k in 0..held::count(words, i) {
         let s = held::slot_at(words, i, k);
         let slot = pools::incoming_at(words, s as usize);
         let own = slot.number;
         if own.0 == number.0 {
             return true;
         }
-        k = k + 1;
     }
     false
 }
 
 // Passed over by its number.
-pub fn is_passed(words: &[u32], i: usize, number: Reliable) -> bool
-    requires words_len { length words.now ≡ record_length }
-    requires i_lt_channels { i < channels }
+pub fn is_passed(words: &[u32; RECORD], i: usize, number: Reliable) -> bool
+    requires { i < channels }
     ensures { result ≡ is_passed (whole words.now).incoming (channel_at (whole words.now) i) number.0 }
 {
     let own = channels::numbers_of(words, i);
@@ -58,29 +53,25 @@ pub fn is_passed(words: &[u32], i: usize, number: Reliable) -> bool
 }
 
 // The place before the first held one that is farther.
-fn place_of(words: &[u32], i: usize, last: Reliable, number: Reliable) -> usize
-    requires words_len { length words.now ≡ record_length }
-    requires i_lt_channels { i < channels }
+fn place_of(words: &[u32; RECORD], i: usize, last: Reliable, number: Reliable) -> usize
+    requires { i < channels }
     ensures { result ≡ place_of (whole words.now).incoming (in_items (held_of (whole words.now) i)) last.0 (number_distance last.0 number.0) }
 {
     let d = number_distance(last, number);
     let n = held::count(words, i);
-    let mut k: usize = 0;
-    while k < n {
+    for k in 0..n {
         let s = held::slot_at(words, i, k);
         let slot = pools::incoming_at(words, s as usize);
         if d < number_distance(last, slot.number) {
             return k;
         }
-        k = k + 1;
     }
-    k
+    n
 }
 
 // Slot s joins channel i's list in the place of its number.
-pub fn hold(words: &mut [u32], i: usize, number: Reliable, s: u16)
-    requires words_len { length words.old ≡ record_length }
-    requires i_lt_channels { i < channels }
+pub fn hold(words: &mut [u32; RECORD], i: usize, number: Reliable, s: u16)
+    requires { i < channels }
     ensures { whole words.new ≡ with_channels (whole words.old) (slice_set (whole words.old).channels i (held_with (whole words.old).incoming (channel_at (whole words.old) i) number.0 s)) }
 {
     let own = channels::numbers_of(words, i);

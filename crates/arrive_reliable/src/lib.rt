@@ -11,10 +11,11 @@ ghost use Rattle.places.specs.Whole.{whole, record_length};
 ghost use Rattle.arrival.specs.Arrivals.{answer_of};
 ghost use Rattle.arrive_reliable.specs.CodeSettling.{settled_on};
 
-use arrival::{Arrival, Fate, Reply};
+use arrival::{Arrival, Arrived, Fate};
 use command::bytes::SEND_RELIABLE;
 use numbers::counters::Reliable;
-use peer::gate::{Gate, Lent};
+use numbers::refusals::Refusal;
+use peer::gate::Lent;
 use peer::settings::Settings;
 use places::{RECORD, groups, pools};
 use record::groups::{Incoming, Waiting};
@@ -30,9 +31,8 @@ fn fate_of(passed: bool, room: Fate) -> Fate
 }
 
 // What becomes of one that nothing refuses before 8.
-fn fate_on(words: &[u32], settings: Settings, a: Arrival) -> Fate
-    requires words_len { length words.now ≡ record_length }
-    requires channel_lt_channels { a.channel < channels }
+fn fate_on(words: &[u32; RECORD], settings: Settings, a: Arrival) -> Fate
+    requires { a.channel < channels }
     ensures { result ≡ fate_on settings a (whole words.now) }
 {
     let standing = groups::standing(words);
@@ -44,9 +44,15 @@ fn fate_on(words: &[u32], settings: Settings, a: Arrival) -> Fate
 }
 
 // Slot s joins channel i's list in the place of its number, and what is ready then joins dispatched.
-fn settle(words: &mut [u32], i: usize, number: Reliable, s: u16, slot: Incoming, waiting: Waiting)
-    requires words_len { length words.old ≡ record_length }
-    requires i_lt_channels { i < channels }
+fn settle(
+    words: &mut [u32; RECORD],
+    i: usize,
+    number: Reliable,
+    s: u16,
+    slot: Incoming,
+    waiting: Waiting,
+)
+    requires { i < channels }
     ensures { whole words.new ≡ settled_on i number.0 s slot waiting (whole words.old) }
 {
     holding::hold(words, i, number, s);
@@ -62,18 +68,12 @@ pub fn arrive(
     store: &mut [u8],
     datagram: &[u8],
     a: Arrival,
-) -> Reply
+) -> Result<Arrived, Refusal>
     ensures { (second : List ℕ) → Came answer_of (arrives_reliable settings a datagram.now (record { peer = whole words.old; store = store.old; second = second })) result (record { peer = whole words.new; store = store.new; second = second }) }
 {
-    let asked = gate::ask(words, settings, Lent::Store(store.len()));
-    if let Gate::Shut(why) = asked {
-        return Reply::Refused(why);
-    }
+    gate::ask(words, settings, Lent::Store(store.len()))?;
     let standing = groups::standing(words);
-    let may = arrival::arrival_gate(SEND_RELIABLE, a, settings, standing, datagram.len());
-    if let Gate::Shut(why) = may {
-        return Reply::Refused(why);
-    }
+    arrival::arrival_gate(SEND_RELIABLE, a, settings, standing, datagram.len())?;
     let fate = fate_on(words, settings, a);
     let Fate::Stored(s) = fate else {
         return arrival::reply_of(fate);
@@ -83,5 +83,5 @@ pub fn arrive(
     let slot = kept.slot;
     let waiting = kept.waiting;
     settle(words, a.channel as usize, a.number, s, slot, waiting);
-    Reply::Stored
+    Ok(Arrived::Stored)
 }

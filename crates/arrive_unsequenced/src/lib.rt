@@ -9,17 +9,17 @@ ghost use Rattle.arrival.specs.Storing.{delivered, awaiting, filled};
 ghost use Rattle.arrival.specs.Arrivals.{answer_of, arrived_slot};
 ghost use Rattle.arrive_unsequenced.specs.Calls.{judged_on, arrives_unsequenced};
 
-use arrival::{Arrival, Fate, Reply};
+use arrival::{Arrival, Arrived, Fate};
 use command::bytes::SEND_UNSEQUENCED;
 use numbers::counters::Group;
-use peer::gate::{Gate, Lent};
+use numbers::refusals::Refusal;
+use peer::gate::Lent;
 use peer::settings::Settings;
 use places::{RECORD, groups, pools, window};
 use queues::dispatched;
 
 // The window as the group leaves it, whatever becomes of the packet; its fate.
-fn judge_on(words: &mut [u32], settings: Settings, group: Group) -> Fate
-    requires { length words.old ≡ record_length }
+fn judge_on(words: &mut [u32; RECORD], settings: Settings, group: Group) -> Fate
     ensures value { result ≡ (judged_on settings group (whole words.old)).fate }
     ensures words_after { whole words.new ≡ with_unsequenced (whole words.old) (judged_on settings group (whole words.old)).unsequenced }
 {
@@ -35,8 +35,7 @@ fn judge_on(words: &mut [u32], settings: Settings, group: Group) -> Fate
 }
 
 // "Stored": in slot s and its cell, to the end of dispatched, its length awaited.
-fn deliver(words: &mut [u32], store: &mut [u8], s: u16, datagram: &[u8], a: Arrival)
-    requires { length words.old ≡ record_length }
+fn deliver(words: &mut [u32; RECORD], store: &mut [u8], s: u16, datagram: &[u8], a: Arrival)
     ensures words_after { whole words.new ≡ with_arrival (whole words.old) (delivered (whole words.old).lists s) (whole words.old).unsequenced (awaiting (whole words.old).waiting a.length) (whole words.old).channels (set (whole words.old).incoming s (arrived_slot a)) }
     ensures store_after { store.new ≡ filled store.old s datagram.now a.place a.length }
 {
@@ -57,22 +56,16 @@ pub fn arrive(
     datagram: &[u8],
     a: Arrival,
     group: Group,
-) -> Reply
+) -> Result<Arrived, Refusal>
     ensures { (second : List ℕ) → Came answer_of (arrives_unsequenced settings a group datagram.now (record { peer = whole words.old; store = store.old; second = second })) result (record { peer = whole words.new; store = store.new; second = second }) }
 {
-    let asked = gate::ask(words, settings, Lent::Store(store.len()));
-    if let Gate::Shut(why) = asked {
-        return Reply::Refused(why);
-    }
+    gate::ask(words, settings, Lent::Store(store.len()))?;
     let standing = groups::standing(words);
-    let may = arrival::arrival_gate(SEND_UNSEQUENCED, a, settings, standing, datagram.len());
-    if let Gate::Shut(why) = may {
-        return Reply::Refused(why);
-    }
+    arrival::arrival_gate(SEND_UNSEQUENCED, a, settings, standing, datagram.len())?;
     let fate = judge_on(words, settings, group);
     let Fate::Stored(s) = fate else {
         return arrival::reply_of(fate);
     };
     deliver(words, store, s, datagram, a);
-    Reply::Stored
+    Ok(Arrived::Stored)
 }

@@ -1,4 +1,4 @@
--- What the lists of both pools need: the head, whether a slot was found, and the two ends of a move.
+-- What the lists of both pools need: the head, that a search finds what a list has, and the two ends of a move.
 -- The argument: by cases and by induction on the list.
 use Prim.Native.Nat.{ℕ, zero, suc, ◌+◌, ◌-◌, ◌≤◌}
 use mathlib.Core.Path.{◌≡◌, refl}
@@ -9,29 +9,20 @@ use lib.Dec.{eqb, leb}
 use lib.ListN.{length, take, drop, length-append, length-take}
 use Rattle.numbers.specs.Pick.{pick}
 use Rattle.cells.specs.Runs.{first, has, find_from, moved_from, moved_to}
-use Rattle.cells.specs.declared.Found.TheVariants.{At, Nowhere}
-use Rattle.cells.specs.declared.First.TheVariants.{Empty}
+use Rattle.std.specs.Prelude.{Some, None, is_some}
 
-pub first_none : (xs : List ℕ) → length xs ≡ 0 → first xs ≡ Empty
+pub first_none : (xs : List ℕ) → length xs ≡ 0 → first xs ≡ None
 first_none [] e = refl
 first_none (x ∷ xs) e = absurd (omega arith)
 
--- a slot is in the list where it was found, and not where it was not
-pub found_has : (xs : List ℕ) (k i s : ℕ) → find_from k xs s ≡ At i → has xs s ≡ true
-found_has [] k i s e = let z : ◌≡◌ {A = ℕ} 0 1 = cc in absurd (omega arith)
-found_has (x ∷ xs) k i s e = go (found_has xs (k + 1) i s) (eqb x s) e
+-- a search finds just what the list has
+pub found_has : (xs : List ℕ) (k s : ℕ) → is_some (find_from k xs s) ≡ has xs s
+found_has [] k s = refl
+found_has (x ∷ xs) k s = go (found_has xs (k + 1) s) (eqb x s)
   where
-    go : (find_from (k + 1) xs s ≡ At i → has xs s ≡ true) → (b : Bool) → pick b (At k) (find_from (k + 1) xs s) ≡ At i → pick b true (has xs s) ≡ true
-    go rest true e = refl
-    go rest false e = rest e
-
-pub nowhere_has : (xs : List ℕ) (k s : ℕ) → find_from k xs s ≡ Nowhere → has xs s ≡ false
-nowhere_has [] k s e = refl
-nowhere_has (x ∷ xs) k s e = go (nowhere_has xs (k + 1) s) (eqb x s) e
-  where
-    go : (find_from (k + 1) xs s ≡ Nowhere → has xs s ≡ false) → (b : Bool) → pick b (At k) (find_from (k + 1) xs s) ≡ Nowhere → pick b true (has xs s) ≡ false
-    go rest true e = let z : ◌≡◌ {A = ℕ} 0 1 = cc in absurd (omega arith)
-    go rest false e = rest e
+    go : is_some (find_from (k + 1) xs s) ≡ has xs s → (b : Bool) → is_some (pick b (Some k) (find_from (k + 1) xs s)) ≡ pick b true (has xs s)
+    go rest true = refl
+    go rest false = rest
 
 drop_taken : (k : ℕ) (xs : List ℕ) → drop (length (take k xs)) xs ≡ drop k xs
 drop_taken zero xs = refl

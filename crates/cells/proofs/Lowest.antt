@@ -12,7 +12,7 @@ use Rattle.numbers.proofs.BoolLaws.{both_left, both_right}
 use Rattle.numbers.specs.Pick.{pick}
 use Rattle.cells.specs.Runs.{has}
 use Rattle.cells.specs.Free.{first_from, count_from, lowest, how_many, exist, once}
-use Rattle.cells.specs.declared.Free.TheVariants.{Lowest, Full}
+use Rattle.std.specs.Prelude.{Some, None}
 
 -- k is the first of the numbers from `from` to `end` at which the test fails
 pub record IsFirst (f : ℕ → Bool) (from end k : ℕ) : Type 0 where
@@ -21,13 +21,13 @@ pub record IsFirst (f : ℕ → Bool) (from end k : ℕ) : Type 0 where
   pub free : f k ≡ false
   pub below : (j : ℕ) → from ≤ j → j < k → f j ≡ true
 
-first_is : (f : ℕ → Bool) (left from k : ℕ) → first_from f left from ≡ Lowest k → IsFirst f from (from + left) k
+first_is : (f : ℕ → Bool) (left from k : ℕ) → first_from f left from ≡ Some k → IsFirst f from (from + left) k
 unfolding first_from
 first_is f zero from k e = let z : ◌≡◌ {A = ℕ} 0 1 = cc in absurd (omega arith)
 first_is f (suc left) from k e = go (first_is f left (from + 1) k) (f from) refl e
   where
-    go : (first_from f left (from + 1) ≡ Lowest k → IsFirst f (from + 1) (from + 1 + left) k)
-        → (b : Bool) → f from ≡ b → pick b (first_from f left (from + 1)) (Lowest from) ≡ Lowest k → IsFirst f from (from + suc left) k
+    go : (first_from f left (from + 1) ≡ Some k → IsFirst f (from + 1) (from + 1 + left) k)
+        → (b : Bool) → f from ≡ b → pick b (first_from f left (from + 1)) (Some from) ≡ Some k → IsFirst f from (from + suc left) k
     go rest true t e =
         let r = rest e in
         record { low = omega (arith, r.low); high = omega (arith, r.high); free = r.free; below = λ j p q. up r.below j p q (eqb from j) refl }
@@ -39,22 +39,22 @@ first_is f (suc left) from k e = go (first_is f left (from + 1) k) (f from) refl
         let z : from ≡ k = cc in
         record { low = omega arith; high = omega arith; free = rw (← z) t; below = λ j p q. absurd (omega arith) }
 
-first_none : (f : ℕ → Bool) (left from : ℕ) → first_from f left from ≡ Full → (j : ℕ) → from ≤ j → j < from + left → f j ≡ true
+first_none : (f : ℕ → Bool) (left from : ℕ) → first_from f left from ≡ None → (j : ℕ) → from ≤ j → j < from + left → f j ≡ true
 unfolding first_from
 first_none f zero from e j p q = absurd (omega arith)
 first_none f (suc left) from e j p q = go (first_none f left (from + 1)) (f from) refl e (eqb from j) refl
   where
-    go : (first_from f left (from + 1) ≡ Full → (j : ℕ) → from + 1 ≤ j → j < from + 1 + left → f j ≡ true)
-        → (b : Bool) → f from ≡ b → pick b (first_from f left (from + 1)) (Lowest from) ≡ Full → (a : Bool) → eqb from j ≡ a → f j ≡ true
+    go : (first_from f left (from + 1) ≡ None → (j : ℕ) → from + 1 ≤ j → j < from + 1 + left → f j ≡ true)
+        → (b : Bool) → f from ≡ b → pick b (first_from f left (from + 1)) (Some from) ≡ None → (a : Bool) → eqb from j ≡ a → f j ≡ true
     go rest true t e true s = rw (← eqb-true from j s) t
     go rest true t e false s = rest e j (omega (arith, eqb-false from j s)) (omega arith)
     go rest false t e a s = let z : ◌≡◌ {A = ℕ} 0 1 = cc in absurd (omega arith)
 
-pub first_exists : (f : ℕ → Bool) (n k : ℕ) → first_from f n 0 ≡ Lowest k → k < n
+pub first_exists : (f : ℕ → Bool) (n k : ℕ) → first_from f n 0 ≡ Some k → k < n
 first_exists f n k e = let r = first_is f n 0 k e in omega (arith, r.high)
 
 module _ (n : ℕ) (xs : List ℕ) where
-  module _ (k : ℕ) (e : lowest n xs ≡ Lowest k) where
+  module _ (k : ℕ) (e : lowest n xs ≡ Some k) where
     pub lowest_exists : k < n
     lowest_exists = first_exists (has xs) n k e
 
@@ -65,7 +65,7 @@ module _ (n : ℕ) (xs : List ℕ) where
     lowest_below j h = (first_is (has xs) n 0 k e).below j (omega arith) h
 
   -- none only if no slot is free
-  pub full_taken : lowest n xs ≡ Full → (j : ℕ) → j < n → has xs j ≡ true
+  pub full_taken : lowest n xs ≡ None → (j : ℕ) → j < n → has xs j ≡ true
   full_taken e j h = first_none (has xs) n 0 e j (omega arith) (omega arith)
 
 -- g is f and x besides

@@ -10,7 +10,7 @@ use native.Mathlib.Omega.{arith}
 use lib.ListN.{length, take, drop, get_or, length-take, drop_of_length-le}
 use lib.Seq.{drop-cons, get_or-take}
 use Rattle.cells.specs.Runs.{first, is_empty}
-use Rattle.cells.specs.declared.First.TheVariants.{Slot}
+use Rattle.std.specs.Prelude.{Some}
 
 -- a place of a list holds the same, whatever would stand past its end
 pub at_any : {A : Type 0} (xs : List A) (i : ℕ) (d e : A) → i < length xs → get_or xs i d ≡ get_or xs i e
@@ -27,7 +27,7 @@ empty_some [] e = absurd (e refl)
 empty_some (x ∷ xs) e = refl
 
 -- a list has its head
-pub first_cons : (xs : List ℕ) (s : ℕ) → first xs ≡ Slot s → xs ≡ s ∷ drop 1 xs
+pub first_cons : (xs : List ℕ) (s : ℕ) → first xs ≡ Some s → xs ≡ s ∷ drop 1 xs
 first_cons [] s e = let z : ◌≡◌ {A = ℕ} 0 1 = cc in absurd (omega arith)
 first_cons (x ∷ xs) s e = let z : x ≡ s = cc in rw z
 

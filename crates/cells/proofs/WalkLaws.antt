@@ -1,45 +1,51 @@
--- The loops that walk: what is left of the view from place k is cell k and what is left from k + 1; and so for a search upward.
--- The argument: the definition on the whole is the definition on what is left, a turn at a time.
-use Prim.Native.Nat.{ℕ, zero, suc, ◌+◌, ◌-◌, ◌≤◌, ◌<◌}
-use mathlib.Core.Path.{◌≡◌}
+-- What std's `position` finds is what the two searches say: a slot's first place, and the first number whose mark is not 1.
+-- The argument: by induction on the list; a search upward looks at the marks from place k on.
+use Prim.Native.Nat.{ℕ, suc, ◌+◌, ◌<◌, ◌≤◌}
+use mathlib.Core.Path.{◌≡◌, refl, ap, sym, ◌∙◌}
 use mathlib.Core.List.{List, [], ◌∷◌}
-use mathlib.Core.Bool.{Bool, true, false}
+use mathlib.Core.Bool.{Bool, true, false, not, cond}
 use native.Mathlib.Omega.{arith}
-use lib.ListN.{length, take, drop, get_or}
-use borrow.Author.Tests.{eq-eqb, ne_eqb}
-use Rattle.cells.proofs.Views.{part_step, part_end}
+use lib.Dec.{eqb}
+use lib.ListN.{length, take, get_or}
+use lib.Seq.{get_or-take, length-take-le}
+use Rattle.std.specs.Prelude.{Some, position}
+use Rattle.std.proofs.lemmas.Iterator.Adapters.{position_from-zero}
+use Rattle.std.specs.List.{position_from}
+use Rattle.numbers.specs.Pick.{pick}
 use Rattle.cells.specs.Runs.{find_from}
-use Rattle.cells.specs.Free.{first_from}
-use Rattle.cells.specs.declared.Found.TheVariants.{At, Nowhere}
-use Rattle.cells.specs.declared.Free.TheVariants.{Lowest, Full}
+use Rattle.cells.specs.Free.{first_from, is_marked}
 
--- n of the cells are in view: the view from place k is cell k and the view from the next place
-pub view_step : (xs : List ℕ) (n k : ℕ) → n ≤ length xs → k < n → drop k (take n xs) ≡ get_or xs k 0 ∷ drop (k + 1) (take n xs)
-view_step xs n k e h = part_step xs k n 0 h (omega arith)
+find_position_from : (xs : List ℕ) (k s : ℕ) → position_from (λ x. eqb x s) k xs ≡ find_from k xs s
+find_position_from [] k s = refl
+find_position_from (x ∷ xs) k s = go (eqb x s) (find_position_from xs (k + 1) s)
+  where
+    go : (b : Bool) → position_from (λ x. eqb x s) (k + 1) xs ≡ find_from (k + 1) xs s
+        → cond b (Some k) (position_from (λ x. eqb x s) (k + 1) xs) ≡ pick b (Some k) (find_from (k + 1) xs s)
+    go true e = refl
+    go false e = e
 
-pub view_end : (xs : List ℕ) (n k : ℕ) → n ≤ k → drop k (take n xs) ≡ []
-view_end xs n k h = part_end xs k n h
+pub find_position : (xs : List ℕ) (s : ℕ) → position (λ x. eqb x s) xs ≡ find_from 0 xs s
+find_position xs s = position_from-zero (λ x. eqb x s) xs ∙ find_position_from xs 0 s
 
-module _ (xs : List ℕ) (n k s : ℕ) (e : n ≤ length xs) (h : k < n) where
-  pub find_hit : get_or xs k 0 ≡ s → find_from k (drop k (take n xs)) s ≡ At k
-  find_hit q = rw (view_step xs n k, eq-eqb (get_or xs k 0) s q)
+first_position : (f : ℕ → Bool) (xs : List ℕ) (k : ℕ) → ((j : ℕ) → j < length xs → f (k + j) ≡ eqb (get_or xs j 0) 1)
+    → position_from (λ x. not (eqb x 1)) k xs ≡ first_from f (length xs) k
+unfolding first_from
+first_position f [] k h = refl
+first_position f (x ∷ xs) k h =
+    let z : k + 0 ≡ k = omega arith in
+    let e : eqb x 1 ≡ f k = sym (h 0 (omega arith)) ∙ ap f z in
+    let rest = first_position f xs (k + 1) (λ j l. let a : k + 1 + j ≡ k + suc j = omega arith in ap f a ∙ h (suc j) (omega arith)) in
+    rw (← e) (go (eqb x 1) rest)
+  where
+    go : (b : Bool) → position_from (λ x. not (eqb x 1)) (k + 1) xs ≡ first_from f (length xs) (k + 1)
+        → cond (not b) (Some k) (position_from (λ x. not (eqb x 1)) (k + 1) xs) ≡ pick b (first_from f (length xs) (k + 1)) (Some k)
+    go true e = e
+    go false e = refl
 
-  pub find_miss : (get_or xs k 0 ≡ s → ⊥) → find_from k (drop k (take n xs)) s ≡ find_from (k + 1) (drop (k + 1) (take n xs)) s
-  find_miss q = rw (view_step xs n k, ne_eqb (get_or xs k 0) s q)
-
-pub find_end : (xs : List ℕ) (n k s : ℕ) → n ≤ k → find_from k (drop k (take n xs)) s ≡ Nowhere
-find_end xs n k s h = rw (view_end xs n k)
-
--- the search upward to n
-module _ (f : ℕ → Bool) (n k : ℕ) where
-  pub first_hit : k < n → f k ≡ false → first_from f (n - k) k ≡ Lowest k
-  unfolding first_from
-  first_hit h e = let d : n - k ≡ suc (n - (k + 1)) = omega arith in rw (d, e)
-
-  pub first_miss : k < n → f k ≡ true → first_from f (n - k) k ≡ first_from f (n - (k + 1)) (k + 1)
-  unfolding first_from
-  first_miss h e = let d : n - k ≡ suc (n - (k + 1)) = omega arith in rw (d, e)
-
-  pub first_end : n ≤ k → first_from f (n - k) k ≡ Full
-  unfolding first_from
-  first_end h = let d : n - k ≡ zero = omega arith in rw d
+-- of the first n marks
+pub lowest_position : (m : List ℕ) (n : ℕ) → n ≤ length m → position (λ x. not (eqb x 1)) (take n m) ≡ first_from (is_marked m) n 0
+lowest_position m n h =
+    let l : length (take n m) ≡ n = length-take-le n m h in
+    position_from-zero (λ x. not (eqb x 1)) (take n m)
+    ∙ first_position (is_marked m) (take n m) 0 (λ j p. let z : 0 + j ≡ j = omega arith in ap (is_marked m) z ∙ ap (λ (x : ℕ). eqb x 1) (sym (get_or-take n m j 0 (omega (arith, l)))))
+    ∙ ap (λ (k : ℕ). first_from (is_marked m) k 0) l

@@ -1,14 +1,12 @@
 -- Which slots of a pool are free: "A slot is free when no list names it; the lowest free one is taken"
-use Rattle.std.specs.Prelude.{ℕ, zero, suc, ◌+◌, Bool, true, false, not, List, [], ◌∷◌, ltb, eqb, length, get_or, set}
+use Rattle.std.specs.Prelude.{ℕ, zero, suc, ◌+◌, Bool, true, false, not, List, [], ◌∷◌, ltb, eqb, length, get_or, set, Option, Some, None}
 use Rattle.numbers.specs.Pick.{pick, both}
 use Rattle.cells.specs.Runs.{has}
-use Rattle.cells.specs.declared.Free.{Free}
-use Rattle.cells.specs.declared.Free.TheVariants.{Lowest, Full}
 
 -- the first of the `left` numbers from k on at which the test fails
-unfoldable pub first_from : (ℕ → Bool) → ℕ → ℕ → Free
-first_from f zero k = Full
-first_from f (suc left) k = pick (f k) (first_from f left (k + 1)) (Lowest k)
+unfoldable pub first_from : (ℕ → Bool) → ℕ → ℕ → Option ℕ
+first_from f zero k = None
+first_from f (suc left) k = pick (f k) (first_from f left (k + 1)) (Some k)
 
 -- how many of those fail it
 unfoldable pub count_from : (ℕ → Bool) → ℕ → ℕ → ℕ
@@ -20,7 +18,7 @@ abbrev pub nameable : ℕ
 nameable = 65536
 
 -- in a pool of n of which the lists name xs
-abbrev pub lowest : ℕ → List ℕ → Free
+abbrev pub lowest : ℕ → List ℕ → Option ℕ
 lowest n xs = first_from (has xs) n 0
 
 abbrev pub how_many : ℕ → List ℕ → ℕ

@@ -1,11 +1,7 @@
 -- What the lists' operations make of a true list of slots, in a pool of n; a list that has no room stays as it is.
 -- A length above the pool means all cells, so no such list has room: a push leaves its cells and answers the pool's size as the length.
-use Rattle.std.specs.Prelude.{ℕ, ◌+◌, ◌≤◌, ◌≡◌, Bool, true, false, List, [], ◌∷◌, ◌++◌, ltb, leb, eqb, length, take, drop}
+use Rattle.std.specs.Prelude.{ℕ, ◌+◌, ◌≤◌, ◌≡◌, Bool, true, false, List, [], ◌∷◌, ◌++◌, ltb, leb, eqb, length, take, drop, Option, Some, None}
 use Rattle.numbers.specs.Pick.{pick}
-use Rattle.cells.specs.declared.Found.{Found}
-use Rattle.cells.specs.declared.Found.TheVariants.{At, Nowhere}
-use Rattle.cells.specs.declared.First.{First}
-use Rattle.cells.specs.declared.First.TheVariants.{Slot, Empty}
 
 -- s at the end
 abbrev pub pushed : ℕ → List ℕ → ℕ → List ℕ
@@ -30,9 +26,9 @@ moved_from n k xs ys = pick (leb (length ys + length (take k xs)) n) (drop k xs)
 abbrev pub moved_to : ℕ → ℕ → List ℕ → List ℕ → List ℕ
 moved_to n k xs ys = pick (leb (length ys + length (take k xs)) n) (ys ++ take k xs) ys
 
-abbrev pub first : List ℕ → First
-first [] = Empty
-first (x ∷ xs) = Slot x
+abbrev pub first : List ℕ → Option ℕ
+first [] = None
+first (x ∷ xs) = Some x
 
 abbrev pub is_empty : List ℕ → Bool
 is_empty [] = true
@@ -44,9 +40,9 @@ has [] s = false
 has (x ∷ xs) s = pick (eqb x s) true (has xs s)
 
 -- the first place of s in xs, counted from k
-abbrev pub find_from : ℕ → List ℕ → ℕ → Found
-find_from k [] s = Nowhere
-find_from k (x ∷ xs) s = pick (eqb x s) (At k) (find_from (k + 1) xs s)
+abbrev pub find_from : ℕ → List ℕ → ℕ → Option ℕ
+find_from k [] s = None
+find_from k (x ∷ xs) s = pick (eqb x s) (Some k) (find_from (k + 1) xs s)
 
 -- cells that begin with xs, and go on as they were
 abbrev pub over : List ℕ → List ℕ → List ℕ

@@ -34,7 +34,7 @@ pub fn size_of(kind: u8) -> usize
     if 16 <= kind {
         return 0;
     }
-    wide(SIZES[wide(kind)])
+    SIZES[kind as usize] as usize
 }
 
 // The width in bytes of the number at place j of such a command, 0 where it has none.
@@ -47,8 +47,7 @@ pub fn width_of(kind: u8, j: usize) -> usize
     if 16 <= j {
         return 0;
     }
-    let widths = WIDTHS[wide(kind)];
-    wide(widths[j])
+    WIDTHS[kind as usize][j] as usize
 }
 
 // Whether the kind is known and each number fits the width at its place.
@@ -58,13 +57,10 @@ pub fn is_fit(kind: u8, row: [u32; 16]) -> bool
     if size_of(kind) == 0 {
         return false;
     }
-    let mut j: usize = 0;
-    while j < 16 {
-        let x = row[j];
-        if !is_within(x, width_of(kind, j)) {
+    for (j, x) in row.iter().enumerate() {
+        if !is_within(*x, width_of(kind, j)) {
             return false;
         }
-        j = j + 1;
     }
     true
 }
@@ -73,23 +69,11 @@ pub fn is_fit(kind: u8, row: [u32; 16]) -> bool
 fn is_within(x: u32, width: usize) -> bool
     ensures { result ≡ pick (eqb width 0) true (ltb x (256 ^ width)) }
 {
-    if width == 0 {
-        return true;
+    match width {
+        0 => true,
+        1 => x < 256,
+        2 => x < 65536,
+        3 => x < 16777216,
+        _ => true,
     }
-    if width == 1 {
-        return x < 256;
-    }
-    if width == 2 {
-        return x < 65536;
-    }
-    if width == 3 {
-        return x < 16777216;
-    }
-    true
-}
-
-fn wide(x: u8) -> usize
-    ensures { result ≡ x }
-{
-    x as usize
 }

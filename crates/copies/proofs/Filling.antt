@@ -1,32 +1,42 @@
--- A list that is filled from its head with another's elements: a turn, and the end; the same where the list stands in the record.
--- The argument: one more of the first is right; at the end nothing of the old list is left.
-use Prim.Native.Nat.{ℕ, suc, ◌+◌, ◌≤◌, ◌<◌}
-use mathlib.Core.Path.{◌≡◌, ap, sym, ◌∙◌}
-use mathlib.Core.List.{List, [], ◌∷◌, ◌++◌, append-nil}
+-- An array that a function of the place makes; a list that is filled from its head with another's elements: a turn, and the end; the same where the list stands in the record.
+-- The argument: place by place; one more of the first is right, and at the end nothing of the old list is left.
+use denote.Param.Members.{Mut}
+use Rattle.std.specs.Fn.{Called}
+use Rattle.std.specs.Array.{IsFromFnResult, IsFromFnResultFrom}
+use Prim.Native.Nat.{ℕ, zero, suc, ◌+◌, ◌≤◌, ◌<◌}
+use mathlib.Core.Path.{◌≡◌, refl, subst, ap, sym, ◌∙◌}
+use mathlib.Core.List.{List, ◌++◌, append-nil}
 use native.Mathlib.Omega.{arith}
 use lib.ListN.{length, get_or, set, take, drop_of_length-le}
-use lib.Seq.{paste, paste-suc, take_all, take-suc, take-suc-set}
+use lib.Seq.{ext_get_or, get_or-take, length-take-le, paste, paste-suc, take_all}
 use Rattle.peer.specs.declared.Peer.{Peer}
 
+-- an array made by a function of the place is a list, where that gives the list's elements and stays as it is
+module _ {F B : Type 0} (g : Mut F (ℕ × Unit {0}) B) (f : F) (ys xs : List B) (d : B) (law : (k : ℕ) (y : B) (q : F) → Called g f (k, tt) y q → (q ≡ f) × (y ≡ get_or xs k d)) where
+  made_at : (i n : ℕ) (h : F) → h ≡ f → IsFromFnResultFrom g h ys i n → (k : ℕ) → k < n → get_or ys (i + k) d ≡ get_or xs (i + k) d
+  made_at i zero h e each k b = absurd (omega arith)
+  made_at i (suc n) h e each zero b =
+      let o : i + 0 ≡ i = omega arith in
+      let called = subst (λ (s : F). Called g s (i, tt) each.1 each.0) e each.3 in
+      rw o (each.2.1 d ∙ (law i each.1 each.0 called).1)
+  made_at i (suc n) h e each (suc k) b =
+      let o : i + suc k ≡ i + 1 + k = omega arith in
+      let called = subst (λ (s : F). Called g s (i, tt) each.1 each.0) e each.3 in
+      rw o (made_at (i + 1) n each.0 (law i each.1 each.0 called).0 each.4 k (omega arith))
+
+  pub from_fn_front : (n : ℕ) → IsFromFnResult g f ys n → n ≤ length xs → ys ≡ take n xs
+  from_fn_front n r m =
+      ext_get_or d ys (take n xs) (r.long ∙ sym (length-take-le n xs m))
+      (λ k b.
+      let h : k < n = omega (arith, r.long) in
+      let z : 0 + k ≡ k = omega arith in
+      (rw z at (made_at 0 n f refl r.each k h)) ∙ sym (get_or-take n xs k d h))
+
+  pub from_fn_is : (n : ℕ) → IsFromFnResult g f ys n → length xs ≡ n → ys ≡ xs
+  from_fn_is n r m = from_fn_front n r (omega arith) ∙ take_all n xs (omega arith)
+
 module _ {A : Type 0} where
-  -- the first j are right; then one more is
-  pub take_turn : (e s : List A) (j : ℕ) (z x : A) → j < length e → j < length s → take j e ≡ take j s → x ≡ get_or s j z → take (j + 1) (set e j x) ≡ take (j + 1) s
-  take_turn e s j z x p q h v =
-      let n : j + 1 ≡ suc j = omega arith in
-      ap (λ (k : ℕ). take k (set e j x)) n
-      ∙ take-suc-set e j x p
-      ∙ ap (λ (l : List A). l ++ (x ∷ [])) h
-      ∙ ap (λ (y : A). take j s ++ (y ∷ [])) v
-      ∙ sym (take-suc s j z q)
-      ∙ ap (λ (k : ℕ). take k s) (sym n)
-
-  pub take_end : (e s : List A) (n j : ℕ) → length e ≡ n → length s ≡ n → j ≡ n → take j e ≡ take j s → e ≡ s
-  take_end e s n j l m h q =
-      let a : length e ≤ j = omega arith in
-      let b : length s ≤ j = omega arith in
-      sym (take_all j e a) ∙ q ∙ take_all j s b
-
-  -- the same as what was pasted so far
+  -- a turn
   pub fill_turn : (d e s : List A) (j : ℕ) (z x : A) → j < length d → j < length s → e ≡ paste d 0 s j → x ≡ get_or s j z → set e j x ≡ paste d 0 s (j + 1)
   fill_turn d e s j z x p q h v =
       let o : j ≡ 0 + j = omega arith in

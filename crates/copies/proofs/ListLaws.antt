@@ -9,7 +9,6 @@ use lib.Seq.{paste, paste-suc, take-suc, take_all, get_or-drop, set-set, get_or-
 use Rattle.record.specs.declared.outgoing.OutList.{OutList}
 use Rattle.record.specs.declared.incoming.InList.{InList}
 use Rattle.lists.specs.Rows.{low, section, row_at}
-use Rattle.lists.proofs.Mapped.{map-take}
 use Rattle.lists.proofs.Placed.{low_small, row_is}
 use Rattle.lists.proofs.Kept.{list_put}
 use Rattle.record.specs.declared.groups.Lists.{Lists}
@@ -24,22 +23,17 @@ use Rattle.places.specs.Whole.{out_list_from, in_list_from, sizes, numbers, part
 use Rattle.places.proofs.Sections.{part_back}
 use Rattle.places.proofs.Written.{place, row_put}
 use Rattle.places.proofs.ChannelLaws.{held_is}
-use Rattle.copies.proofs.Filling.{take_turn}
 
 -- ---- cells, read
-pub cells_turn : (ws e : List ℕ) (at k x : ℕ) → k < length e → at + k < length ws → take k e ≡ take k (map low (drop at ws)) → x ≡ get_or ws (at + k) 0 % 65536
-    → take (k + 1) (set e k x) ≡ take (k + 1) (map low (drop at ws))
-cells_turn ws e at k x p q h v =
-    let s = map low (drop at ws) in
-    let n : length s ≡ length (drop at ws) = length-map (drop at ws) low in
-    let m : k < length s = omega (arith, n, length-drop at ws) in
-    let g : get_or s k 0 ≡ low (get_or ws (at + k) 0) = get_or-map low (drop at ws) k 0 ∙ ap low (get_or-drop at ws k 0) in
-    take_turn e s k 0 x p m h (v ∙ sym g)
+module _ (ws : List ℕ) (at : ℕ) where
+  abbrev pub cells_from : List ℕ
+  cells_from = map low (drop at ws)
 
-pub cells_end : (ws e : List ℕ) (at n k : ℕ) → length e ≡ n → k ≡ n → take k e ≡ take k (map low (drop at ws)) → e ≡ map low (section at n ws)
-cells_end ws e at n k l h q =
-    let b : length e ≤ k = omega arith in
-    sym (take_all k e b) ∙ q ∙ ap (λ (j : ℕ). take j (map low (drop at ws))) h ∙ sym (map-take low n (drop at ws))
+  pub cell_is : (k : ℕ) → low (get_or ws (at + k) 0) ≡ get_or cells_from k 0
+  cell_is k = sym (get_or-map low (drop at ws) k 0 ∙ ap low (get_or-drop at ws k 0))
+
+  pub cells_long : (n : ℕ) → at + n ≤ length ws → n ≤ length cells_from
+  cells_long n h = omega (arith, length-map (drop at ws) low, length-drop at ws)
 
 -- a list by its length and cells
 module _ (ws : List ℕ) (at len : ℕ) (slots : List ℕ) (e : len ≡ get_or ws at 0 % 65536) where

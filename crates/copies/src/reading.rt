@@ -7,14 +7,13 @@ ghost use Rattle.places.specs.Whole.{whole, record_length, out_list_from, in_lis
 
 use numbers::widths::{low8, low16};
 use peer::Peer;
-use places::{channels, groups, pools, window};
+use places::{RECORD, channels, groups, pools, window};
 use record::groups::{Bandwidth, CHANNELS, Channel, Ids, Incoming, Lists, Outgoing};
 use record::incoming::InList;
 use record::outgoing::OutList;
 use record::{INCOMING, OUTGOING};
 
-fn ids(words: &[u32]) -> Ids
-    requires { length words.now ≡ record_length }
+fn ids(words: &[u32; RECORD]) -> Ids
     ensures { result ≡ (whole words.now).ids }
 {
     Ids {
@@ -26,8 +25,7 @@ fn ids(words: &[u32]) -> Ids
     }
 }
 
-fn bandwidth(words: &[u32]) -> Bandwidth
-    requires { length words.now ≡ record_length }
+fn bandwidth(words: &[u32; RECORD]) -> Bandwidth
     ensures { result ≡ (whole words.now).bandwidth }
 {
     Bandwidth {
@@ -38,17 +36,12 @@ fn bandwidth(words: &[u32]) -> Bandwidth
     }
 }
 
-// As many cells as there is room for, from a place on.
-fn cells(words: &[u32], at: usize, slots: &mut [u16])
-    requires { at + length slots.old ≤ length words.now }
-    ensures { slots.new ≡ map low (section at (length slots.old) words.now) }
+// So many cells, from a place on.
+fn cells<const N: usize>(words: &[u32], at: usize) -> [u16; N]
+    requires { at + N ≤ length words.now }
+    ensures { result ≡ map low (section at N words.now) }
 {
-    let mut k: usize = 0;
-    while k < slots.len() {
-        let s = low16(words[at + k]);
-        slots[k] = s;
-        k = k + 1;
-    }
+    std::array::from_fn(|k| low16(words[at + k]))
 }
 
 // A list of the outgoing pool, from its place.
@@ -56,10 +49,10 @@ fn out_list(words: &[u32], at: usize) -> OutList
     requires { at + 32 + 1 ≤ length words.now }
     ensures { result ≡ out_list_from (row_at at 32 words.now) }
 {
-    let mut slots = [0u16; OUTGOING];
-    cells(words, at + 1, &mut slots);
-    let len = low16(words[at]);
-    OutList { len, slots }
+    OutList {
+        len: low16(words[at]),
+        slots: cells(words, at + 1),
+    }
 }
 
 // And of the incoming pool.
@@ -67,14 +60,13 @@ fn in_list(words: &[u32], at: usize) -> InList
     requires { at + 12 + 1 ≤ length words.now }
     ensures { result ≡ in_list_from (row_at at 12 words.now) }
 {
-    let mut slots = [0u16; INCOMING];
-    cells(words, at + 1, &mut slots);
-    let len = low16(words[at]);
-    InList { len, slots }
+    InList {
+        len: low16(words[at]),
+        slots: cells(words, at + 1),
+    }
 }
 
-fn lists(words: &[u32]) -> Lists
-    requires { length words.now ≡ record_length }
+fn lists(words: &[u32; RECORD]) -> Lists
     ensures { result ≡ (whole words.now).lists }
 {
     let sent = out_list(words, places::SENT);
@@ -89,74 +81,40 @@ fn lists(words: &[u32]) -> Lists
     }
 }
 
-fn channel(words: &[u32], i: usize) -> Channel
-    requires words_len { length words.now ≡ record_length }
-    requires i_lt_channels { i < channels }
+fn channel(words: &[u32; RECORD], i: usize) -> Channel
+    requires { i < channels }
     ensures { result ≡ channel_at (whole words.now) i }
 {
     let n = channels::numbers_of(words, i);
     let at = places::CHANNELS + i * places::CHANNEL_WIDTH + places::HELD;
-    let held = in_list(words, at);
-    let outgoing_reliable = n.outgoing_reliable;
-    let outgoing_unreliable = n.outgoing_unreliable;
-    let incoming_reliable = n.incoming_reliable;
-    let incoming_unreliable = n.incoming_unreliable;
     Channel {
-        outgoing_reliable,
-        outgoing_unreliable,
-        incoming_reliable,
-        incoming_unreliable,
-        held,
+        outgoing_reliable: n.outgoing_reliable,
+        outgoing_unreliable: n.outgoing_unreliable,
+        incoming_reliable: n.incoming_reliable,
+        incoming_unreliable: n.incoming_unreliable,
+        held: in_list(words, at),
     }
 }
 
-fn all_channels(words: &[u32]) -> [Channel; CHANNELS]
-    requires { length words.now ≡ record_length }
+fn all_channels(words: &[u32; RECORD]) -> [Channel; CHANNELS]
     ensures { result ≡ (whole words.now).channels }
 {
-    let first = channel(words, 0);
-    let mut all = [first; CHANNELS];
-    let mut i: usize = 0;
-    while i < CHANNELS {
-        let c = channel(words, i);
-        all[i] = c;
-        i = i + 1;
-    }
-    all
+    std::array::from_fn(|i| channel(words, i))
 }
 
-fn outgoing(words: &[u32]) -> [Outgoing; OUTGOING]
-    requires { length words.now ≡ record_length }
+fn outgoing(words: &[u32; RECORD]) -> [Outgoing; OUTGOING]
     ensures { result ≡ (whole words.now).outgoing }
 {
-    let first = pools::outgoing_at(words, 0);
-    let mut all = [first; OUTGOING];
-    let mut i: usize = 0;
-    while i < OUTGOING {
-        let slot = pools::outgoing_at(words, i);
-        all[i] = slot;
-        i = i + 1;
-    }
-    all
+    std::array::from_fn(|i| pools::outgoing_at(words, i))
 }
 
-fn incoming(words: &[u32]) -> [Incoming; INCOMING]
-    requires { length words.now ≡ record_length }
+fn incoming(words: &[u32; RECORD]) -> [Incoming; INCOMING]
     ensures { result ≡ (whole words.now).incoming }
 {
-    let first = pools::incoming_at(words, 0);
-    let mut all = [first; INCOMING];
-    let mut i: usize = 0;
-    while i < INCOMING {
-        let slot = pools::incoming_at(words, i);
-        all[i] = slot;
-        i = i + 1;
-    }
-    all
+    std::array::from_fn(|i| pools::incoming_at(words, i))
 }
 
-pub fn read(words: &[u32]) -> Peer
-    requires { length words.now ≡ record_length }
+pub fn read(words: &[u32; RECORD]) -> Peer
     ensures { result ≡ whole words.now }
 {
     let ids = ids(words);

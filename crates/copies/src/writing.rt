@@ -10,7 +10,7 @@ ghost use Rattle.places.specs.Updates.{with_fixed};
 
 use numbers::widths::{wide8, wide16};
 use peer::Peer;
-use places::{channels, groups, pools, window};
+use places::{RECORD, channels, groups, pools, window};
 use record::groups::{
     Bandwidth, CHANNELS, Channel, Flow, Ids, Incoming, Limits, Lists, Loss, Outgoing, Standing,
     Throttling, Times, Totals, Trips,
@@ -19,8 +19,7 @@ use record::incoming::InList;
 use record::outgoing::OutList;
 use record::{INCOMING, OUTGOING};
 
-fn put_ids(words: &mut [u32], x: Ids)
-    requires { length words.old ≡ record_length }
+fn put_ids(words: &mut [u32; RECORD], x: Ids)
     ensures { whole words.new ≡ with_fixed (whole words.old) x (whole words.old).bandwidth (whole words.old).limits }
 {
     let outgoing_peer = wide16(x.outgoing_peer);
@@ -34,8 +33,7 @@ fn put_ids(words: &mut [u32], x: Ids)
     words[4] = incoming_session;
 }
 
-fn put_bandwidth(words: &mut [u32], x: Bandwidth)
-    requires { length words.old ≡ record_length }
+fn put_bandwidth(words: &mut [u32; RECORD], x: Bandwidth)
     ensures { whole words.new ≡ with_fixed (whole words.old) (whole words.old).ids x (whole words.old).limits }
 {
     words[7] = x.incoming;
@@ -44,8 +42,7 @@ fn put_bandwidth(words: &mut [u32], x: Bandwidth)
     words[10] = x.outgoing_epoch;
 }
 
-fn put_limits(words: &mut [u32], x: Limits)
-    requires { length words.old ≡ record_length }
+fn put_limits(words: &mut [u32; RECORD], x: Limits)
     ensures { whole words.new ≡ with_fixed (whole words.old) (whole words.old).ids (whole words.old).bandwidth x }
 {
     words[29] = x.ping;
@@ -55,8 +52,7 @@ fn put_limits(words: &mut [u32], x: Limits)
 }
 
 // The groups that no call but reset changes.
-fn put_fixed(words: &mut [u32], ids: Ids, bandwidth: Bandwidth, limits: Limits)
-    requires { length words.old ≡ record_length }
+fn put_fixed(words: &mut [u32; RECORD], ids: Ids, bandwidth: Bandwidth, limits: Limits)
     ensures { whole words.new ≡ with_fixed (whole words.old) ids bandwidth limits }
 {
     put_ids(words, ids);
@@ -66,7 +62,7 @@ fn put_fixed(words: &mut [u32], ids: Ids, bandwidth: Bandwidth, limits: Limits)
 
 // The other groups of single numbers, but for the window's, what waits and the marks.
 fn put_numbers(
-    words: &mut [u32],
+    words: &mut [u32; RECORD],
     standing: Standing,
     totals: Totals,
     times: Times,
@@ -75,7 +71,6 @@ fn put_numbers(
     trips: Trips,
     flow: Flow,
 )
-    requires { length words.old ≡ record_length }
     ensures { whole words.new ≡ rebuilt (whole words.old) standing totals times loss throttling trips flow (whole words.old).lists (whole words.old).unsequenced (whole words.old).waiting (whole words.old).channels (whole words.old).outgoing (whole words.old).incoming (whole words.old).marks }
 {
     groups::put_standing(words, standing);
@@ -93,11 +88,8 @@ fn put_cells(words: &mut [u32], at: usize, slots: &[u16])
     ensures is { words.new ≡ paste words.old at slots.now (length slots.now) }
     ensures low { map low slots.now ≡ slots.now }
 {
-    let mut k: usize = 0;
-    while k < slots.len() {
-        let s = wide16(slots[k]);
-        words[at + k] = s;
-        k = k + 1;
+    for (k, slot) in slots.iter().enumerate() {
+        words[at + k] = wide16(*slot);
     }
 }
 
@@ -119,8 +111,7 @@ fn put_out(words: &mut [u32], at: usize, x: OutList)
     ensures long { length x.slots ≡ 32 }
     ensures back { out_list_from (x.len ∷ x.slots) ≡ x }
 {
-    let slots = x.slots;
-    put_list(words, at, x.len, &slots);
+    put_list(words, at, x.len, &x.slots);
 }
 
 // And of the incoming pool.
@@ -130,12 +121,10 @@ fn put_in(words: &mut [u32], at: usize, x: InList)
     ensures long { length x.slots ≡ 12 }
     ensures back { in_list_from (x.len ∷ x.slots) ≡ x }
 {
-    let slots = x.slots;
-    put_list(words, at, x.len, &slots);
+    put_list(words, at, x.len, &x.slots);
 }
 
-fn put_lists(words: &mut [u32], x: Lists)
-    requires { length words.old ≡ record_length }
+fn put_lists(words: &mut [u32; RECORD], x: Lists)
     ensures { whole words.new ≡ with_lists (whole words.old) x }
 {
     put_out(words, places::SENT, x.sent);
@@ -144,9 +133,8 @@ fn put_lists(words: &mut [u32], x: Lists)
     put_in(words, places::DISPATCHED, x.dispatched);
 }
 
-fn put_channel(words: &mut [u32], i: usize, x: Channel)
-    requires words_len { length words.old ≡ record_length }
-    requires i_lt_channels { i < channels }
+fn put_channel(words: &mut [u32; RECORD], i: usize, x: Channel)
+    requires { i < channels }
     ensures { whole words.new ≡ with_channels (whole words.old) (set (whole words.old).channels i x) }
 {
     channels::put_outgoing(words, i, x.outgoing_reliable, x.outgoing_unreliable);
@@ -155,44 +143,31 @@ fn put_channel(words: &mut [u32], i: usize, x: Channel)
     put_in(words, at, x.held);
 }
 
-fn put_channels(words: &mut [u32], all: [Channel; CHANNELS])
-    requires { length words.old ≡ record_length }
+fn put_channels(words: &mut [u32; RECORD], all: [Channel; CHANNELS])
     ensures { whole words.new ≡ with_channels (whole words.old) all }
 {
-    let mut i: usize = 0;
-    while i < CHANNELS {
-        let c = all[i];
-        put_channel(words, i, c);
-        i = i + 1;
+    for (i, c) in all.iter().enumerate() {
+        put_channel(words, i, *c);
     }
 }
 
-fn put_outgoing(words: &mut [u32], all: [Outgoing; OUTGOING])
-    requires { length words.old ≡ record_length }
+fn put_outgoing(words: &mut [u32; RECORD], all: [Outgoing; OUTGOING])
     ensures { whole words.new ≡ with_outgoing (whole words.old) all }
 {
-    let mut i: usize = 0;
-    while i < OUTGOING {
-        let slot = all[i];
-        pools::put_outgoing(words, i, slot);
-        i = i + 1;
+    for (i, slot) in all.iter().enumerate() {
+        pools::put_outgoing(words, i, *slot);
     }
 }
 
-fn put_incoming(words: &mut [u32], all: [Incoming; INCOMING])
-    requires { length words.old ≡ record_length }
+fn put_incoming(words: &mut [u32; RECORD], all: [Incoming; INCOMING])
     ensures { whole words.new ≡ with_incoming (whole words.old) all }
 {
-    let mut i: usize = 0;
-    while i < INCOMING {
-        let slot = all[i];
-        pools::put_incoming(words, i, slot);
-        i = i + 1;
+    for (i, slot) in all.iter().enumerate() {
+        pools::put_incoming(words, i, *slot);
     }
 }
 
-pub fn write(words: &mut [u32], peer: Peer)
-    requires { length words.old ≡ record_length }
+pub fn write(words: &mut [u32; RECORD], peer: Peer)
     ensures { whole words.new ≡ peer }
 {
     let channels = peer.channels;

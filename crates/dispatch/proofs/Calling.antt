@@ -1,5 +1,6 @@
 -- Dispatch comes out as the rule says, where the gate is open: refused with 2, or done, with nothing ready or some. The argument: each part
 -- is given by its equation; a sound record's count is at most 8; a channel stored as it was leaves the record as it was.
+use Rattle.std.specs.Prelude.{Ok, Err}
 use Rattle.std.proofs.Common.{◌≡◌, ℕ, ◌<◌, ◌≤◌, Bool, true, false, eqb, get_or, refl, arith, le-ltb, lt-ltb, eqb-true}
 use lib.Seq.{set-get_or}
 use Rattle.numbers.specs.Pick.{pick}
@@ -10,11 +11,9 @@ use Rattle.record.specs.Fresh.{no_channel}
 use Rattle.record.specs.declared.groups.Channel.{Channel}
 use Rattle.peer.specs.Outcome.{Came}
 use Rattle.peer.specs.Calls.{answer_of}
-use Rattle.peer.specs.declared.calls.Reply.TheVariants.{Done, Refused}
 use Rattle.peer.specs.declared.settings.Settings.{Settings}
 use Rattle.peer.specs.declared.Peer.{Peer}
 use Rattle.peer.specs.declared.gate.Lent.TheVariants.{Nothing}
-use Rattle.peer.specs.declared.gate.Gate.TheVariants.{Open}
 use Rattle.peer.proofs.Gates.{came_open, open_sound, AtGate}
 use Rattle.peer.proofs.Ranges.{count_high}
 use Rattle.dispatch.specs.Dispatching.{ready_count, ready_last, moved_on, dispatched_by}
@@ -46,10 +45,10 @@ module _ (channel : ℕ) (p : Peer) where
 
 -- ws and g are what the code answered
 module _ (s : Settings) (channel : ℕ) (p : Peer)
-    (g : AtGate s Nothing p) (opens : g.gate ≡ Open) where
-  pub dispatch_refused : p.standing.channels ≤ channel → Came answer_of (dispatches s channel p) (Refused InvalidChannel) p
+    (g : AtGate s Nothing p) (opens : g.gate ≡ Ok tt) where
+  pub dispatch_refused : p.standing.channels ≤ channel → Came answer_of (dispatches s channel p) (Err InvalidChannel) p
   dispatch_refused h =
-      came_open g p (dispatches_sound channel p) answer_of (Refused InvalidChannel) p opens
+      came_open g p (dispatches_sound channel p) answer_of (Err InvalidChannel) p opens
       (rw (le-ltb channel p.standing.channels h) (record { answer = refl; after = refl }))
 
   module _ (h : channel < p.standing.channels) where
@@ -58,7 +57,7 @@ module _ (s : Settings) (channel : ℕ) (p : Peer)
 
     -- c is the channel as the code read it, d what it made of it
     pub dispatch_done : (c : Channel) (d : Dispatched) → c ≡ get_or p.channels channel no_channel
-        → d ≡ dispatched_by p.incoming c p.lists p.unsequenced → Came answer_of (dispatches s channel p) Done (with_dispatch channel d p)
+        → d ≡ dispatched_by p.incoming c p.lists p.unsequenced → Came answer_of (dispatches s channel p) (Ok tt) (with_dispatch channel d p)
     dispatch_done c d q z =
-        came_open g p (dispatches_sound channel p) answer_of Done (with_dispatch channel d p) opens
+        came_open g p (dispatches_sound channel p) answer_of (Ok tt) (with_dispatch channel d p) opens
         (rw (lt-ltb channel p.standing.channels h) (record { answer = refl; after = rw (z, q) }))

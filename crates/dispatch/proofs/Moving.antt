@@ -1,6 +1,8 @@
 -- What dispatch keeps, whatever the answer, and what it moves: the ready ones join dispatched at its end in their order, the rest stays.
 -- The argument: no case changes another group; dispatched has room for the whole list, as no more slots are named than there are.
+use Rattle.std.specs.Prelude.{⊤, Result}
 use Rattle.std.proofs.Common.{◌≡◌, ℕ, ◌+◌, ◌<◌, true, leb, List, [], ◌∷◌, ◌++◌, length, get_or, take, drop, sym, refl, ap, ◌∙◌, arith, length-take, get_or-set_other, get_or-set_same, le-leb}
+use Rattle.numbers.specs.declared.refusals.Refusal.{Refusal}
 use Rattle.record.specs.Lists.{incoming, in_items}
 use Rattle.cells.specs.Runs.{moved_from, moved_to}
 use Rattle.record.proofs.Views.{in_items_keep}
@@ -13,14 +15,13 @@ use Rattle.peer.specs.Sounds.{Whole}
 use Rattle.peer.specs.declared.settings.Settings.{Settings}
 use Rattle.peer.specs.declared.Peer.{Peer}
 use Rattle.peer.specs.declared.gate.Lent.TheVariants as lent
-use Rattle.peer.specs.declared.gate.Gate.{Gate}
 use Rattle.peer.proofs.Gates.{sound_open, behind_has, behind_open, behind_done}
 use Rattle.dispatch.specs.Calls.{dispatch_gate, with_dispatch, dispatched_on, dispatches_sound, dispatches}
 use Rattle.peer.proofs.Ranges.{count_high}
 use Rattle.dispatch.proofs.Calling.{chosen, ready, gone, dispatched_has}
 use Rattle.dispatch.proofs.Sound.{room_there, below_count}
 
-abbrev gate : Settings → Peer → Gate
+abbrev gate : Settings → Peer → Result ⊤ Refusal
 gate s p = gate_of (fits s lent.Nothing) (sound p)
 
 module _ (channel : ℕ) (p : Peer) where

@@ -1,8 +1,10 @@
 -- Soundness through dispatch: a sound record stays sound, whatever goes. The argument: each slot is named as often as before, so the lists
 -- still fit their pool, and the total and the number of blocks are the same; what stays in a channel's list stood there before; numbers and flags are not looked at.
+use Rattle.std.specs.Prelude.{Result, ⊤, Ok, Err}
 use Rattle.std.proofs.Common.{◌≡◌, ℕ, zero, suc, ◌+◌, ◌<◌, ◌≤◌, Bool, true, false, eqb, ltb, leb, ◌⊎◌, List, [], ◌∷◌, length, get_or, set, sym, refl, ap, ◌∙◌, inl, inr, ⊎_elim, arith, length-append, length-set, length-take, get_or-take, ltb-true, eq-eqb, le-leb}
 use lib.Seq.{take-set-lt}
 use Rattle.numbers.specs.Pick.{pick, both}
+use Rattle.numbers.specs.declared.refusals.Refusal.{Refusal}
 use Rattle.numbers.specs.declared.refusals.Refusal.TheVariants.{InvalidChannel}
 use Rattle.numbers.proofs.BoolLaws.{both_left, both_right, both_true}
 use Rattle.record.specs.Lists.{outgoing, incoming, in_items}
@@ -25,7 +27,6 @@ use Rattle.peer.specs.Outcome.{Outcome, finished}
 use Rattle.peer.specs.Sounds.{Whole, Sounds}
 use Rattle.peer.specs.declared.settings.Settings.{Settings}
 use Rattle.peer.specs.declared.Peer.{Peer}
-use Rattle.peer.specs.declared.gate.Gate.TheVariants.{Open, Shut}
 use Rattle.peer.proofs.Gates.{openness, behind_has}
 use Rattle.peer.proofs.Sound.{gated_sounds}
 use Rattle.peer.proofs.Clauses.{sound_clauses, clauses_sound, all_at, at_all}
@@ -184,10 +185,10 @@ module _ (channel : ℕ) (p : Peer) (whole : Whole p) (good : sound p ≡ true) 
       dispatched_has channel p (λ (q : Peer). sound q ≡ true) (λ none. good) (moved-sound (ready channel p) (last channel p))
 
 -- the gate of the call's own
-pub below_count : (channel : ℕ) (standing : Standing) → dispatch_gate channel standing ≡ Open → channel < standing.channels
+pub below_count : (channel : ℕ) (standing : Standing) → dispatch_gate channel standing ≡ Ok tt → channel < standing.channels
 below_count channel standing e = ltb-true channel standing.channels (go (ltb channel standing.channels) e)
   where
-    go : (b : Bool) → pick b Open (Shut InvalidChannel) ≡ Open → b ≡ true
+    go : (b : Bool) → pick {A = Result ⊤ Refusal} b (Ok tt) (Err InvalidChannel) ≡ Ok tt → b ≡ true
     go true q = refl
     go false q = absurd (omega (arith, ap openness q))
 

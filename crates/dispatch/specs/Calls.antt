@@ -1,6 +1,7 @@
 -- Dispatch: what of a channel's list is ready joins dispatched, by the source's rule. 2: the channel is not below the count.
-use Rattle.std.specs.Prelude.{ℕ, nat_lt, slice_index_or, slice_set}
+use Rattle.std.specs.Prelude.{ℕ, nat_lt, slice_index_or, slice_set, ⊤, Result, Ok, Err}
 use Rattle.numbers.specs.Pick.{pick}
+use Rattle.numbers.specs.declared.refusals.Refusal.{Refusal}
 use Rattle.numbers.specs.declared.refusals.Refusal.TheVariants.{InvalidChannel}
 use Rattle.record.specs.Fresh.{no_channel}
 use Rattle.record.specs.declared.groups.Standing.{Standing}
@@ -9,13 +10,11 @@ use Rattle.peer.specs.Gate.{behind, on_record}
 use Rattle.peer.specs.Updates.{with_arrival}
 use Rattle.peer.specs.declared.settings.Settings.{Settings}
 use Rattle.peer.specs.declared.Peer.{Peer}
-use Rattle.peer.specs.declared.gate.Gate.{Gate}
-use Rattle.peer.specs.declared.gate.Gate.TheVariants.{Open, Shut}
 use Rattle.dispatch.specs.Dispatching.{dispatched_by}
 use Rattle.dispatch.specs.Dispatching.{Dispatched}
 
-abbrev pub dispatch_gate : ℕ → Standing → Gate
-dispatch_gate channel standing = pick (nat_lt channel standing.channels) Open (Shut InvalidChannel)
+abbrev pub dispatch_gate : ℕ → Standing → Result ⊤ Refusal
+dispatch_gate channel standing = pick (nat_lt channel standing.channels) (Ok tt) (Err InvalidChannel)
 
 -- the record with a channel dispatched
 abbrev pub with_dispatch : ℕ → Dispatched → Peer → Peer

@@ -11,7 +11,7 @@ ghost use Rattle.dispatch.specs.Calls.{dispatched_on};
 ghost use Rattle.dispatch.specs.CodeDispatching.{shifted_on};
 
 use numbers::counters::{Reliable, Unreliable};
-use places::{channels, groups, pools};
+use places::{RECORD, channels, groups, pools};
 use queues::{dispatched, held};
 use record::flags::flag_set;
 use record::groups::Incoming;
@@ -48,16 +48,14 @@ fn number_after(slot: Incoming) -> Reliable
 }
 
 // How many of channel i's list may go, and the number that is then the last.
-fn ready(words: &[u32], i: usize, last: Reliable) -> Prefix
-    requires words_len { length words.now ≡ record_length }
-    requires i_lt_channels { i < channels }
+fn ready(words: &[u32; RECORD], i: usize, last: Reliable) -> Prefix
+    requires { i < channels }
     ensures count { result.count ≡ ready_count (whole words.now).incoming (in_items (held_of (whole words.now) i)) last.0 }
     ensures last { result.last.0 ≡ ready_last (whole words.now).incoming (in_items (held_of (whole words.now) i)) last.0 }
 {
     let n = held::count(words, i);
     let mut now = last;
-    let mut k: usize = 0;
-    while k < n {
+    for k in 0..n {
         let s = held::slot_at(words, i, k);
         let slot = pools::incoming_at(words, s as usize);
         if !follows(now, slot) {
@@ -67,17 +65,15 @@ fn ready(words: &[u32], i: usize, last: Reliable) -> Prefix
             };
         }
         now = number_after(slot);
-        k = k + 1;
     }
     Prefix {
-        count: k,
+        count: n,
         last: now,
     }
 }
 
 // The first k of channel i's list join dispatched, where there is room for all of them.
-fn shift(words: &mut [u32], i: usize, k: usize)
-    requires words_len { length words.old ≡ record_length }
+fn shift(words: &mut [u32; RECORD], i: usize, k: usize)
     requires i_lt_channels { i < channels }
     requires k_in_bounds { k ≤ length (in_items (held_of (whole words.old) i)) }
     ensures { whole words.new ≡ shifted_on i k (whole words.old) }
@@ -90,8 +86,7 @@ fn shift(words: &mut [u32], i: usize, k: usize)
 }
 
 // Bit 1 of the flags: what joins dispatched sets it.
-pub fn flag(words: &mut [u32])
-    requires { length words.old ≡ record_length }
+pub fn flag(words: &mut [u32; RECORD])
     ensures { whole words.new ≡ with_unsequenced (whole words.old) (flagged (whole words.old).unsequenced) }
 {
     let flags = groups::flags(words);
@@ -99,9 +94,8 @@ pub fn flag(words: &mut [u32])
 }
 
 // The records that are complete and follow one another go; nothing changes where there is none.
-pub fn dispatch(words: &mut [u32], i: usize)
-    requires words_len { length words.old ≡ record_length }
-    requires i_lt_channels { i < channels }
+pub fn dispatch(words: &mut [u32; RECORD], i: usize)
+    requires { i < channels }
     ensures { whole words.new ≡ dispatched_on i (whole words.old) }
 {
     let own = channels::numbers_of(words, i);

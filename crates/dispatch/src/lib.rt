@@ -10,23 +10,19 @@ ghost use Rattle.places.specs.Whole.{whole};
 ghost use Rattle.dispatch.specs.Calls.{dispatches};
 
 use numbers::refusals::Refusal;
-use peer::calls::Reply;
-use peer::gate::{Gate, Lent};
+use peer::gate::Lent;
 use peer::settings::Settings;
 use places::{RECORD, groups};
 
 // Refused by 11, 13 and 2, in this order.
-pub fn dispatch(words: &mut [u32; RECORD], settings: Settings, channel: u8) -> Reply
+pub fn dispatch(words: &mut [u32; RECORD], settings: Settings, channel: u8) -> Result<(), Refusal>
     ensures { Came answer_of (dispatches settings channel (whole words.old)) result (whole words.new) }
 {
-    let asked = gate::ask(words, settings, Lent::Nothing);
-    if let Gate::Shut(why) = asked {
-        return Reply::Refused(why);
-    }
+    gate::ask(words, settings, Lent::Nothing)?;
     let standing = groups::standing(words);
     if standing.channels <= channel as u32 {
-        return Reply::Refused(Refusal::InvalidChannel);
+        return Err(Refusal::InvalidChannel);
     }
     dispatching::dispatch(words, channel as usize);
-    Reply::Done
+    Ok(())
 }

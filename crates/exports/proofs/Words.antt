@@ -1,46 +1,66 @@
 -- The loops over words of four bytes, for any number n of them: what is read and what is left make the whole row, and what is
 -- left to write leads to the same bytes. The argument: one word off the row's head at a time.
-use mathlib.Core.Path.{◌≡◌, ap, sym, ◌∙◌}
-use mathlib.Core.List.{List, [], ◌∷◌, ◌++◌, append_assoc, append-nil}
-use Prim.Native.Nat.{ℕ, suc, ◌+◌, ◌*◌, ◌-◌, ◌≤◌, ◌<◌}
+use mathlib.Core.Path.{◌≡◌, refl, ap, sym, ◌∙◌}
+use mathlib.Core.List.{List, [], ◌∷◌, ◌++◌, append_assoc}
+use Prim.Native.Nat.{ℕ, zero, suc, ◌+◌, ◌*◌, ◌-◌, ◌/◌, ◌≤◌, ◌<◌}
 use native.Mathlib.Numerals.{add-one}
 use native.Mathlib.Omega.{arith}
-use lib.ListN.{length, get_or, set, take, drop, replicate}
-use lib.Seq.{drop-cons, take-suc-set, take_all}
+use lib.ListN.{length, get_or, take, drop, replicate}
+use lib.Seq.{drop-cons}
+use mir.Syntax.{w32}
+use Rattle.std.specs.Int.{to_be_bytes}
+use Rattle.std.proofs.Common.{subst, inl, inr}
+use Rattle.std.proofs.lemmas.Bool.{cases_lt}
+use lib.Seq.{sets-eq, drop-drop}
+use denote.Param.Members.{Mut}
+use Rattle.std.specs.Fn.{Called}
+use Rattle.std.specs.Array.{IsFromFnResultFrom}
 use Rattle.command.specs.Bytes.{number_at, put_number, row_at, put_row}
 
 one_less : (n i : ℕ) → i < n → n - i ≡ suc (n - (i + 1))
 one_less n i h = omega arith
 
-module _ (s : List ℕ) (n : ℕ) where
-  -- the words that are left at word i
-  abbrev pub left : ℕ → List ℕ
-  left i = row_at s (4 * i) (replicate (n - i) 4)
+-- a row of words is the words at its places
+pub row_by_place : (s ws : List ℕ) (i n : ℕ) → length ws ≡ n → ((k : ℕ) → k < n → get_or ws k 0 ≡ number_at s (i + 4 * k) 4) → ws ≡ row_at s i (replicate n 4)
+unfolding row_at
+row_by_place s [] i zero l each = refl
+row_by_place s [] i (suc n) l each = absurd (omega arith)
+row_by_place s (w ∷ ws) i zero l each = absurd (omega arith)
+row_by_place s (w ∷ ws) i (suc n) l each =
+    let here : i + 4 * 0 ≡ i = omega arith in
+    let rest : ws ≡ row_at s (i + 4) (replicate n 4) =
+    row_by_place s ws (i + 4) n (omega arith) (λ k h. let p : i + 4 + 4 * k ≡ i + 4 * suc k = omega arith in rw p (each (suc k) (omega arith)))
+    in
+    let first = each 0 (omega arith) in
+    rw (first, here, rest)
 
-  left_head : (i : ℕ) → i < n → left i ≡ number_at s (4 * i) 4 ∷ left (i + 1)
-  unfolding row_at
-  left_head i h =
-      let p : 4 * i + 4 ≡ 4 * (i + 1) = omega arith in
-      ap (λ (k : ℕ). row_at s (4 * i) (replicate k 4)) (one_less n i h)
-      ∙ ap (λ (k : ℕ). number_at s (4 * i) 4 ∷ row_at s k (replicate (n - (i + 1)) 4)) p
+-- what calls at one number after the other gave, where each leaves the closure as it was
+pub made :
+    {F : Type 0} (g : Mut F (ℕ × Unit {0}) ℕ) (f : F) (h : ℕ → ℕ) → ((i r : ℕ) (q : F) → Called g f (i, tt) r q → (r ≡ h i) × (q ≡ f))
+    → (ys : List ℕ) (i n : ℕ) → IsFromFnResultFrom g f ys i n → (k : ℕ) → i ≤ k → k < i + n → get_or ys k 0 ≡ h k
+made g f h each ys i zero m k a b = absurd (omega arith)
+made g f h each ys i (suc n) (q, y, e, called, rest) k a b =
+    let one = each i y q called in
+    elim (cases_lt i k) [
+      | inl l ↦ made g f h each ys (i + 1) n (subst (λ (p : _). IsFromFnResultFrom g p ys (i + 1) n) one.1 rest) k (omega arith) (omega arith)
+      | inr m ↦ let here : k ≡ i = omega arith in rw here (e.1 0 ∙ one.0)
+    ]
 
-  pub read_start : (w : List ℕ) → take 0 w ++ left 0 ≡ row_at s 0 (replicate n 4)
-  read_start w = let e : n - 0 ≡ n = omega arith in ap (λ (k : ℕ). row_at s 0 (replicate k 4)) e
-
-  pub read_step :
-      (w : List ℕ) (i x : ℕ) → i < n → i < length w → x ≡ number_at s (4 * i) 4
-      → take (i + 1) (set w i x) ++ left (i + 1) ≡ take i w ++ left i
-  read_step w i x h l e =
-      ap (λ (k : ℕ). take k (set w i x) ++ left (i + 1)) (add-one i)
-      ∙ ap (λ (t : List ℕ). t ++ left (i + 1)) (take-suc-set w i x l)
-      ∙ append_assoc (take i w) (x ∷ []) (left (i + 1))
-      ∙ ap (λ (t : List ℕ). take i w ++ t) (ap (λ (y : ℕ). y ∷ left (i + 1)) e ∙ sym (left_head i h))
-
-  pub read_done : (w : List ℕ) (i : ℕ) → n ≤ i → length w ≤ i → take i w ++ left i ≡ w
-  unfolding row_at
-  read_done w i h l =
-      let e : n - i ≡ 0 = omega arith in
-      ap (λ (k : ℕ). take i w ++ row_at s (4 * i) (replicate k 4)) e ∙ append-nil (take i w) ∙ take_all i w l
+-- the four bytes of a word, each in its place
+pub word_put :
+    (s : List ℕ) (at x : ℕ) (bytes : List ℕ) → at + 4 ≤ length s → bytes ≡ to_be_bytes w32 x
+    → take at s ++ (bytes ++ drop (at + 4 - at) (drop at s)) ≡ put_number s at 4 x
+unfolding put_number
+word_put s at x bytes h e =
+    let a0 : at + 0 ≡ at = omega arith in
+    let a1 : at + 1 ≡ suc at = omega arith in
+    let a2 : at + 2 ≡ suc (suc at) = omega arith in
+    let a3 : at + 3 ≡ suc (suc (suc at)) = omega arith in
+    let n : at + 4 - at ≡ 4 = omega arith in
+    let p : x / 256 / 256 / 256 ≡ x / 16777216 = omega arith in
+    let q : x / 256 / 256 ≡ x / 65536 = omega arith in
+    let d : drop 4 (drop at s) ≡ drop (at + 4) s = drop-drop 4 at s in
+    rw (e, n, d, p, q, a0, a1, a2, a3) (sym (append_assoc (take at s) (to_be_bytes w32 x) (drop (at + 4) s)) ∙ sym (sets-eq (to_be_bytes w32 x) s at h))
 
 module _ (at : ℕ) (xs : List ℕ) where
   -- the bytes s once the words from word i on are put

@@ -12,7 +12,7 @@ use command::fields::Command;
 use numbers::consts::UNSEQUENCED_WORDS;
 use numbers::counters::Group;
 use numbers::refusals::Refusal;
-use numbers::widths::wide8;
+use std::array;
 use throttle::{Throttle, Turn};
 use window::Verdict;
 use wire::reader::Reading;
@@ -77,7 +77,7 @@ pub extern "C" fn lyn_window(base: u16, group: u16, words: &mut [u8]) -> u32
     ensures { WindowCall base group words.old result words.new }
 {
     if words.len() != WINDOW_BYTES {
-        return Refusal::OutOfRange.number() * ABOVE;
+        return u32::from(Refusal::OutOfRange) * ABOVE;
     }
     let before = read_words(words);
     let judged = window::judge(Group(base), before, Group(group));
@@ -109,7 +109,7 @@ pub extern "C" fn lyn_mark(group: u16, words: &mut [u8]) -> u32
         write_words(words, 0, &marked);
         return 0;
     }
-    Refusal::OutOfRange.number()
+    u32::from(Refusal::OutOfRange)
 }
 
 // The command at a place of the bytes, as the numbers of its size, its kind and its row.
@@ -118,12 +118,12 @@ pub extern "C" fn lyn_read(bytes: &[u8], place: usize, row: &mut [u8]) -> u32
     ensures { ReadCall bytes.now place row.old result row.new }
 {
     if row.len() != ROW_BYTES {
-        return Refusal::OutOfRange.number();
+        return u32::from(Refusal::OutOfRange);
     }
-    let Reading::Found { command, next } = wire::reader::read(bytes, place) else {
-        return Refusal::BadCommand.number();
+    let Some(found) = wire::reader::read(bytes, place) else {
+        return u32::from(Refusal::BadCommand);
     };
-    put_command(row, next - place, command);
+    put_command(row, found.next - place, found.command);
     0
 }
 
@@ -144,13 +144,7 @@ fn read_words(s: &[u8]) -> [u32; UNSEQUENCED_WORDS]
     requires { length s.now ≡ window_bytes }
     ensures { result ≡ numbers_in window_words s.now }
 {
-    let mut words = [0u32; UNSEQUENCED_WORDS];
-    let mut i: usize = 0;
-    while i < UNSEQUENCED_WORDS {
-        words[i] = word_at(s, 4 * i);
-        i = i + 1;
-    }
-    words
+    array::from_fn(|i| word_at(s, 4 * i))
 }
 
 // The words from `at` on.
@@ -158,10 +152,8 @@ fn write_words(out: &mut [u8], at: usize, words: &[u32])
     requires { at + 4 * length words.now ≤ length out.old }
     ensures { out.new ≡ put_row out.old at (replicate (length words.now) 4) words.now }
 {
-    let mut i: usize = 0;
-    while i < words.len() {
-        put_word(out, at + 4 * i, words[i]);
-        i = i + 1;
+    for (i, word) in words.iter().enumerate() {
+        put_word(out, at + 4 * i, *word);
     }
 }
 
@@ -170,9 +162,7 @@ fn word_at(s: &[u8], at: usize) -> u32
     requires { at + 4 ≤ length s.now }
     ensures { result ≡ number_at s.now at 4 }
 {
-    let high = wide8(s[at]) * 256 + wide8(s[at + 1]);
-    let low = wide8(s[at + 2]) * 256 + wide8(s[at + 3]);
-    high * 65536 + low
+    u32::from_be_bytes([s[at], s[at + 1], s[at + 2], s[at + 3]])
 }
 
 // The four bytes of x, the high byte first.
@@ -180,8 +170,5 @@ fn put_word(out: &mut [u8], at: usize, x: u32)
     requires { at + 4 ≤ length out.old }
     ensures { out.new ≡ put_number out.old at 4 x }
 {
-    out[at] = (x / 256 / 256 / 256 % 256) as u8;
-    out[at + 1] = (x / 256 / 256 % 256) as u8;
-    out[at + 2] = (x / 256 % 256) as u8;
-    out[at + 3] = (x % 256) as u8;
+    out[at..at + 4].copy_from_slice(&x.to_be_bytes());
 }

@@ -52,15 +52,15 @@ module _ {marks : Marks} {slots : List Incoming} {count : ℕ} {cs : List Channe
       ∙ ap (λ (b : Bool). both b (held_sound marks slots count (k + 1) (marked_all m (items_of row)) (drop (k + 1) (take n cs)))) e
       ∙ ap (λ (x : List ℕ). held_sound marks slots count (k + 1) x (drop (k + 1) (take n cs))) (sym (t.walk.marks e))
 
-  pub held_sums : (v u : ℕ) → Sums (lengths slots) list_bytes (items_of row) v ok u → ok ≡ true
+  pub held_sums : (v u : ℕ) → Sums (lengths slots) list_bytes (items_of row) v u
       → v + lengths slots (held (drop k (take n cs))) ≡ u + lengths slots (held (drop (k + 1) (take n cs)))
-  held_sums v u s e =
-      held_sum slots cs n k no_channel v u t.long t.here (s.is e ∙ ap (λ (l : InList). v + lengths slots (in_items l)) (sym t.is))
+  held_sums v u s =
+      held_sum slots cs n k no_channel v u t.long t.here (s.is ∙ ap (λ (l : InList). v + lengths slots (in_items l)) (sym t.is))
 
-  pub held_counts : (v u : ℕ) → Sums (blocks slots) incoming (items_of row) v ok u → ok ≡ true
+  pub held_counts : (v u : ℕ) → Sums (blocks slots) incoming (items_of row) v u
       → v + blocks slots (held (drop k (take n cs))) ≡ u + blocks slots (held (drop (k + 1) (take n cs)))
-  held_counts v u s e =
-      held-blocks slots cs n k no_channel v u t.long t.here (s.is e ∙ ap (λ (l : InList). v + blocks slots (in_items l)) (sym t.is))
+  held_counts v u s =
+      held-blocks slots cs n k no_channel v u t.long t.here (s.is ∙ ap (λ (l : InList). v + blocks slots (in_items l)) (sym t.is))
 
 pub held_end : (marks : Marks) (slots : List Incoming) (count : ℕ) (cs : List Channel) (n k : ℕ) (m : List ℕ) → n ≤ k → held_sound marks slots count k m (drop k (take n cs)) ≡ true
 unfolding held_sound
@@ -123,11 +123,11 @@ module _ (count : ℕ) (p : Peer) where
     dispatched_no e = sym (side_is ∙ ap (λ (b : Bool). both b (rest (marked_all none (items_of row)) (lengths slots (items_of row)) (blocks slots (items_of row)))) e)
 
     -- what the function that asks the rest answers
-    pub rest_says : ok ≡ true → (t b : ℕ) → Sums (lengths slots) list_bytes (items_of row) 0 ok t → Sums (blocks slots) incoming (items_of row) 0 ok b
+    pub rest_says : ok ≡ true → (t b : ℕ) → Sums (lengths slots) list_bytes (items_of row) 0 t → Sums (blocks slots) incoming (items_of row) 0 b
         → (r : Bool) → r ≡ rest after t b → r ≡ in_side count p
     rest_says e t b s z r q =
-        let sum : t ≡ lengths slots (items_of row) = omega (arith, s.is e) in
-        let count : b ≡ blocks slots (items_of row) = omega (arith, z.is e) in
+        let sum : t ≡ lengths slots (items_of row) = omega (arith, s.is) in
+        let count : b ≡ blocks slots (items_of row) = omega (arith, z.is) in
         q
         ∙ sym (
         side_is

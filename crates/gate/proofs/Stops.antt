@@ -1,10 +1,7 @@
--- What a function's answer says of the test that it makes; where code that asks three things one after the other stops. By the equations.
+-- Where code that asks three things one after the other stops. By the equations.
 use mathlib.Core.Path.{◌≡◌, sym, ap, ◌∙◌}
 use mathlib.Core.Bool.{Bool, true, false}
 use Rattle.numbers.specs.Pick.{both}
-
-pub says : (r x y : Bool) → r ≡ x → r ≡ y → x ≡ y
-says r x y p q = sym p ∙ q
 
 module _ (a b c s : Bool) (e : s ≡ both a (both b c)) where
   pub first_no : a ≡ false → false ≡ s

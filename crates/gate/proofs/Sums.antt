@@ -1,18 +1,20 @@
--- What the walks sum. The argument: where a walk stopped nothing is said of its sum.
+-- What the walks sum: a slot that passes is short, and a block at most. The argument: both tests of a slot ask for its kind's rule.
 use Prim.Native.Nat.{ℕ, ◌≤◌}
 use mathlib.Core.Path.{◌≡◌}
 use mathlib.Core.Bool.{Bool, true, false}
 use mathlib.Core.List.{List}
 use native.Mathlib.Omega.{arith}
+use lib.ListN.{get_or}
+use Rattle.std.specs.Prelude.{Option, is_some, unwrap_or}
 use Rattle.numbers.specs.Pick.{pick}
-use Rattle.gate.specs.CodeHalves.{Sums}
+use Rattle.record.specs.Fresh.{no_incoming}
+use Rattle.record.specs.declared.groups.Incoming.{Incoming}
+use Rattle.record.specs.declared.groups.Marks.{Marks}
+use Rattle.damage.proofs.SumLaws.{pass_short}
+use Rattle.gate.specs.CodeHalves.{slot_passes}
 
-pub sums_stop : {f : List ℕ → ℕ} {most : ℕ} {xs : List ℕ} {from total : ℕ} → Sums f most xs from false total
-sums_stop =
-    record {
-      is = λ q. let z : ◌≡◌ {A = ℕ} 0 1 = cc in absurd (omega arith);
-      low = λ q. let z : ◌≡◌ {A = ℕ} 0 1 = cc in absurd (omega arith);
-    }
+pub short : (marks : Marks) (slots : List Incoming) (count : ℕ) (own : Option ℕ) (s : ℕ) → slot_passes marks slots count own s ≡ true → (get_or slots s no_incoming).length ≤ 32768
+short marks slots count own s e = pass_short marks count (is_some own) (unwrap_or own 0) (get_or slots s no_incoming) e
 
 pub at_most_one : (b : Bool) → pick b 1 0 ≤ 1
 at_most_one true = omega arith

@@ -8,6 +8,8 @@ use native.Mathlib.Omega.{arith}
 use lib.Dec.{leb}
 use lib.ListN.{length, get_or, set, drop}
 use borrow.Author.Tests.{lt-ltb, le-ltb, ne_eqb, le-leb, lt-leb}
+use Rattle.std.specs.List.{between}
+use Rattle.std.proofs.lemmas.List.Edits.{get_or-between}
 use Rattle.numbers.specs.Pick.{pick}
 use Rattle.numbers.proofs.BoolLaws.{both_true, both_false}
 use Rattle.cells.specs.Free.{marked_all}
@@ -81,6 +83,19 @@ pub record Turn (f : ℕ → Bool) (ws : List ℕ) (at n : ℕ) (m₀ m : List �
   pub left : Left f m₀ (items_of (row_at at n ws)) m k
   pub here : k < long
   pub is : s ≡ low (get_or ws (at + 1 + k) 0)
+
+-- the cells there are those of the list up to its length
+pub turn_at : (f : ℕ → Bool) (ws : List ℕ) (at n v : ℕ) (m₀ m : List ℕ) (k s : ℕ) → at + n + 1 ≤ length ws → v ≡ low (get_or ws at 0) → v ≤ n → Left f m₀ (items_of (row_at at n ws)) m k → k < v
+    → s ≡ low (get_or (between (at + 1) (at + 1 + v) ws) k 0) → Turn f ws at n m₀ m k s
+turn_at f ws at n v m₀ m k s room is few left here e =
+    record {
+      long = v;
+      list = record { room = room; is = is };
+      few = few;
+      left = left;
+      here = here;
+      is = e ∙ ap low (get_or-between ws (at + 1) (at + 1 + v) k 0 (omega arith));
+    }
 
 module _ {f : ℕ → Bool} {ws : List ℕ} {at n : ℕ} {m₀ m : List ℕ} {k s : ℕ} (t : Turn f ws at n m₀ m k s) where
   abbrev cells : List ℕ

@@ -1,6 +1,6 @@
 -- For functions inside the house alone: the damage test in the order in which the code asks, a list at a time, the outgoing half, then the incoming one.
 -- Nothing here need be believed: the contract of `sound` is the rule's own.
-use Rattle.std.specs.Prelude.{ℕ, ◌+◌, ◌*◌, ◌≤◌, ◌≡◌, Bool, true, List, [], ◌∷◌, map, leb, replicate}
+use Rattle.std.specs.Prelude.{ℕ, ◌+◌, ◌*◌, ◌≤◌, ◌≡◌, Option, is_some, unwrap_or, Bool, true, List, [], ◌∷◌, map, leb, replicate}
 use Rattle.numbers.specs.Pick.{both}
 use Rattle.cells.specs.Free.{marked_all}
 use Rattle.lists.specs.Rows.{len_of, items_of}
@@ -31,10 +31,14 @@ out_side count p = both (out_fits p.lists) (out_pass (grade_passes (map (slot_gr
 abbrev pub list_bytes : ℕ
 list_bytes = incoming * most_bytes
 
--- what a walk sums on its way, where it got to its end: lengths, or blocks
-pub record Sums (f : List ℕ → ℕ) (most : ℕ) (xs : List ℕ) (from : ℕ) (ok : Bool) (total : ℕ) : Type 0 where
-  pub is : ok ≡ true → total ≡ from + f xs
-  pub low : ok ≡ true → total ≤ from + most
+-- what a walk that got to its end has summed on its way: lengths, or blocks
+pub record Sums (f : List ℕ → ℕ) (most : ℕ) (xs : List ℕ) (from total : ℕ) : Type 0 where
+  pub is : total ≡ from + f xs
+  pub low : total ≤ from + most
+
+-- the rule's tests of a slot; of one of a channel's own list, that it has that channel
+abbrev pub slot_passes : Marks → List Incoming → ℕ → Option ℕ → ℕ → Bool
+slot_passes marks slots count own = in_passes marks slots count (is_some own) (unwrap_or own 0)
 
 -- the lists of the channels from k on, each from the marks of those before it
 unfoldable pub held_sound : Marks → List Incoming → ℕ → ℕ → List ℕ → List Channel → Bool

@@ -14,8 +14,9 @@ ghost use Rattle.places.specs.Whole.{whole, record_length};
 use numbers::limits;
 use numbers::refusals::Refusal;
 use numbers::widths::low16;
-use peer::gate::{Gate, Lent};
+use peer::gate::Lent;
 use peer::settings::Settings;
+use places::RECORD;
 use record::groups::{CHANNELS, SECOND, STORE};
 
 // Where the record has its channel count and its MTU.
@@ -54,17 +55,16 @@ pub fn is_fit(settings: Settings, lent: Lent) -> bool
     }
 }
 
-pub fn ask(words: &[u32], settings: Settings, lent: Lent) -> Gate
-    requires { length words.now ≡ record_length }
+pub fn ask(words: &[u32; RECORD], settings: Settings, lent: Lent) -> Result<(), Refusal>
     ensures { result ≡ gate_of (fits settings lent) (sound (whole words.now)) }
 {
     if !is_fit(settings, lent) {
-        return Gate::Shut(Refusal::OutOfRange);
+        return Err(Refusal::OutOfRange);
     }
     if !sound(words) {
-        return Gate::Shut(Refusal::Damaged);
+        return Err(Refusal::Damaged);
     }
-    Gate::Open
+    Ok(())
 }
 
 // "MTU or channel count (0 to 8) out of range"
@@ -78,8 +78,7 @@ fn ranged(mtu: u32, count: u32) -> bool
 }
 
 // Document 01's "damaged", turned round.
-pub fn sound(words: &[u32]) -> bool
-    requires { length words.now ≡ record_length }
+pub fn sound(words: &[u32; RECORD]) -> bool
     ensures { result ≡ sound (whole words.now) }
 {
     let count = words[COUNT];

@@ -7,6 +7,7 @@ ghost use Rattle.places.specs.Whole.{whole, record_length};
 ghost use Rattle.gate.specs.CodeHalves.{Passes, out_side};
 
 use crate::narrow;
+use places::RECORD;
 use record::OUTGOING;
 
 fn enough(grade: u8, sent: bool) -> bool
@@ -19,8 +20,7 @@ fn enough(grade: u8, sent: bool) -> bool
 }
 
 // Not well is a list that is longer than its pool, or that names a slot that does not exist, is marked or is not good for it; a slot that is good is marked.
-fn list_sound(words: &[u32], at: usize, count: u32, sent: bool, marks: &mut [u8]) -> bool
-    requires words_len { length words.now ≡ record_length }
+fn list_sound(words: &[u32; RECORD], at: usize, count: u32, sent: bool, marks: &mut [u8]) -> bool
     requires at_bound { at + 33 ≤ record_length }
     requires marks_len { length marks.old ≡ outgoing }
     ensures { Passes (grade_passes (map (slot_grade count) (whole words.now).outgoing) sent) outgoing marks.old (row_at at outgoing words.now) result marks.new }
@@ -30,9 +30,8 @@ fn list_sound(words: &[u32], at: usize, count: u32, sent: bool, marks: &mut [u8]
         return false;
     }
     let from = at + 1;
-    let mut j: usize = 0;
-    while j < n {
-        let s = narrow(words[from + j]);
+    for cell in &words[from..from + n] {
+        let s = narrow(*cell);
         if OUTGOING <= s {
             return false;
         }
@@ -44,14 +43,12 @@ fn list_sound(words: &[u32], at: usize, count: u32, sent: bool, marks: &mut [u8]
             return false;
         }
         marks[s] = 1;
-        j = j + 1;
     }
     true
 }
 
 // "a list is longer than its pool, names a slot that does not exist, or a slot stands twice", and each command.
-pub(crate) fn out_side(words: &[u32], count: u32) -> bool
-    requires { length words.now ≡ record_length }
+pub(crate) fn out_side(words: &[u32; RECORD], count: u32) -> bool
     ensures { result ≡ out_side count (whole words.now) }
 {
     let mut marks = [0u8; OUTGOING];

@@ -1,28 +1,27 @@
 -- In transit is what the packets in sent carry, on every record that the calls reach from a reset.
 -- The argument: setting up fills a slot that no list names; a send step adds a slot to sent and its load to the number; an acknowledgement and a
 -- timeout check take both away again; no other call touches them.
-use Prim.Native.Nat.{ℕ, zero, suc, ◌+◌, ◌-◌, ◌<◌, ◌%◌, ◌^◌}
+use Rattle.std.specs.Prelude.{Option, Some, None}
+use Prim.Native.Nat.{ℕ, zero, suc, ◌+◌, ◌<◌, ◌%◌, ◌^◌}
 use mathlib.Core.Path.{◌≡◌, refl, ap, sym, ◌∙◌, subst}
 use mathlib.Core.Bool.{Bool, true, false}
 use mathlib.Core.List.{List, [], ◌∷◌, ◌++◌}
 use native.Mathlib.Omega.{arith}
-use lib.Dec.{leb, eqb}
+use lib.Dec.{eqb, leb}
 use lib.ListN.{length, get_or, set, replicate}
 use borrow.Author.Tests.{leb-true}
+use Rattle.std.specs.Prelude.{⊤, Result, Ok}
 use Rattle.numbers.specs.Pick.{pick}
 use Rattle.numbers.specs.Modulo.{sum, minus}
-use Rattle.numbers.specs.declared.clock.Trip.{Trip}
-use Rattle.numbers.specs.declared.clock.Trip.TheVariants.{PassedOver, Taken}
+use Rattle.numbers.specs.declared.refusals.Refusal.{Refusal}
 use Rattle.numbers.specs.declared.refusals.Refusal.TheVariants.{OutOfRange}
 use Rattle.cells.specs.Runs.{has, first, without}
 use Rattle.cells.specs.Free.{lowest}
-use Rattle.cells.specs.declared.Free.{Free}
-use Rattle.cells.specs.declared.Free.TheVariants.{Lowest, Full}
 use Rattle.cells.proofs.Lowest.{lowest_free}
 use Rattle.record.specs.Lists.{outgoing, out_items}
 use Rattle.record.specs.declared.outgoing.OutList.{OutList}
 use Rattle.record.proofs.Views.{out_items_keep}
-use Rattle.record.proofs.Keeps.{times, times_append, times_none, none_times}
+use Rattle.record.proofs.Keeps.{times_append, times_none, none_times}
 use Rattle.record.specs.Fresh.{no_lists, no_outgoing}
 use Rattle.record.specs.Damage.{used_out}
 use Rattle.record.specs.Updates.{with_transit, with_reliable_list, with_outgoing_list, longer}
@@ -40,8 +39,6 @@ use Rattle.peer.specs.declared.settings.Settings.{Settings}
 use Rattle.peer.specs.declared.Peer.{Peer}
 use Rattle.peer.specs.declared.defaults.Kept.{Kept}
 use Rattle.peer.specs.declared.gate.Lent.TheVariants as lent
-use Rattle.peer.specs.declared.gate.Gate.{Gate}
-use Rattle.peer.specs.declared.gate.Gate.TheVariants.{Open}
 use Rattle.peer.proofs.Gates.{sound_open, behind_has}
 use Rattle.peer.proofs.Clauses.{Clauses, sound_clauses}
 use Rattle.peer.proofs.Ranges.{mtu_high}
@@ -64,10 +61,11 @@ use Rattle.send_step.specs.Calls.{steps_from, steps_sound, steps}
 use Rattle.send_step.specs.declared.heads.Queue.{Queue}
 use Rattle.send_step.proofs.Freeing.{sent_by, sent_by_lem, joined_items, without_sent}
 use Rattle.round_trip.specs.Calls.{throttles_sound, throttles}
+use Rattle.queues.specs.declared.Out.{Out}
+use Rattle.queues.specs.declared.Out.TheVariants as out
 use Rattle.acknowledge.specs.Removal.{spot_of}
 use Rattle.acknowledge.specs.declared.removal.Spot.{Spot}
-use Rattle.acknowledge.specs.declared.removal.Spot.TheVariants as spot
-use Rattle.acknowledge.proofs.RemovalLaws.{Placed}
+use Rattle.acknowledge.proofs.RemovalLaws.{spot_at, Placed}
 use Rattle.acknowledge.specs.Calls.{heard_in, heard_at, acknowledges_by, acknowledges_sound, acknowledges}
 use Rattle.overdue.specs.Overdue.{stays, back_outgoing, back_reliable, is_due, earliest_by, is_given_up, next_by, kept_in, over_in, goes_back, stays_in, step_by}
 use Rattle.overdue.specs.Walking.{sent_of, turn_by, at_entry, walked, bearing}
@@ -83,10 +81,10 @@ use Rattle.laws.specs.Transit as transit
 use Rattle.laws.proofs.Loads.{loads_append, loads-without, loads_same, set_any, loads_other, more, less}
 
 -- ---- behind a gate
-carries_behind : (g : Gate) (p : Peer) (rest : Outcome Peer) → Carries p → (g ≡ Open → Carries rest.after) → Carries (behind g p rest).after
+carries_behind : (g : Result ⊤ Refusal) (p : Peer) (rest : Outcome Peer) → Carries p → (g ≡ Ok tt → Carries rest.after) → Carries (behind g p rest).after
 carries_behind g p rest c h = behind_has g p rest (λ (o : Outcome Peer). Carries o.after) (λ why. c) h
 
-abbrev gate : Settings → Peer → Gate
+abbrev gate : Settings → Peer → Result ⊤ Refusal
 gate s p = gate_of (fits s lent.Nothing) (sound p)
 
 -- behind the gate of every call a record is sound
@@ -149,8 +147,8 @@ queued_carries : (x : Piece) → x.length < limit → (p : Peer) → Carries p �
 unfolding queued queued_at
 queued_carries x h p c = go (lowest outgoing (used_out p.lists)) refl
   where
-    go : (f : Free) → lowest outgoing (used_out p.lists) ≡ f → Carries (queued_in f x p)
-    go (Lowest s) e =
+    go : (f : Option ℕ) → lowest outgoing (used_out p.lists) ≡ f → Carries (queued_in f x p)
+    go (Some s) e =
         record {
           low = λ k. set_any (λ (o : Outgoing). o.length < limit) p.outgoing s (made x p) k (c.low k) (λ z. h);
           is =
@@ -160,7 +158,7 @@ queued_carries x h p c = go (lowest outgoing (used_out p.lists)) refl
               (ap (λ (l : OutList). loads (set p.outgoing s (made x p)) (out_items l)) (sent_stays p.lists x s)
               ∙ loads_other p.outgoing s (made x p) (out_items p.lists.sent) (sent_free p.lists s (lowest_free outgoing (used_out p.lists) s e))));
         }
-    go Full e = c
+    go None e = c
 
 abbrev Short : List Piece → Type 0
 Short [] = Unit {0}
@@ -278,8 +276,8 @@ module _ (sample clock : ℕ) (p : Peer) (c : Carries p) where
   unloaded true f n r h e = less f.transit r n h e
   unloaded false f n r h e = omega (arith, e)
 
-  heard_carries : (w : Spot) → Placed w p.lists → Carries (heard_at w sample clock p).after
-  heard_carries (spot.Sent k) h =
+  place_carries : (list : Out) (k : ℕ) → Placed (spot_at list k) p.lists → Carries (heard_at (spot_at list k) sample clock p).after
+  place_carries out.Sent k h =
       let xs = out_items p.lists.sent in
       record {
         low = c.low;
@@ -288,17 +286,20 @@ module _ (sample clock : ℕ) (p : Peer) (c : Carries p) where
             (c.is ∙ ap (λ (n : ℕ). n % 2 ^ 32) (loads-without p.outgoing xs k h))
             ∙ ap (λ (ys : List ℕ). loads p.outgoing ys % 2 ^ 32) (sym (cut_items p.lists.sent k));
       }
-  heard_carries (spot.Outgoing k) h = record { low = c.low; is = c.is }
-  heard_carries (spot.Reliable k) h = record { low = c.low; is = c.is }
-  heard_carries spot.Nowhere h = record { low = c.low; is = c.is }
+  place_carries out.Outgoing k h = record { low = c.low; is = c.is }
+  place_carries out.Reliable k h = record { low = c.low; is = c.is }
+
+  heard_carries : (w : Option Spot) → Placed w p.lists → Carries (heard_at w sample clock p).after
+  heard_carries (Some s) h = place_carries s.list s.place h
+  heard_carries None h = record { low = c.low; is = c.is }
 
 pub acknowledge_carries : (s : Settings) (channel number sent clock : ℕ) (p : Peer) → Carries p → Carries (acknowledges s channel number sent clock p).after
 acknowledge_carries s channel number sent clock p c =
     carries_gated s p (acknowledges_sound channel number sent clock p) c (λ h. go (heard_in p.standing.state clock sent))
   where
-    go : (t : Trip) → Carries (acknowledges_by t channel number clock p).after
-    go PassedOver = c
-    go (Taken sample) =
+    go : (t : Option ℕ) → Carries (acknowledges_by t channel number clock p).after
+    go None = c
+    go (Some sample) =
         heard_carries sample clock p c (spot_of p.outgoing number channel p.lists) (found_placed p.outgoing number channel p.lists)
 
 -- ---- the timeout check: a step leaves the number and the command, or takes away the command's load with it

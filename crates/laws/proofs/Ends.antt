@@ -1,5 +1,6 @@
 -- Pieces that go to one list stand at its end in the order in which they were set up, and the other lists stay.
 -- The argument: one piece at a time; a sound record with a free slot has no full list, so the push goes through.
+use Rattle.std.specs.Prelude.{Option}
 use Prim.Native.Nat.{ℕ, ◌+◌, ◌<◌}
 use mathlib.Core.Path.{◌≡◌, refl, ap, sym, ◌∙◌}
 use mathlib.Core.Bool.{Bool, true, false, not}
@@ -8,7 +9,6 @@ use lib.ListN.{length}
 use borrow.Author.Tests.{lt-ltb}
 use Rattle.numbers.specs.Pick.{pick}
 use Rattle.cells.specs.Runs.{pushed}
-use Rattle.cells.specs.declared.Free.{Free}
 use Rattle.record.specs.Lists.{outgoing, out_items}
 use Rattle.record.specs.declared.outgoing.OutList.{OutList}
 use Rattle.record.proofs.Views.{out_items_keep}
@@ -57,7 +57,7 @@ all_ends b (x ∷ xs) p r to =
     let one : Ends b p.lists q.lists (s ∷ []) =
     rw (queued-lists x p s t.low) (one_ends b x p.lists s to.0 (slot_room x p s t.low (sound_clauses p r.good))) in
     let rest = all_ends b xs q t.next to.1 in
-    rw (ap (λ (f : Free). taken_in f (taken xs q)) t.low)
+    rw (ap (λ (f : Option ℕ). taken_in f (taken xs q)) t.low)
     (record {
       ends =
           rest.ends

@@ -1,6 +1,7 @@
 -- C-11: what a piece's fate says of the record. A first piece: no unfinished block of its start on its channel, its start not passed over, its fields fit, no
 -- other block there, a slot free. A later piece: the slot of that block, fields that fit and are like the first piece's, its mark not set.
 -- The argument: by cases on the tests, in their order; a search that finds a slot stopped there.
+use Rattle.std.specs.Prelude.{None, Option, Some}
 use Prim.Native.Nat.{ℕ, ◌+◌, ◌-◌, ◌<◌, ◌≤◌}
 use mathlib.Core.Path.{◌≡◌, refl}
 use mathlib.Core.Bool.{Bool, true, false, not}
@@ -11,9 +12,6 @@ use lib.ListN.{get_or}
 use borrow.Author.Tests.{eqb-true, eqb-false, eq-eqb, leb-true, ltb-true}
 use Rattle.numbers.specs.Pick.{pick, both}
 use Rattle.numbers.proofs.BoolLaws.{both_left, both_right}
-use Rattle.cells.specs.declared.Free.TheVariants.{Lowest}
-use Rattle.cells.specs.declared.First.{First}
-use Rattle.cells.specs.declared.First.TheVariants.{Slot, Empty}
 use Rattle.command.specs.declared.fields.Fragment.{Fragment}
 use Rattle.record.specs.Lists.{in_items}
 use Rattle.record.proofs.Keeps.{times}
@@ -83,27 +81,27 @@ pub record Found (slots : List Incoming) (xs : List ℕ) (start n : ℕ) : Type 
   pub named : 0 < times xs n
   pub is : is_unfinished start (get_or slots n no_incoming) ≡ true
 
-pub unfinished_found : (slots : List Incoming) (xs : List ℕ) (start n : ℕ) → unfinished slots xs start ≡ Slot n → Found slots xs start n
+pub unfinished_found : (slots : List Incoming) (xs : List ℕ) (start n : ℕ) → unfinished slots xs start ≡ Some n → Found slots xs start n
 unfolding unfinished
 unfinished_found slots [] start n e = let z : ◌≡◌ {A = ℕ} 0 1 = cc in absurd (omega arith)
 unfinished_found slots (x ∷ xs) start n e = go (unfinished_found slots xs start n) (is_unfinished start (get_or slots x no_incoming)) refl e
   where
-    go : (unfinished slots xs start ≡ Slot n → Found slots xs start n) → (b : Bool) → is_unfinished start (get_or slots x no_incoming) ≡ b
-        → pick b (Slot x) (unfinished slots xs start) ≡ Slot n → Found slots (x ∷ xs) start n
+    go : (unfinished slots xs start ≡ Some n → Found slots xs start n) → (b : Bool) → is_unfinished start (get_or slots x no_incoming) ≡ b
+        → pick b (Some x) (unfinished slots xs start) ≡ Some n → Found slots (x ∷ xs) start n
     go rest true t e =
         let z : x ≡ n = cc in
         record { named = rw (eq-eqb x n z) (omega arith); is = rw z at t }
     go rest false t e = let f = rest e in record { named = omega (arith, f.named); is = f.is }
 
 -- and where none was found none stands there
-pub unfinished_none : (slots : List Incoming) (xs : List ℕ) (start : ℕ) → unfinished slots xs start ≡ Empty
+pub unfinished_none : (slots : List Incoming) (xs : List ℕ) (start : ℕ) → unfinished slots xs start ≡ None
     → (k : ℕ) → 0 < times xs k → is_unfinished start (get_or slots k no_incoming) ≡ false
 unfolding unfinished
 unfinished_none slots [] start e k h = absurd (omega (arith, h))
 unfinished_none slots (x ∷ xs) start e k h = go (unfinished_none slots xs start) (is_unfinished start (get_or slots x no_incoming)) refl e (eqb x k) refl h
   where
-    go : (unfinished slots xs start ≡ Empty → (j : ℕ) → 0 < times xs j → is_unfinished start (get_or slots j no_incoming) ≡ false)
-        → (b : Bool) → is_unfinished start (get_or slots x no_incoming) ≡ b → pick b (Slot x) (unfinished slots xs start) ≡ Empty
+    go : (unfinished slots xs start ≡ None → (j : ℕ) → 0 < times xs j → is_unfinished start (get_or slots j no_incoming) ≡ false)
+        → (b : Bool) → is_unfinished start (get_or slots x no_incoming) ≡ b → pick b (Some x) (unfinished slots xs start) ≡ None
         → (c : Bool) → eqb x k ≡ c → 0 < pick c 1 0 + times xs k → is_unfinished start (get_or slots k no_incoming) ≡ false
     go rest true t e c u h = let z : ◌≡◌ {A = ℕ} 0 1 = cc in absurd (omega arith)
     go rest false t e true u h = let is : x ≡ k = eqb-true x k u in rw is at t
@@ -133,16 +131,16 @@ module _ (start : ℕ) (i : Incoming) (e : is_unfinished start i ≡ true) where
 -- ---- the fates
 pub record FirstPiece (s : Settings) (a : Piece) (p : Peer) (n : ℕ) : Type 0 where
   pub state : p.standing.state ≡ disconnect_later → ⊥
-  pub none : unfinished_on a p ≡ Empty
+  pub none : unfinished_on a p ≡ None
   pub new : is_passed p.incoming (channel_of a p) a.start.0 ≡ false
   pub fit : fields_fit s.packet a.fragment ≡ true
   pub alone : any_block p ≡ false
   pub room : room_of s p ≡ room.Stored n
-  pub free : free_slot p.lists p.channels p.standing.channels ≡ Lowest n
+  pub free : free_slot p.lists p.channels p.standing.channels ≡ Some n
 
 pub record LaterPiece (s : Settings) (a : Piece) (p : Peer) (n : ℕ) : Type 0 where
   pub state : p.standing.state ≡ disconnect_later → ⊥
-  pub own : unfinished_on a p ≡ Slot n
+  pub own : unfinished_on a p ≡ Some n
   pub found : Found p.incoming (in_items (channel_of a p).held) a.start.0 n
   pub fit : fields_fit s.packet a.fragment ≡ true
   pub like : like_first a.fragment (get_or p.incoming n no_incoming) ≡ true
@@ -189,13 +187,13 @@ module _ (s : Settings) (a : Piece) (p : Peer) (n : ℕ) where
   pub first_piece : fate_on s a p ≡ fate.First n → FirstPiece s a p n
   first_piece = go later refl (unfinished_on a p) refl
     where
-      go : (b : Bool) → later ≡ b → (f : First) → unfinished_on a p ≡ f → pick b fate.Passed (fate_by f s a p) ≡ fate.First n → FirstPiece s a p n
+      go : (b : Bool) → later ≡ b → (f : Option ℕ) → unfinished_on a p ≡ f → pick b fate.Passed (fate_by f s a p) ≡ fate.First n → FirstPiece s a p n
       go true t f u e = let z : ◌≡◌ {A = ℕ} 0 1 = cc in absurd (omega arith)
-      go false t (Slot m) u e =
+      go false t (Some m) u e =
           absurd
           (later_first (both (fields_fit s.packet a.fragment) (like_first a.fragment (get_or p.incoming m no_incoming)))
           (piece_marked p.marks a.fragment.number) m n e)
-      go false t Empty u e =
+      go false t None u e =
           let k = first_tests (is_passed p.incoming (channel_of a p) a.start.0) (fields_fit s.packet a.fragment) (any_block p) (room_of s p) n e in
           record {
             state = eqb-false p.standing.state disconnect_later t;
@@ -210,15 +208,15 @@ module _ (s : Settings) (a : Piece) (p : Peer) (n : ℕ) where
   pub later_piece : fate_on s a p ≡ fate.Later n → LaterPiece s a p n
   later_piece = go later refl (unfinished_on a p) refl
     where
-      go : (b : Bool) → later ≡ b → (f : First) → unfinished_on a p ≡ f → pick b fate.Passed (fate_by f s a p) ≡ fate.Later n → LaterPiece s a p n
+      go : (b : Bool) → later ≡ b → (f : Option ℕ) → unfinished_on a p ≡ f → pick b fate.Passed (fate_by f s a p) ≡ fate.Later n → LaterPiece s a p n
       go true t f u e = let z : ◌≡◌ {A = ℕ} 0 1 = cc in absurd (omega arith)
-      go false t Empty u e =
+      go false t None u e =
           absurd (first_later (is_passed p.incoming (channel_of a p) a.start.0) (fields_fit s.packet a.fragment) (any_block p) (room_of s p) n e)
-      go false t (Slot m) u e =
+      go false t (Some m) u e =
           let fit = fields_fit s.packet a.fragment in
           let like = like_first a.fragment (get_or p.incoming m no_incoming) in
           let k = later_tests (both fit like) (piece_marked p.marks a.fragment.number) m n e in
-          let is : unfinished_on a p ≡ Slot n = rw k.2 at u in
+          let is : unfinished_on a p ≡ Some n = rw k.2 at u in
           record {
             state = eqb-false p.standing.state disconnect_later t;
             own = is;

@@ -10,6 +10,7 @@ use lib.Dec.{eqb, ltb, leb}
 use lib.ListN.{length, take, drop, get_or, length-set, length-take}
 use lib.Seq.{get_or-set_same, get_or-take}
 use borrow.Author.Tests.{eqb-true, eqb-false, eq-eqb, ne_eqb}
+use Rattle.std.specs.Prelude.{Ok, Err}
 use Rattle.numbers.specs.Pick.{pick, both}
 use Rattle.numbers.proofs.BoolLaws.{both_left, both_right}
 use Rattle.numbers.specs.declared.refusals.Refusal.{Refusal}
@@ -38,7 +39,6 @@ use Rattle.peer.specs.declared.settings.Settings.{Settings}
 use Rattle.peer.specs.declared.Peer.{Peer}
 use Rattle.peer.specs.declared.gate.Lent.{Lent}
 use Rattle.peer.specs.declared.gate.Lent.TheVariants.{Both}
-use Rattle.peer.specs.declared.gate.Gate.TheVariants.{Open, Shut}
 use Rattle.peer.proofs.Gates.{openness, sound_open, behind_has}
 use Rattle.peer.proofs.InClauses.{incoming_clauses}
 use Rattle.peer.proofs.Ranges.{count_high}
@@ -67,23 +67,23 @@ pub record LetIn (a : Piece) (datagram : List ℕ) (x : State) : Type 0 where
   pub may : Admitted (arrival_of a) x.peer.standing (length datagram)
   pub receiving : is_receiving a.channel x.peer.standing ≡ true
 
-lent_fits : (f w : Bool) → gate_of f w ≡ Open → f ≡ true
+lent_fits : (f w : Bool) → gate_of f w ≡ Ok tt → f ≡ true
 lent_fits true w e = refl
 lent_fits false w e = absurd (omega (arith, ap openness e))
 
 -- stores that the gate lets through have their lengths
-pub lent_both : (s : Settings) (n m : ℕ) (good : Bool) → gate_of (fits s (Both n m)) good ≡ Open → (n ≡ store_length) × (m ≡ second_length)
+pub lent_both : (s : Settings) (n m : ℕ) (good : Bool) → gate_of (fits s (Both n m)) good ≡ Ok tt → (n ≡ store_length) × (m ≡ second_length)
 lent_both s n m good e =
     let one = eqb n store_length in
     let two = eqb m second_length in
     let f = both_right (fit_settings s) (both one two) (lent_fits (fits s (Both n m)) good e) in
     (eqb-true n store_length (both_left one two f), eqb-true m second_length (both_right one two f))
 
-receives : (a : Piece) (s : Settings) (standing : Standing) (end : ℕ) → arrival_gate send_fragment (arrival_of a) s standing end ≡ Open
+receives : (a : Piece) (s : Settings) (standing : Standing) (end : ℕ) → arrival_gate send_fragment (arrival_of a) s standing end ≡ Ok tt
     → is_receiving a.channel standing ≡ true
 receives a s standing end = go (names a.byte send_fragment) (is_receiving a.channel standing) (is_whole (arrival_of a) s end)
   where
-    go : (b c d : Bool) → then (pick b Open (Shut BadCommand)) (then (pick c Open (Shut NotReceiving)) (pick d Open (Shut LengthTooLarge))) ≡ Open → c ≡ true
+    go : (b c d : Bool) → then (pick b (Ok tt) (Err BadCommand)) (then (pick c (Ok tt) (Err NotReceiving)) (pick d (Ok tt) (Err LengthTooLarge))) ≡ Ok tt → c ≡ true
     go true true d e = refl
     go true false d e = absurd (omega (arith, ap openness e))
     go false c d e = absurd (omega (arith, ap openness e))

@@ -1,5 +1,6 @@
 -- A slot that was free joins the incoming pool and its channel's list, as a reliable packet or a block (C-11) does: the record stays sound and whole.
 -- The argument: the list has the slot at one place more, so every sum over the slots named has the slot's own part more; then the pool's law of a joined slot.
+use Rattle.std.specs.Prelude.{Some}
 use Prim.Native.Nat.{ℕ, ◌+◌, ◌≤◌, ◌<◌}
 use mathlib.Core.Path.{◌≡◌, refl, ap, ◌∙◌}
 use mathlib.Core.Bool.{Bool, true, false}
@@ -16,7 +17,6 @@ use Rattle.record.specs.Lists.{incoming, in_items}
 use Rattle.record.proofs.Keeps.{one, times, times_append}
 use Rattle.record.proofs.Views.{in_items_keep}
 use Rattle.cells.specs.Runs.{inserted}
-use Rattle.cells.specs.declared.Free.TheVariants.{Lowest}
 use Rattle.damage.proofs.SumLaws.{sum_append, blocks_append}
 use Rattle.record.specs.Blocks.{is_block}
 use Rattle.record.specs.Damage.{below, held, held_fit, kind_fit, in_sound, lengths, blocks, one_block, used_in}
@@ -38,7 +38,7 @@ use Rattle.laws.proofs.Pools.{free_exists, free_unnamed, free_room, lengths_own,
 
 -- slot n, free before, in its channel's list
 module _ (q : Peer) (i number n : ℕ) (slot : Incoming) (whole : Whole q) (good : sound q ≡ true) (on : i < q.standing.channels)
-    (free : free_slot q.lists q.channels q.standing.channels ≡ Lowest n) where
+    (free : free_slot q.lists q.channels q.standing.channels ≡ Some n) where
   abbrev cs : List Channel
   cs = below q.channels q.standing.channels
 

@@ -10,6 +10,7 @@ use lib.Dec.{eqb}
 use lib.ListN.{get_or, set}
 use lib.Seq.{get_or-set_other}
 use borrow.Author.Tests.{eqb-false, not-true}
+use Rattle.std.specs.Prelude.{Ok}
 use Rattle.numbers.specs.Pick.{pick}
 use Rattle.numbers.proofs.BoolLaws.{both_left, both_right}
 use Rattle.cells.specs.Runs.{has}
@@ -24,7 +25,6 @@ use Rattle.peer.specs.Gate.{fits, gate_of}
 use Rattle.peer.specs.Outcome.{Outcome}
 use Rattle.peer.specs.declared.settings.Settings.{Settings}
 use Rattle.peer.specs.declared.Peer.{Peer}
-use Rattle.peer.specs.declared.gate.Gate.TheVariants.{Open}
 use Rattle.peer.specs.declared.gate.Lent.TheVariants.{Nothing}
 use Rattle.peer.proofs.Gates.{sound_open, behind_open}
 use Rattle.peer.proofs.Clauses.{sound_clauses}
@@ -74,9 +74,9 @@ sent-once p h =
 
 -- what a walk over the sent list makes of a record
 abbrev checked_by : Peer → overdue.Walked → Outcome Peer
-checked_by p w = record { answer = answer_of (reply_by w.walk.over); after = walked_on p w }
+checked_by p w = record { answer = answer_of (Ok (reply_by w.walk.over)); after = walked_on p w }
 
-pub lent_joins : (s : Settings) (clock : ℕ) (p : Peer) → gate_of (fits s Nothing) (sound p) ≡ Open → checks s clock p ≡ lent_check clock p
+pub lent_joins : (s : Settings) (clock : ℕ) (p : Peer) → gate_of (fits s Nothing) (sound p) ≡ Ok tt → checks s clock p ≡ lent_check clock p
 lent_joins s clock p e =
     let xs = out_items p.lists.sent in
     let w = overdue.at_entry p.times p.loss p.flow in

@@ -1,6 +1,7 @@
 -- The numbers of a cut packet's pieces as they are set up in turn: reliable ones count on from the packet's first number, unreliable ones
 -- all bear it. The argument: a setup steps the two counters of its channel as the piece's byte and offset say, so induction along the pieces
 -- follows them.
+use Rattle.std.specs.Prelude.{Some}
 use Prim.Native.Nat.{ℕ, zero, suc, ◌+◌, ◌≤◌, ◌<◌}
 use mathlib.Core.Path.{◌≡◌, refl, ap, ◌∙◌}
 use mathlib.Core.Bool.{false}
@@ -16,7 +17,6 @@ use Rattle.numbers.specs.declared.counters.Unreliable.{Unreliable}
 use Rattle.record.specs.Channels.{is_itself}
 use Rattle.record.specs.Lists.{outgoing}
 use Rattle.cells.specs.Free.{lowest}
-use Rattle.cells.specs.declared.Free.TheVariants.{Lowest}
 use Rattle.record.specs.Fresh.{no_channel, no_outgoing}
 use Rattle.record.specs.Sizes.{channels, itself}
 use Rattle.record.specs.Damage.{used_out}
@@ -40,7 +40,7 @@ record Next (y : Piece) (p : Peer) (channel r u : ℕ) : Type 0 where
   there : channel < length (queued y p).channels
 
 next : (y : Piece) (p : Peer) (channel s r u : ℕ) → y.command.channel ≡ channel → channel < length p.channels
-    → lowest outgoing (used_out p.lists) ≡ Lowest s → (stamp_of y p).counters.reliable.0 ≡ r → (stamp_of y p).counters.unreliable.0 ≡ u
+    → lowest outgoing (used_out p.lists) ≡ Some s → (stamp_of y p).counters.reliable.0 ≡ r → (stamp_of y p).counters.unreliable.0 ≡ u
     → Next y p channel r u
 unfolding queued_at
 next y p channel s r u e h low er eu =

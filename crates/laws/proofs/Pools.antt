@@ -1,6 +1,7 @@
 -- A slot that joins the incoming pool at a free place: the pool's clauses of soundness hold with it, wherever a list names it once.
 -- The argument: no list named the slot before, so tests and sums over what they named are as before; the total grows by its length alone, the number of blocks
 -- by one where it is a block.
+use Rattle.std.specs.Prelude.{Some}
 use Prim.Native.Nat.{ℕ, ◌+◌, ◌≤◌, ◌<◌}
 use mathlib.Core.Path.{◌≡◌, refl, ap, sym, ◌∙◌}
 use mathlib.Core.List.{List, [], ◌∷◌}
@@ -15,7 +16,6 @@ use Rattle.numbers.specs.Modulo.{sum}
 use Rattle.numbers.proofs.BoolLaws.{both_left, both_right, both_true}
 use Rattle.record.specs.Lists.{incoming, in_items}
 use Rattle.cells.specs.Free.{lowest}
-use Rattle.cells.specs.declared.Free.TheVariants.{Lowest}
 use Rattle.record.proofs.Keeps.{one, times, times_append, times_none, none_times, once_more, exist_more}
 use Rattle.cells.proofs.Lowest.{lowest_exists, lowest_free, free_and_named}
 use Rattle.record.specs.Blocks.{is_block}
@@ -38,7 +38,7 @@ not_further x s xs e = omega (arith, e)
 
 -- a slot that is free in a sound pool: it exists, no list names it, and the lists have room for it
 module _ (marks : Marks) (slots : List Incoming) (l : Lists) (cs : List Channel) (count total : ℕ) (w : InClauses marks slots l cs count total)
-    (n : ℕ) (free : lowest incoming (used_in l cs) ≡ Lowest n) where
+    (n : ℕ) (free : lowest incoming (used_in l cs) ≡ Some n) where
   pub free_exists : n < incoming
   free_exists = lowest_exists incoming (used_in l cs) n free
 

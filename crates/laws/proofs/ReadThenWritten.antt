@@ -12,10 +12,10 @@ use lib.Seq.{take_all, get_or-drop}
 use borrow.Author.Tests.{eqb-true}
 use Rattle.numbers.specs.Pick.{pick}
 use Rattle.numbers.specs.declared.refusals.Refusal.TheVariants.{OutOfRange, Damaged}
-use Rattle.sevens.specs.Groups.{written, read}
+use Rattle.std.specs.Prelude.{Option, Some, None}
+use Rattle.sevens.specs.Groups.{written, read, grouped as read_as}
 use Rattle.sevens.specs.Form.{Form}
 use Rattle.sevens.specs.declared.Grouped.{Grouped}
-use Rattle.sevens.specs.declared.Grouped.TheVariants.{Number, Unread}
 use Rattle.sevens.proofs.GroupLaws.{written_read}
 use Rattle.peer.specs.Damage.{sound}
 use Rattle.peer.specs.Gate.{fits}
@@ -64,7 +64,7 @@ rest_in unread = []
 
 pub record WasRead (bs ws rest : List ℕ) : Type 0 where
   pub end : ℕ
-  pub first : read bs ≡ Number 1 end
+  pub first : read bs ≡ read_as 1 end
   pub numbers : numbers_from 1236 0 (replicate 1236 0) (drop end bs) ≡ parsed ws rest
   pub all : length rest ≡ total_of ws
 
@@ -82,14 +82,14 @@ module _ (ws rest : List ℕ) where
     abbrev numbers_at : ℕ → Parsed
     numbers_at k = numbers_from 1236 0 (replicate 1236 0) (drop k bs)
 
-    edition_read : (g : Grouped) → read bs ≡ g → with_edition bs g ≡ parsed ws rest → WasRead bs ws rest
-    edition_read Unread is q = absurd (let u : ◌≡◌ {A = ℕ} 0 1 = cc in omega arith)
-    edition_read (Number e k) is q = go (eqb e 1) refl q
+    edition_read : (g : Option Grouped) → read bs ≡ g → with_edition bs g ≡ parsed ws rest → WasRead bs ws rest
+    edition_read None is q = absurd (let u : ◌≡◌ {A = ℕ} 0 1 = cc in omega arith)
+    edition_read (Some g) is q = go (eqb g.value 1) refl q
       where
-        go : (t : Bool) → eqb e 1 ≡ t → pick t (complete (numbers_at k)) unread ≡ parsed ws rest → WasRead bs ws rest
+        go : (t : Bool) → eqb g.value 1 ≡ t → pick t (complete (numbers_at g.groups)) unread ≡ parsed ws rest → WasRead bs ws rest
         go true f r =
-            let c = complete_read (numbers_at k) r in
-            record { end = k; first = is ∙ ap (λ (n : ℕ). Number n k) (eqb-true e 1 f); numbers = c.0; all = c.1 }
+            let c = complete_read (numbers_at g.groups) r in
+            record { end = g.groups; first = is ∙ ap (λ (n : ℕ). read_as n g.groups) (eqb-true g.value 1 f); numbers = c.0; all = c.1 }
         go false f r = absurd (let u : ◌≡◌ {A = ℕ} 0 1 = cc in omega arith)
 
     pub was_read : read_snapshot bs ≡ parsed ws rest → WasRead bs ws rest

@@ -1,6 +1,7 @@
 -- Soundness through the reliable arrival: a sound record stays sound, whatever becomes of the packet.
 -- The argument: a packet that is stored joins the pool at a free slot and its channel's list at one place, which leaves a sound record; what the
 -- call then leaves is that record after a dispatch, and a dispatch keeps a record sound.
+use Rattle.std.specs.Prelude.{Some}
 use Prim.Native.Nat.{ℕ, ◌+◌}
 use mathlib.Core.Path.{◌≡◌, refl, ap, ◌∙◌}
 use mathlib.Core.Bool.{true}
@@ -12,7 +13,6 @@ use borrow.Author.Tests.{le-leb}
 use Rattle.numbers.specs.declared.refusals.Refusal.{Refusal}
 use Rattle.numbers.specs.declared.refusals.Refusal.TheVariants.{NotStored}
 use Rattle.record.specs.Lists.{incoming, in_items}
-use Rattle.cells.specs.declared.Free.TheVariants.{Lowest}
 use Rattle.record.specs.Sizes.{cell, store_length}
 use Rattle.record.specs.Damage.{below, blocks, one_block, used_in}
 use Rattle.record.specs.Fresh.{no_channel}
@@ -66,7 +66,7 @@ module _ (s : Settings) (a : Arrival) (datagram : List ℕ) (x : State) where
       by_fate good long may fate.NoRoom e = shut NotStored
       by_fate good long may (fate.Stored n) e = kept n good long may e
 
-  pub held_free : (n : ℕ) → fate_on s a p ≡ fate.Stored n → free_slot p.lists p.channels p.standing.channels ≡ Lowest n
+  pub held_free : (n : ℕ) → fate_on s a p ≡ fate.Stored n → free_slot p.lists p.channels p.standing.channels ≡ Some n
   held_free n e =
       room_stored s p.standing.state p.waiting.total _ n
       (room_of_lem (is_passed p.incoming (channel_of a p) a.number.0) (room_of s p) n e)
@@ -74,7 +74,7 @@ module _ (s : Settings) (a : Arrival) (datagram : List ℕ) (x : State) where
 -- slot n, free before, in its channel's list
 module _ (a : Arrival) (datagram : List ℕ) (x : State) (n : ℕ)
     (whole : Whole x.peer) (good : sound x.peer ≡ true) (may : Admitted a x.peer.standing (length datagram))
-    (free : free_slot x.peer.lists x.peer.channels x.peer.standing.channels ≡ Lowest n) where
+    (free : free_slot x.peer.lists x.peer.channels x.peer.standing.channels ≡ Some n) where
   abbrev q : Peer
   q = x.peer
 

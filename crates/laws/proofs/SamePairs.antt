@@ -2,6 +2,7 @@
 -- The argument: the gate is the same on both, and by cases on it.
 use mathlib.Core.Path.{◌≡◌, refl, sym, subst}
 use mathlib.Core.List.{List}
+use Rattle.std.specs.Prelude.{⊤, Result, Ok, Err}
 use Rattle.numbers.specs.declared.refusals.Refusal.{Refusal}
 use Rattle.record.specs.Fresh.{no_outgoing}
 use Rattle.record.specs.Damage.{below, used_out}
@@ -22,19 +23,17 @@ use Rattle.record.specs.declared.groups.Marks.{Marks}
 use Rattle.peer.specs.Outcome.{Outcome, unchanged}
 use Rattle.peer.specs.Gate.{behind}
 use Rattle.peer.specs.Updates.{rebuilt}
-use Rattle.peer.specs.declared.gate.Gate.{Gate}
-use Rattle.peer.specs.declared.gate.Gate.TheVariants.{Open, Shut}
 use Rattle.peer.specs.declared.Peer.{Peer}
 use Rattle.laws.proofs.SameLaws.{Agree, Lined, Ranked, Like}
 
 -- what refusals and the rest have, on both sides of one gate
-pub behind_pair : {A : Type 0} (R : Outcome A → Outcome A → Type 0) (g h : Gate) (x y : A) (o r : Outcome A) → g ≡ h
-    → ((why : Refusal) → R (unchanged why x) (unchanged why y)) → (g ≡ Open → R o r) → R (behind g x o) (behind h y r)
-behind_pair {A} R g h x y o r e shut rest = subst (λ (f : Gate). R (behind g x o) (behind f y r)) e (go g refl)
+pub behind_pair : {A : Type 0} (R : Outcome A → Outcome A → Type 0) (g h : Result ⊤ Refusal) (x y : A) (o r : Outcome A) → g ≡ h
+    → ((why : Refusal) → R (unchanged why x) (unchanged why y)) → (g ≡ Ok tt → R o r) → R (behind g x o) (behind h y r)
+behind_pair {A} R g h x y o r e shut rest = subst (λ (f : Result ⊤ Refusal). R (behind g x o) (behind f y r)) e (go g refl)
   where
-    go : (f : Gate) → g ≡ f → R (behind f x o) (behind f y r)
-    go Open d = rest d
-    go (Shut why) d = shut why
+    go : (f : Result ⊤ Refusal) → g ≡ f → R (behind f x o) (behind f y r)
+    go (Ok _) d = rest d
+    go (Err why) d = shut why
 
 -- channels by one count
 pub ranked_by : (p q : Peer) → Like p q → Ranked (below p.channels p.standing.channels) (below q.channels p.standing.channels)

@@ -9,6 +9,7 @@ use native.Mathlib.Omega.{arith}
 use lib.Dec.{leb}
 use lib.ListN.{length, get_or}
 use borrow.Author.Tests.{leb-true, ltb-true, lt-leb}
+use Rattle.std.specs.Prelude.{Ok}
 use Rattle.numbers.specs.Pick.{pick, both}
 use Rattle.numbers.specs.Counters.{step}
 use Rattle.numbers.specs.declared.counters.Reliable.{Reliable}
@@ -36,7 +37,6 @@ use Rattle.numbers.specs.Limits.{most_fragments}
 use Rattle.peer.specs.Outcome.{Outcome, finished}
 use Rattle.peer.specs.Gate.{gate_of}
 use Rattle.peer.specs.Sounds.{Whole}
-use Rattle.peer.specs.declared.gate.Gate.TheVariants.{Open}
 use Rattle.peer.proofs.Gates.{openness, sound_open, behind_done, behind_open}
 use Rattle.peer.specs.declared.settings.Settings.{Settings}
 use Rattle.peer.specs.declared.Peer.{Peer}
@@ -62,7 +62,7 @@ number_of (start.Reliable m) = m.0
 number_of (start.Unreliable m) = m.0
 
 -- an open gate's settings fit
-fit_open : (f g : Bool) → gate_of f g ≡ Open → f ≡ true
+fit_open : (f g : Bool) → gate_of f g ≡ Ok tt → f ≡ true
 fit_open true g e = refl
 fit_open false g e = absurd (omega (arith, ap openness e))
 
@@ -117,19 +117,19 @@ module _ (s : Settings) (channel n flags : ℕ) (p : Peer) (w : Whole p) (z : (s
   abbrev xs : List Piece
   xs = commands (fragment s p) channel n flags p
 
-  first : gate_of (fit_settings s) (sound p) ≡ Open
+  first : gate_of (fit_settings s) (sound p) ≡ Ok tt
   first = behind_done (gate_of (fit_settings s) (sound p)) p (sends_sound s channel n flags p) z
 
   rest : sends s channel n flags p ≡ sends_sound s channel n flags p
   rest = behind_open (gate_of (fit_settings s) (sound p)) p (sends_sound s channel n flags p) first
 
-  second : send_gate s channel n p.standing ≡ Open
+  second : send_gate s channel n p.standing ≡ Ok tt
   second = behind_done (send_gate s channel n p.standing) p (queues_all xs p) (ap (λ (o : Outcome Peer). o.answer.number) (sym rest) ∙ z)
 
   then_all : sends s channel n flags p ≡ queues_all xs p
   then_all = rest ∙ behind_open (send_gate s channel n p.standing) p (queues_all xs p) second
 
-  third : queue_gate (length xs) (room p) ≡ Open
+  third : queue_gate (length xs) (room p) ≡ Ok tt
   third = behind_done (queue_gate (length xs) (room p)) p (finished (queued_all xs p)) (ap (λ (o : Outcome Peer). o.answer.number) (sym then_all) ∙ z)
 
   ready : Ready xs p

@@ -1,6 +1,7 @@
 -- Each call but reset and the arrivals, for all inputs, refused or not, leaves base, words and waiting total as they were; but receive lowers the
 -- total by the length that it replies. The reliable arrival leaves base and words. (What the arrivals do to the total: `arrived` Stores; what the
 -- unsequenced one does to base and words: `arrived` Landing.) The argument: no rule names these parts; a send is setups in order.
+use Rattle.std.specs.Prelude.{None, Option, Some}
 use Prim.Native.Nat.{ℕ}
 use mathlib.Core.Path.{◌≡◌, refl, ap, ◌∙◌}
 use mathlib.Core.Bool.{Bool, true, false}
@@ -9,17 +10,15 @@ use mathlib.Core.Logic.{inl, inr, ⊎_elim}
 use native.Mathlib.Omega.{arith}
 use lib.Dec.{leb, eqb}
 use lib.ListN.{length, get_or, set}
+use Rattle.std.specs.Prelude.{⊤, Result, Ok, Some}
 use Rattle.numbers.specs.Pick.{pick}
 use Rattle.numbers.specs.Answers.{Answer, numbers_of}
 use Rattle.numbers.proofs.Settled.{refused_not_done}
+use Rattle.numbers.specs.declared.refusals.Refusal.{Refusal}
 use Rattle.numbers.specs.declared.refusals.Refusal.TheVariants.{OutOfRange}
 use Rattle.record.specs.Lists.{outgoing, out_items, in_items}
 use Rattle.cells.specs.Runs.{first}
 use Rattle.cells.specs.Free.{lowest}
-use Rattle.cells.specs.declared.Free.{Free}
-use Rattle.cells.specs.declared.Free.TheVariants.{Lowest, Full}
-use Rattle.cells.specs.declared.First.{First}
-use Rattle.cells.specs.declared.First.TheVariants.{Slot, Empty}
 use Rattle.record.specs.Damage.{below, used_out}
 use Rattle.record.specs.Fresh.{no_incoming}
 use Rattle.record.specs.Blocks.{is_block}
@@ -35,7 +34,6 @@ use Rattle.peer.specs.Gate.{fits, gate_of, behind}
 use Rattle.peer.specs.declared.settings.Settings.{Settings}
 use Rattle.peer.specs.declared.Peer.{Peer}
 use Rattle.peer.specs.declared.gate.Lent.TheVariants as lent
-use Rattle.peer.specs.declared.gate.Gate.{Gate}
 use Rattle.peer.proofs.Gates.{sound_open, behind_has}
 use Rattle.peer.proofs.InClauses.{incoming_clauses, total_low}
 use Rattle.lifecycle.specs.Calls.{begin_fits, begun, begins_sound, begins, stated, sets_state_sound, sets_state}
@@ -56,7 +54,7 @@ use Rattle.laws.proofs.Untouched.{acknowledge_untouched, check_untouched, thrott
 use Rattle.dispatch.specs.Calls.{dispatches}
 use Rattle.dispatch.proofs.Moving.{dispatch_keeps}
 use Rattle.receive.specs.Calls.{answer_of, reply_of, receives_from, receives_sound, receives}
-use Rattle.receive.specs.declared.Reply.TheVariants as vr
+use Rattle.receive.specs.declared.Received.TheVariants as vr
 use Rattle.receive.proofs.Sound.{minus_plain, sum}
 use Rattle.receive.proofs.Taking.{receive_keeps}
 use Rattle.dispatch.specs.Dispatching.{ready_count, ready_last, moved_on, dispatched_by}
@@ -80,11 +78,11 @@ after s t =
     }
 
 -- what is behind any gate
-module _ (p : Peer) (g : Gate) (rest : Outcome Peer) where
+module _ (p : Peer) (g : Result ⊤ Refusal) (rest : Outcome Peer) where
   behind_steady : Steady p rest.after → Steady p (behind g p rest).after
   behind_steady s = behind_has g p rest (λ (o : Outcome Peer). Steady p o.after) (λ why. same p) (λ e. s)
 
-abbrev gate : Settings → Peer → Gate
+abbrev gate : Settings → Peer → Result ⊤ Refusal
 gate s p = gate_of (fits s lent.Nothing) (sound p)
 
 pub begin_steady : (s : Settings) (mtu count : ℕ) (p : Peer) → Steady p (begins s mtu count p).after
@@ -106,9 +104,9 @@ queued_steady : (x : Piece) (p : Peer) → Steady p (queued x p)
 unfolding queued queued_at
 queued_steady x p = go (lowest outgoing (used_out p.lists))
   where
-    go : (f : Free) → Steady p (queued_in f x p)
-    go (Lowest n) = record { window = record { base = refl; words = refl }; total = refl }
-    go Full = same p
+    go : (f : Option ℕ) → Steady p (queued_in f x p)
+    go (Some n) = record { window = record { base = refl; words = refl }; total = refl }
+    go None = same p
 
 all_steady : (xs : List Piece) (p : Peer) → Steady p (queued_all xs p)
 unfolding queued_all
@@ -136,9 +134,9 @@ pub step_steady : (s : Settings) (q : Queue) (time : ℕ) (p : Peer) → Steady 
 unfolding sent_as
 step_steady s q time p = behind_steady p (gate s p) (steps_sound q time p) (go (first (out_items (list_of q p.lists))))
   where
-    go : (f : First) → Steady p (steps_from f q time p).after
-    go Empty = same p
-    go (Slot n) = record { window = record { base = refl; words = refl }; total = refl }
+    go : (f : Option ℕ) → Steady p (steps_from f q time p).after
+    go None = same p
+    go (Some n) = record { window = record { base = refl; words = refl }; total = refl }
 
 pub dispatch_steady : (s : Settings) (channel : ℕ) (p : Peer) → Steady p (dispatches s channel p).after
 dispatch_steady s channel p =
@@ -173,7 +171,7 @@ receive_window s p =
 handed : (i : Incoming) (n : ℕ) → HandedOut (answer_of (reply_of i n)) i.channel n i.length
 handed i n = go (is_block i)
   where
-    go : (b : Bool) → HandedOut (answer_of (pick b (vr.Block i.channel n i.length) (vr.Packet i.channel n i.length))) i.channel n i.length
+    go : (b : Bool) → HandedOut (answer_of (Ok (Some (pick b (vr.Block i.channel n i.length) (vr.Packet i.channel n i.length))))) i.channel n i.length
     go true = inr refl
     go false = inl refl
 

@@ -1,5 +1,6 @@
 -- What an arrival does beside the window, whatever its answer: `unsequenced_stores`, `reliable_stores`; and dispatched only grows at its end:
 -- `unsequenced_adds`, `reliable_adds`. The argument: each fate of the definition in turn; the laws of a filled cell; a dispatch only adds.
+use Rattle.std.specs.Prelude.{Some}
 use Prim.Native.Nat.{ℕ, ◌+◌, ◌*◌}
 use mathlib.Core.Path.{◌≡◌, refl, ap}
 use mathlib.Core.Bool.{true}
@@ -10,7 +11,6 @@ use lib.Seq.{get_or-set_same, get_or-set_other}
 use Rattle.numbers.specs.declared.counters.Group.{Group}
 use Rattle.numbers.specs.declared.refusals.Refusal.TheVariants.{NotStored}
 use Rattle.record.specs.Lists.{incoming, in_items}
-use Rattle.cells.specs.declared.Free.TheVariants.{Lowest}
 use Rattle.record.specs.Sizes.{cell, store_length}
 use Rattle.record.specs.Damage.{below}
 use Rattle.record.specs.Fresh.{no_incoming}
@@ -41,7 +41,7 @@ use Rattle.laws.proofs.Reliable.{reliable_has, held_free, between, between_whole
 module _ (a : Arrival) (datagram : List ℕ) (x : State) (n : ℕ)
     (whole : Whole x.peer) (good : sound x.peer ≡ true) (long : length x.store ≡ store_length)
     (may : Admitted a x.peer.standing (length datagram))
-    (free : free_slot x.peer.lists x.peer.channels x.peer.standing.channels ≡ Lowest n) (l : Lists) (g : Unsequenced) (cs : List Channel) where
+    (free : free_slot x.peer.lists x.peer.channels x.peer.standing.channels ≡ Some n) (l : Lists) (g : Unsequenced) (cs : List Channel) where
   stored_stores : Stores a datagram x (stored_at n a datagram x l g cs)
   stored_stores =
       let p = x.peer in
@@ -109,7 +109,7 @@ module _ (s : Settings) (a : Arrival) (datagram : List ℕ) (x : State) (whole :
       (λ n good long may e. dispatched n good may (held_free s a datagram x n e))
     where
       dispatched : (n : ℕ) → sound x.peer ≡ true → Admitted a x.peer.standing (length datagram)
-          → free_slot x.peer.lists x.peer.channels x.peer.standing.channels ≡ Lowest n
+          → free_slot x.peer.lists x.peer.channels x.peer.standing.channels ≡ Some n
           → Adds x.peer (reliable_after (fate.Stored n) a datagram x).peer
       dispatched n good may free =
           let q = between a datagram x n whole good may free in

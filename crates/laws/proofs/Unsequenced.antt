@@ -1,5 +1,6 @@
 -- Soundness through the unsequenced arrival: a sound record stays sound, whatever becomes of the packet.
 -- The argument: soundness does not look at the window; a packet that is stored joins the pool at a free slot and dispatched at its end.
+use Rattle.std.specs.Prelude.{Some}
 use Prim.Native.Nat.{ℕ, ◌+◌, ◌≤◌, ◌<◌}
 use mathlib.Core.Path.{◌≡◌, refl, ap, ◌∙◌}
 use mathlib.Core.Bool.{Bool, true}
@@ -17,7 +18,6 @@ use Rattle.record.specs.Lists.{incoming, in_items}
 use Rattle.record.proofs.Keeps.{times, times_append}
 use Rattle.record.proofs.Views.{in_items_keep}
 use Rattle.cells.specs.Runs.{pushed}
-use Rattle.cells.specs.declared.Free.TheVariants.{Lowest}
 use Rattle.damage.proofs.SumLaws.{sum_append, blocks_append}
 use Rattle.record.specs.Sizes.{cell, store_length}
 use Rattle.record.specs.Damage.{below, held, lengths, blocks, one_block, used_in}
@@ -76,7 +76,7 @@ module _ (s : Settings) (a : Arrival) (group : Group) (datagram : List ℕ) (x :
       by_fate good long may (fate.Stored n) e = kept n good long may e
 
   -- a packet that is stored: its slot was free
-  pub stored_free : (n : ℕ) → (judged_on s group p).fate ≡ fate.Stored n → free_slot p.lists p.channels p.standing.channels ≡ Lowest n
+  pub stored_free : (n : ℕ) → (judged_on s group p).fate ≡ fate.Stored n → free_slot p.lists p.channels p.standing.channels ≡ Some n
   stored_free n e = room_stored s p.standing.state p.waiting.total _ n (judged_stored p.unsequenced group (room_of s p) n e)
 
 -- soundness does not look at the groups
@@ -87,7 +87,7 @@ regrouped_sound p g h = h
 -- slot n, free before, at the end of dispatched
 module _ (a : Arrival) (datagram : List ℕ) (x : State) (g : Unsequenced) (n : ℕ)
     (whole : Whole x.peer) (good : sound x.peer ≡ true) (may : Admitted a x.peer.standing (length datagram))
-    (free : free_slot x.peer.lists x.peer.channels x.peer.standing.channels ≡ Lowest n) where
+    (free : free_slot x.peer.lists x.peer.channels x.peer.standing.channels ≡ Some n) where
   abbrev q : Peer
   q = x.peer
 

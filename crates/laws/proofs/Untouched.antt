@@ -1,9 +1,8 @@
 -- Acknowledgement, throttle and timeout check, for all inputs, refused or not, leave the incoming side as it was.
 -- The argument: no rule names it; a removal changes one of the three outgoing lists.
+use Rattle.std.specs.Prelude.{None, Option, Some}
 use Prim.Native.Nat.{ℕ}
 use mathlib.Core.Path.{refl}
-use Rattle.numbers.specs.declared.clock.Trip.{Trip}
-use Rattle.numbers.specs.declared.clock.Trip.TheVariants.{PassedOver, Taken}
 use Rattle.peer.specs.Damage.{sound}
 use Rattle.peer.specs.Outcome.{Outcome}
 use Rattle.peer.specs.Gate.{fits, gate_of, on_record}
@@ -30,9 +29,9 @@ throttle_untouched s sample p =
     behind_untouched s p (throttles_sound sample p)
     (record { unsequenced = refl; dispatched = refl; waiting = refl; channels = refl; incoming = refl })
 
-by_untouched : (t : Trip) (channel number clock : ℕ) (p : Peer) → Untouched p (acknowledges_by t channel number clock p).after
-by_untouched PassedOver channel number clock p = untouched p
-by_untouched (Taken sample) channel number clock p =
+by_untouched : (t : Option ℕ) (channel number clock : ℕ) (p : Peer) → Untouched p (acknowledges_by t channel number clock p).after
+by_untouched None channel number clock p = untouched p
+by_untouched (Some sample) channel number clock p =
     record {
       unsequenced = refl;
       dispatched = same_dispatched (spot_of p.outgoing number channel p.lists) p.lists;

@@ -1,5 +1,5 @@
 -- A record and the run of its sent commands: numbers and run as they are lent, and what they say of it when they come back.
-use Rattle.std.specs.Prelude.{ℕ, List, [], ◌∷◌, map, get_or, set}
+use Rattle.std.specs.Prelude.{ℕ, List, [], ◌∷◌, map, get_or, set, Ok}
 use Rattle.record.specs.Lists.{out_items}
 use Rattle.record.specs.Fresh.{no_outgoing}
 use Rattle.record.specs.Updates.{with_timeout}
@@ -46,4 +46,4 @@ abbrev pub lent_check : ℕ → Peer → Outcome Peer
 lent_check clock p =
     let w = walked_run p.limits clock (read_of (numbers_of p)) (run_of p) in
     let n = written_of w.walk in
-    record { answer = answer_of (reply_by (flag_of n.over)); after = walked_on p (as_walked p n w.run) }
+    record { answer = answer_of (Ok (reply_by (flag_of n.over))); after = walked_on p (as_walked p n w.run) }

@@ -1,9 +1,7 @@
 -- C-11: what the arrival of a piece does to slots, marks, second store and waiting total: nothing; or, stored, it begins a block in a slot that was free, in a second
 -- store of zeros and with no mark before it, and adds the block's total once; or it goes on with its channel's unfinished block and adds nothing. Its bytes
 -- go to its offset, its mark is set, one less remains. And which parts of the record it leaves, whatever its answer.
-use Rattle.std.specs.Prelude.{ℕ, ◌+◌, ◌≡◌, true, false, List, get_or}
-use Rattle.cells.specs.declared.Free.TheVariants.{Lowest}
-use Rattle.cells.specs.declared.First.TheVariants.{Slot, Empty}
+use Rattle.std.specs.Prelude.{ℕ, ◌+◌, ◌≡◌, true, false, List, get_or, None, Some}
 use Rattle.record.specs.Fresh.{no_incoming, no_channel}
 use Rattle.record.specs.Marks.{no_marks, piece_marked, with_piece}
 use Rattle.blocks.specs.Blocks.{like_first, block_of, one_less}
@@ -17,8 +15,8 @@ use Rattle.arrive_fragment.specs.declared.Piece.{Piece}
 
 pub record Opens (a : Piece) (datagram : List ℕ) (before after : State) : Type 0 where
   pub slot : ℕ
-  pub none : unfinished_on a before.peer ≡ Empty
-  pub free : free_slot before.peer.lists before.peer.channels before.peer.standing.channels ≡ Lowest slot
+  pub none : unfinished_on a before.peer ≡ None
+  pub free : free_slot before.peer.lists before.peer.channels before.peer.standing.channels ≡ Some slot
   pub holds : get_or after.peer.incoming slot no_incoming ≡ one_less (block_of a.byte a.channel a.start a.fragment)
   pub slots : (k : ℕ) → (k ≡ slot → ⊥) → get_or after.peer.incoming k no_incoming ≡ get_or before.peer.incoming k no_incoming
   pub unmarked : before.peer.marks ≡ no_marks
@@ -29,7 +27,7 @@ pub record Opens (a : Piece) (datagram : List ℕ) (before after : State) : Type
 
 pub record Continues (a : Piece) (datagram : List ℕ) (before after : State) : Type 0 where
   pub slot : ℕ
-  pub own : unfinished_on a before.peer ≡ Slot slot
+  pub own : unfinished_on a before.peer ≡ Some slot
   pub like : like_first a.fragment (get_or before.peer.incoming slot no_incoming) ≡ true
   pub unmarked : piece_marked before.peer.marks a.fragment.number ≡ false
   pub holds : get_or after.peer.incoming slot no_incoming ≡ one_less (get_or before.peer.incoming slot no_incoming)

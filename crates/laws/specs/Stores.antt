@@ -1,9 +1,8 @@
 -- What an arrival does to slots, store and waiting total: nothing; or, stored, it takes one slot that was free, puts its payload into that slot's cell,
 -- byte for byte, and adds its length once. Dispatched only grows at its end. The second store is no packet's (C-11).
-use Rattle.std.specs.Prelude.{ℕ, ◌+◌, ◌*◌, ◌≤◌, ◌<◌, ◌≡◌, List, ◌++◌, ◌⊎◌, take, drop, get_or}
+use Rattle.std.specs.Prelude.{ℕ, ◌+◌, ◌*◌, ◌≤◌, ◌<◌, ◌≡◌, List, ◌++◌, ◌⊎◌, take, drop, get_or, Some}
 use Rattle.std.proofs.Math.ListN as list
 use Rattle.record.specs.Lists.{in_items}
-use Rattle.cells.specs.declared.Free.TheVariants.{Lowest}
 use Rattle.record.specs.Sizes.{cell}
 use Rattle.record.specs.Fresh.{no_incoming}
 use Rattle.peer.specs.Outcome.{State, Outcome}
@@ -14,7 +13,7 @@ use Rattle.arrival.specs.declared.Arrival.{Arrival}
 
 pub record Stores (a : Arrival) (datagram : List ℕ) (before after : State) : Type 0 where
   pub slot : ℕ
-  pub free : free_slot before.peer.lists before.peer.channels before.peer.standing.channels ≡ Lowest slot
+  pub free : free_slot before.peer.lists before.peer.channels before.peer.standing.channels ≡ Some slot
   pub holds : get_or after.peer.incoming slot no_incoming ≡ arrived_slot a
   pub slots : (k : ℕ) → (k ≡ slot → ⊥) → get_or after.peer.incoming k no_incoming ≡ get_or before.peer.incoming k no_incoming
   pub payload : take a.length (drop (slot * cell) after.store) ≡ take a.length (drop a.place datagram)

@@ -16,9 +16,8 @@ use numbers::limits;
 use numbers::refusals::Refusal;
 use numbers::widths::{low8, low16, wide8, wide16};
 use peer::Peer;
-use peer::calls::Reply;
 use peer::defaults::Kept;
-use peer::gate::{Gate, Lent};
+use peer::gate::Lent;
 use peer::settings::Settings;
 use places::{RECORD, groups};
 use record::groups::{CHANNELS, Flow, Limits, Waiting};
@@ -39,29 +38,31 @@ fn begin_fits(mtu: u32, count: u32, already: u32) -> bool
 }
 
 // Needs no sound record.
-pub fn reset(words: &mut [u32; RECORD], settings: Settings) -> Reply
+pub fn reset(words: &mut [u32; RECORD], settings: Settings) -> Result<(), Refusal>
     ensures { Came answer_of (resets settings (whole words.old)) result (whole words.new) }
 {
     if !settings.is_fit() {
-        return Reply::Refused(Refusal::OutOfRange);
+        return Err(Refusal::OutOfRange);
     }
     let keep = kept(words);
     clear(words, 0, RECORD);
     refresh(words, settings.mtu, keep);
-    Reply::Done
+    Ok(())
 }
 
 // MTU and channels of all 0, before any channel was there.
-pub fn begin(words: &mut [u32; RECORD], settings: Settings, mtu: u32, count: u32) -> Reply
+pub fn begin(
+    words: &mut [u32; RECORD],
+    settings: Settings,
+    mtu: u32,
+    count: u32,
+) -> Result<(), Refusal>
     ensures { Came answer_of (begins settings mtu count (whole words.old)) result (whole words.new) }
 {
-    let asked = gate::ask(words, settings, Lent::Nothing);
-    if let Gate::Shut(why) = asked {
-        return Reply::Refused(why);
-    }
+    gate::ask(words, settings, Lent::Nothing)?;
     let mut standing = groups::standing(words);
     if !begin_fits(mtu, count, standing.channels) {
-        return Reply::Refused(Refusal::OutOfRange);
+        return Err(Refusal::OutOfRange);
     }
     standing.channels = count;
     groups::put_standing(words, standing);
@@ -69,24 +70,21 @@ pub fn begin(words: &mut [u32; RECORD], settings: Settings, mtu: u32, count: u32
     flow.mtu = mtu;
     groups::put_flow(words, flow);
     clear(words, places::CHANNELS, CHANNELS * places::CHANNEL_WIDTH);
-    Reply::Done
+    Ok(())
 }
 
 // Only the state changes.
-pub fn set_state(words: &mut [u32; RECORD], settings: Settings, state: u32) -> Reply
+pub fn set_state(words: &mut [u32; RECORD], settings: Settings, state: u32) -> Result<(), Refusal>
     ensures { Came answer_of (sets_state settings state (whole words.old)) result (whole words.new) }
 {
-    let asked = gate::ask(words, settings, Lent::Nothing);
-    if let Gate::Shut(why) = asked {
-        return Reply::Refused(why);
-    }
+    gate::ask(words, settings, Lent::Nothing)?;
     if Peer::ZOMBIE < state {
-        return Reply::Refused(Refusal::OutOfRange);
+        return Err(Refusal::OutOfRange);
     }
     let mut standing = groups::standing(words);
     standing.state = state;
     groups::put_standing(words, standing);
-    Reply::Done
+    Ok(())
 }
 
 // n numbers from place `at` on are 0.
@@ -94,16 +92,11 @@ fn clear(words: &mut [u32], at: usize, n: usize)
     requires { at + n ≤ length words.old }
     ensures { words.new ≡ paste words.old at (replicate n 0) n }
 {
-    let mut j: usize = 0;
-    while j < n {
-        words[at + j] = 0;
-        j = j + 1;
-    }
+    words[at..at + n].fill(0);
 }
 
 // What a reset keeps.
-fn kept(words: &[u32]) -> Kept
-    requires { length words.now ≡ record_length }
+fn kept(words: &[u32; RECORD]) -> Kept
     ensures { result ≡ kept (whole words.now) }
 {
     let incoming_peer = low16(words[1]);
@@ -120,9 +113,8 @@ fn kept(words: &[u32]) -> Kept
 }
 
 // The reset record, of numbers that are all 0.
-fn refresh(words: &mut [u32], mtu: u32, keep: Kept)
-    requires words_len { length words.old ≡ record_length }
-    requires words_value { words.old ≡ replicate record_length 0 }
+fn refresh(words: &mut [u32; RECORD], mtu: u32, keep: Kept)
+    requires { words.old ≡ replicate record_length 0 }
     ensures { whole words.new ≡ fresh_peer mtu keep }
 {
     put_ids(words, keep);
@@ -145,8 +137,7 @@ fn refresh(words: &mut [u32], mtu: u32, keep: Kept)
     groups::put_waiting(words, waiting);
 }
 
-fn put_ids(words: &mut [u32], keep: Kept)
-    requires { length words.old ≡ record_length }
+fn put_ids(words: &mut [u32; RECORD], keep: Kept)
     ensures { whole words.new ≡ with_ids (whole words.old) (fresh_ids keep) }
 {
     let to = wide16(Peer::OUTGOING_PEER);
@@ -160,8 +151,7 @@ fn put_ids(words: &mut [u32], keep: Kept)
     words[4] = incoming;
 }
 
-fn put_limits(words: &mut [u32], x: Limits)
-    requires { length words.old ≡ record_length }
+fn put_limits(words: &mut [u32; RECORD], x: Limits)
     ensures { whole words.new ≡ with_limits (whole words.old) x }
 {
     words[29] = x.ping;
@@ -170,8 +160,7 @@ fn put_limits(words: &mut [u32], x: Limits)
     words[32] = x.maximum;
 }
 
-fn put_reserved(words: &mut [u32], x: u16)
-    requires { length words.old ≡ record_length }
+fn put_reserved(words: &mut [u32; RECORD], x: u16)
     ensures { whole words.new ≡ with_unsequenced (whole words.old) (with_reserved (whole words.old).unsequenced x) }
 {
     words[156] = wide16(x);

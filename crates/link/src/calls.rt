@@ -1,5 +1,7 @@
 // Every call of document 01 and of C-11 as data, and its reply.
 // Those of a side are one case: ping, send, setup, send step, acknowledgement, timeout check and throttle; arrivals, dispatch and receive.
+use numbers::refusals::Refusal;
+
 #[derive(Clone, Copy)]
 pub enum Call {
     Reset,
@@ -12,7 +14,7 @@ pub enum Call {
 // Each call's own reply: reset, begin and set state share one.
 #[derive(Clone, Copy)]
 pub enum Reply {
-    Called(peer::calls::Reply),
+    Called(Result<(), Refusal>),
     Outward(link_out::calls::Reply),
     Inward(link_in::calls::Reply),
 }

@@ -21,25 +21,14 @@ pub fn call(
     ensures own { Own call result }
 {
     match call {
-        Call::Reset => {
-            let reply = lifecycle::reset(words, settings);
-            return Reply::Called(reply);
-        }
-        Call::Begin { mtu, channels } => {
-            let reply = lifecycle::begin(words, settings, mtu, channels);
-            return Reply::Called(reply);
-        }
-        Call::SetState { state } => {
-            let reply = lifecycle::set_state(words, settings, state);
-            return Reply::Called(reply);
-        }
-        Call::Outward(call) => {
-            let reply = link_out::call(words, settings, call);
-            return Reply::Outward(reply);
-        }
-        Call::Inward(call) => {
-            let reply = link_in::call(words, settings, call, store, second, datagram);
-            return Reply::Inward(reply);
-        }
+        Call::Reset => Reply::Called(lifecycle::reset(words, settings)),
+        Call::Begin { mtu, channels } => Reply::Called(lifecycle::begin(
+            words, settings, mtu, channels,
+        )),
+        Call::SetState { state } => Reply::Called(lifecycle::set_state(words, settings, state)),
+        Call::Outward(call) => Reply::Outward(link_out::call(words, settings, call)),
+        Call::Inward(call) => Reply::Inward(link_in::call(
+            words, settings, call, store, second, datagram,
+        )),
     }
 }

@@ -1,7 +1,9 @@
 // The calls of the receiving side as data, and their reply.
-use arrival::Arrival;
+use arrival::{Arrival, Arrived};
 use arrive_fragment::Piece;
 use numbers::counters::Group;
+use numbers::refusals::Refusal;
+use receive::Received;
 
 #[derive(Clone, Copy)]
 pub enum Call {
@@ -15,7 +17,7 @@ pub enum Call {
 // Each call's own reply: the arrivals share one.
 #[derive(Clone, Copy)]
 pub enum Reply {
-    Arrived(arrival::Reply),
-    Called(peer::calls::Reply),
-    Received(receive::Reply),
+    Arrived(Result<Arrived, Refusal>),
+    Called(Result<(), Refusal>),
+    Received(Result<Option<Received>, Refusal>),
 }

@@ -25,27 +25,16 @@ pub fn call(
     ensures own { Own call result }
 {
     match call {
-        Call::UnsequencedArrival { arrival, group } => {
-            let reply = arrive_unsequenced::arrive(
-                words, settings, store, datagram, arrival, group,
-            );
-            return Reply::Arrived(reply);
-        }
-        Call::ReliableArrival { arrival } => {
-            let reply = arrive_reliable::arrive(words, settings, store, datagram, arrival);
-            return Reply::Arrived(reply);
-        }
-        Call::FragmentArrival { piece } => {
-            let reply = arrive_fragment::arrive(words, settings, store, second, datagram, piece);
-            return Reply::Arrived(reply);
-        }
-        Call::Dispatch { channel } => {
-            let reply = dispatch::dispatch(words, settings, channel);
-            return Reply::Called(reply);
-        }
-        Call::Receive => {
-            let reply = receive::receive(words, settings);
-            return Reply::Received(reply);
-        }
+        Call::UnsequencedArrival { arrival, group } => Reply::Arrived(arrive_unsequenced::arrive(
+            words, settings, store, datagram, arrival, group,
+        )),
+        Call::ReliableArrival { arrival } => Reply::Arrived(arrive_reliable::arrive(
+            words, settings, store, datagram, arrival,
+        )),
+        Call::FragmentArrival { piece } => Reply::Arrived(arrive_fragment::arrive(
+            words, settings, store, second, datagram, piece,
+        )),
+        Call::Dispatch { channel } => Reply::Called(dispatch::dispatch(words, settings, channel)),
+        Call::Receive => Reply::Received(receive::receive(words, settings)),
     }
 }

@@ -1,7 +1,12 @@
 // The calls of the sending side as data, and their reply.
+use acknowledge::Event;
 use numbers::counters::Reliable;
+use numbers::refusals::Refusal;
 use outbox::pieces::Piece;
+use record::groups::Outgoing;
 use send_step::heads::Queue;
+use throttle::Turn;
+use timeouts::Checked;
 
 #[derive(Clone, Copy)]
 pub enum Call {
@@ -35,9 +40,9 @@ pub enum Call {
 // Each call's own reply: ping, send and setup share one.
 #[derive(Clone, Copy)]
 pub enum Reply {
-    Called(peer::calls::Reply),
-    Stepped(send_step::Reply),
-    Acknowledged(acknowledge::Reply),
-    Checked(timeouts::Reply),
-    Throttled(round_trip::Reply),
+    Called(Result<(), Refusal>),
+    Stepped(Result<Option<Outgoing>, Refusal>),
+    Acknowledged(Result<Event, Refusal>),
+    Checked(Result<Checked, Refusal>),
+    Throttled(Result<Turn, Refusal>),
 }

@@ -17,42 +17,27 @@ pub fn call(words: &mut [u32; RECORD], settings: Settings, call: Call) -> Reply
     ensures own { Own call result }
 {
     match call {
-        Call::Ping => {
-            let reply = setup::ping(words, settings);
-            return Reply::Called(reply);
-        }
+        Call::Ping => Reply::Called(setup::ping(words, settings)),
         Call::Send {
             channel,
             length,
             flags,
-        } => {
-            let reply = send::send(words, settings, channel, length, flags);
-            return Reply::Called(reply);
-        }
-        Call::Setup { piece } => {
-            let reply = setup::setup(words, settings, piece);
-            return Reply::Called(reply);
-        }
-        Call::SendStep { queue, time } => {
-            let reply = send_step::step(words, settings, queue, time);
-            return Reply::Stepped(reply);
-        }
+        } => Reply::Called(send::send(words, settings, channel, length, flags)),
+        Call::Setup { piece } => Reply::Called(setup::setup(words, settings, piece)),
+        Call::SendStep { queue, time } => Reply::Stepped(send_step::step(
+            words, settings, queue, time,
+        )),
         Call::Acknowledgement {
             channel,
             number,
             sent,
             clock,
-        } => {
-            let reply = acknowledge::acknowledge(words, settings, channel, number, sent, clock);
-            return Reply::Acknowledged(reply);
-        }
-        Call::TimeoutCheck { clock } => {
-            let reply = timeouts::check(words, settings, clock);
-            return Reply::Checked(reply);
-        }
-        Call::Throttle { sample } => {
-            let reply = round_trip::throttle(words, settings, sample);
-            return Reply::Throttled(reply);
-        }
+        } => Reply::Acknowledged(acknowledge::acknowledge(
+            words, settings, channel, number, sent, clock,
+        )),
+        Call::TimeoutCheck { clock } => Reply::Checked(timeouts::check(words, settings, clock)),
+        Call::Throttle { sample } => Reply::Throttled(round_trip::throttle(
+            words, settings, sample,
+        )),
     }
 }

@@ -9,7 +9,7 @@ use lib.ListN.{length, get_or, set, take, drop, length-take, length-drop, length
 use lib.Seq.{get_or-take, get_or-drop}
 use Rattle.cells.specs.Runs.{first}
 use Rattle.cells.specs.Free.{marked_all}
-use Rattle.cells.specs.declared.First.TheVariants.{Slot}
+use Rattle.std.specs.Prelude.{Some}
 use Rattle.cells.proofs.Views.{rest_step, rest_end}
 use Rattle.lists.specs.Rows.{low, section, row_at, items_of}
 use Rattle.lists.proofs.Mapped.{map-take}
@@ -45,7 +45,7 @@ module _ (ws : List ℕ) (at n : ℕ) (h : at + n + 1 ≤ length ws) where
       ∙ ap (λ (xs : List ℕ). get_or xs k 0) (sym items_are)
 
 -- the head
-pub first_at : (xs : List ℕ) → (length xs ≡ 0 → ⊥) → first xs ≡ Slot (get_or xs 0 0)
+pub first_at : (xs : List ℕ) → (length xs ≡ 0 → ⊥) → first xs ≡ Some (get_or xs 0 0)
 first_at [] d = absurd (d refl)
 first_at (x ∷ xs) d = refl
 

@@ -6,7 +6,6 @@ ghost use Rattle.cells.specs.Runs.{pushed, inserted, without, prepended, moved_t
 ghost use Rattle.cells.specs.Free.{marked_all};
 ghost use Rattle.lists.specs.Rows.{low, row_at, items_of, Keeps};
 
-use cells::{First, least};
 use numbers::widths::low16;
 
 // How many slots the list names: never more than its cells.
@@ -14,7 +13,7 @@ pub fn count(words: &[u32], at: usize, size: usize) -> usize
     requires { at + size + 1 ≤ length words.now }
     ensures { result ≡ length (items_of (row_at at size words.now)) }
 {
-    least(low16(words[at]) as usize, size)
+    (low16(words[at]) as usize).min(size)
 }
 
 // The slot at place k; 0 where the list has no such place.
@@ -29,14 +28,14 @@ pub fn slot_at(words: &[u32], at: usize, size: usize, k: usize) -> u16
 }
 
 // The slot at the head.
-pub fn head(words: &[u32], at: usize, size: usize) -> First
+pub fn head(words: &[u32], at: usize, size: usize) -> Option<u16>
     requires { at + size + 1 ≤ length words.now }
     ensures { result ≡ first (items_of (row_at at size words.now)) }
 {
     if count(words, at, size) == 0 {
-        return First::Empty;
+        return None;
     }
-    First::Slot(slot_at(words, at, size, 0))
+    Some(slot_at(words, at, size, 0))
 }
 
 // Each slot that the list names and that exists gets a mark.
@@ -45,13 +44,11 @@ pub fn mark(words: &[u32], at: usize, size: usize, marks: &mut [u8])
     ensures { marks.new ≡ marked_all marks.old (items_of (row_at at size words.now)) }
 {
     let n = count(words, at, size);
-    let mut k: usize = 0;
-    while k < n {
+    for k in 0..n {
         let s = slot_at(words, at, size, k) as usize;
         if s < marks.len() {
             marks[s] = 1;
         }
-        k = k + 1;
     }
 }
 
@@ -62,9 +59,7 @@ pub fn push(words: &mut [u32], at: usize, size: usize, s: u16)
     ensures { Keeps at size words.old (pushed size (items_of (row_at at size words.old)) s) words.new }
 {
     let n = low16(words[at]) as usize;
-    let from = at + 1;
-    let end = at + 1 + size;
-    let m = cells::push(&mut words[from..end], n, s as u32);
+    let m = cells::push(&mut words[at + 1..at + 1 + size], n, s as u32);
     words[at] = m as u32;
 }
 
@@ -75,9 +70,7 @@ pub fn insert(words: &mut [u32], at: usize, size: usize, i: usize, s: u16)
     ensures { Keeps at size words.old (inserted size (items_of (row_at at size words.old)) i s) words.new }
 {
     let n = low16(words[at]) as usize;
-    let from = at + 1;
-    let end = at + 1 + size;
-    let m = cells::insert(&mut words[from..end], n, i, s as u32);
+    let m = cells::insert(&mut words[at + 1..at + 1 + size], n, i, s as u32);
     words[at] = m as u32;
 }
 
@@ -88,9 +81,7 @@ pub fn remove(words: &mut [u32], at: usize, size: usize, i: usize)
     ensures { Keeps at size words.old (without (items_of (row_at at size words.old)) i) words.new }
 {
     let n = low16(words[at]) as usize;
-    let from = at + 1;
-    let end = at + 1 + size;
-    let m = cells::remove(&mut words[from..end], n, i);
+    let m = cells::remove(&mut words[at + 1..at + 1 + size], n, i);
     words[at] = m as u32;
 }
 
@@ -101,9 +92,7 @@ pub fn cut(words: &mut [u32], at: usize, size: usize, k: usize)
     ensures { Keeps at size words.old (drop k (items_of (row_at at size words.old))) words.new }
 {
     let n = low16(words[at]) as usize;
-    let from = at + 1;
-    let end = at + 1 + size;
-    let m = cells::cut(&mut words[from..end], n, k);
+    let m = cells::cut(&mut words[at + 1..at + 1 + size], n, k);
     words[at] = m as u32;
 }
 
@@ -114,9 +103,7 @@ pub fn prepend(words: &mut [u32], at: usize, size: usize, run: &[u32], k: usize)
     ensures { Keeps at size words.old (prepended size (map low (take k run.now)) (items_of (row_at at size words.old))) words.new }
 {
     let n = low16(words[at]) as usize;
-    let from = at + 1;
-    let end = at + 1 + size;
-    let m = cells::prepend(&mut words[from..end], n, run, k);
+    let m = cells::prepend(&mut words[at + 1..at + 1 + size], n, run, k);
     words[at] = m as u32;
 }
 
@@ -127,8 +114,6 @@ pub fn append(words: &mut [u32], at: usize, size: usize, run: &[u32], k: usize)
     ensures { Keeps at size words.old (moved_to size k (map low run.now) (items_of (row_at at size words.old))) words.new }
 {
     let n = low16(words[at]) as usize;
-    let from = at + 1;
-    let end = at + 1 + size;
-    let m = cells::append(&mut words[from..end], n, run, run.len(), k);
+    let m = cells::append(&mut words[at + 1..at + 1 + size], n, run, run.len(), k);
     words[at] = m as u32;
 }

@@ -68,19 +68,18 @@ pub extern "C" fn measure_reliable(
 fn piece_of(length: u16, number: u32, total: u32, offset: u32) -> Piece
     ensures { result ≡ piece_of length number total offset }
 {
-    let fragment = Fragment {
-        length,
-        count: 2,
-        number,
-        total,
-        offset,
-    };
     Piece {
         byte: FRAGMENT,
         channel: 0,
         number: Reliable(1),
         start: Reliable(1),
-        fragment,
+        fragment: Fragment {
+            length,
+            count: 2,
+            number,
+            total,
+            offset,
+        },
         place: 0,
     }
 }

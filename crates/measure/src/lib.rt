@@ -29,19 +29,14 @@ pub const SETTINGS: Settings = Settings {
 pub extern "C" fn measure_sound(words: &[u32; RECORD]) -> u32
     ensures { result ≡ pick (sound (whole words.now)) 1 0 }
 {
-    if gate::sound(words) {
-        return 1;
-    }
-    0
+    u32::from(gate::sound(words))
 }
 
 #[unsafe(no_mangle)]
 pub extern "C" fn measure_reset(words: &mut [u32; RECORD], mtu: u32) -> u32
     ensures { Measured (resets (settings_of mtu) (whole words.old)) result (whole words.new) }
 {
-    let mut settings = SETTINGS;
-    settings.mtu = mtu;
-    let reply = lifecycle::reset(words, settings);
+    let reply = lifecycle::reset(words, Settings { mtu, ..SETTINGS });
     telling::called(reply)
 }
 
@@ -57,8 +52,6 @@ pub extern "C" fn measure_begin(words: &mut [u32; RECORD], mtu: u32, count: u32)
 pub extern "C" fn measure_state(words: &mut [u32; RECORD], mtu: u32, state: u32) -> u32
     ensures { Measured (sets_state (settings_of mtu) state (whole words.old)) result (whole words.new) }
 {
-    let mut settings = SETTINGS;
-    settings.mtu = mtu;
-    let reply = lifecycle::set_state(words, settings, state);
+    let reply = lifecycle::set_state(words, Settings { mtu, ..SETTINGS }, state);
     telling::called(reply)
 }

@@ -6,6 +6,8 @@ ghost use Rattle.measure.specs.Measured.{settings_of, sending, call_of, Measured
 
 use crate::{SETTINGS, telling};
 use link::calls::Call;
+use link_in::calls::Call as Inward;
+use link_out::calls::Call as Outward;
 use places::RECORD;
 
 // A send on channel 0 through the link.
@@ -20,12 +22,11 @@ pub extern "C" fn measure_link_send(
 ) -> u32
     ensures { Measured (calls (settings_of 1392) (sending length flags) datagram.now (record { peer = whole words.old; store = store.old; second = second.old })) result (record { peer = whole words.new; store = store.new; second = second.new }) }
 {
-    let send = link_out::calls::Call::Send {
+    let call = Call::Outward(Outward::Send {
         channel: 0,
         length,
         flags,
-    };
-    let call = Call::Outward(send);
+    });
     let reply = link::lent::call(words, SETTINGS, call, store, second, datagram);
     telling::linked(reply)
 }
@@ -34,29 +35,18 @@ pub extern "C" fn measure_link_send(
 pub fn call_of(kind: u32, a: u32, b: u32) -> Call
     ensures { result ≡ call_of kind a b }
 {
-    if kind == 0 {
-        let send = link_out::calls::Call::Send {
+    match kind {
+        0 => Call::Outward(Outward::Send {
             channel: 0,
             length: a,
             flags: b,
-        };
-        return Call::Outward(send);
+        }),
+        1 => Call::Outward(Outward::Ping),
+        2 => Call::Outward(Outward::TimeoutCheck { clock: a }),
+        3 => Call::Inward(Inward::Dispatch { channel: 0 }),
+        4 => Call::Inward(Inward::Receive),
+        _ => Call::SetState { state: a },
     }
-    if kind == 1 {
-        return Call::Outward(link_out::calls::Call::Ping);
-    }
-    if kind == 2 {
-        let check = link_out::calls::Call::TimeoutCheck { clock: a };
-        return Call::Outward(check);
-    }
-    if kind == 3 {
-        let dispatch = link_in::calls::Call::Dispatch { channel: 0 };
-        return Call::Inward(dispatch);
-    }
-    if kind == 4 {
-        return Call::Inward(link_in::calls::Call::Receive);
-    }
-    Call::SetState { state: a }
 }
 
 #[unsafe(no_mangle)]

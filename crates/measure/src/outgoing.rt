@@ -15,6 +15,7 @@ use command::bytes;
 use command::fields::{Command, Fields};
 use numbers::counters::Reliable;
 use outbox::pieces::Piece;
+use peer::settings::Settings;
 use places::RECORD;
 use record::groups::ITSELF;
 use send_step::heads::Queue;
@@ -36,9 +37,7 @@ const DISCONNECTING: Piece = Piece {
 pub extern "C" fn measure_ping(words: &mut [u32; RECORD], mtu: u32) -> u32
     ensures { Measured (pings (settings_of mtu) (whole words.old)) result (whole words.new) }
 {
-    let mut settings = SETTINGS;
-    settings.mtu = mtu;
-    let reply = setup::ping(words, settings);
+    let reply = setup::ping(words, Settings { mtu, ..SETTINGS });
     telling::called(reply)
 }
 
@@ -60,8 +59,7 @@ pub extern "C" fn measure_send(
 ) -> u32
     ensures { Measured (sends (settings_of mtu) channel length flags (whole words.old)) result (whole words.new) }
 {
-    let mut settings = SETTINGS;
-    settings.mtu = mtu;
+    let settings = Settings { mtu, ..SETTINGS };
     let reply = send::send(words, settings, channel, length, flags);
     telling::called(reply)
 }
@@ -70,10 +68,10 @@ pub extern "C" fn measure_send(
 fn queue_of(list: u32) -> Queue
     ensures { result ≡ queue_of list }
 {
-    if list == 0 {
-        return Queue::Outgoing;
+    match list {
+        0 => Queue::Outgoing,
+        _ => Queue::Reliable,
     }
-    Queue::Reliable
 }
 
 #[unsafe(no_mangle)]

@@ -12,92 +12,91 @@ ghost use Rattle.link_in.specs.Steps as inward;
 ghost use Rattle.link.specs.Steps as linking;
 ghost use Rattle.measure.specs.Measured.{told};
 
+use acknowledge::Event;
+use arrival::Arrived;
+use numbers::refusals::Refusal;
+use receive::Received;
+use record::groups::Outgoing;
+use throttle::Turn;
+use timeouts::Checked;
+
 // Reset, begin, set state, setup, send, ping and dispatch.
-pub(crate) fn called(reply: peer::calls::Reply) -> u32
+pub(crate) fn called(reply: Result<(), Refusal>) -> u32
     ensures { result ≡ told (calls.answer_of reply) }
 {
     match reply {
-        peer::calls::Reply::Done => 0,
-        peer::calls::Reply::Refused(why) => why.number(),
+        Ok(()) => 0,
+        Err(why) => u32::from(why),
     }
 }
 
 // 1 for a head.
-pub(crate) fn stepped(reply: send_step::Reply) -> u32
+pub(crate) fn stepped(reply: Result<Option<Outgoing>, Refusal>) -> u32
     ensures { result ≡ told (stepping.answer_of reply) }
 {
     match reply {
-        send_step::Reply::Nothing => 0,
-        send_step::Reply::Head(_o) => 1,
-        send_step::Reply::Refused(why) => why.number(),
+        Ok(None) => 0,
+        Ok(Some(_)) => 1,
+        Err(why) => u32::from(why),
     }
 }
 
 // 1 for done, the events as the rule numbers them.
-pub(crate) fn acknowledged(reply: acknowledge::Reply) -> u32
+pub(crate) fn acknowledged(reply: Result<Event, Refusal>) -> u32
     ensures { result ≡ told (acknowledging.answer_of reply) }
 {
     match reply {
-        acknowledge::Reply::Passed => 0,
-        acknowledge::Reply::Done => 1,
-        acknowledge::Reply::Connect => 2,
-        acknowledge::Reply::Disconnect => 3,
-        acknowledge::Reply::DisconnectNow => 4,
-        acknowledge::Reply::Refused(why) => why.number(),
+        Ok(Event::Passed) => 0,
+        Ok(Event::Done) => 1,
+        Ok(Event::Connect) => 2,
+        Ok(Event::Disconnect) => 3,
+        Ok(Event::DisconnectNow) => 4,
+        Err(why) => u32::from(why),
     }
 }
 
 // 1 for done, 3 for given up.
-pub(crate) fn checked(reply: timeouts::Reply) -> u32
+pub(crate) fn checked(reply: Result<Checked, Refusal>) -> u32
     ensures { result ≡ told (checking.answer_of reply) }
 {
     match reply {
-        timeouts::Reply::Done => 1,
-        timeouts::Reply::Disconnect => 3,
-        timeouts::Reply::Refused(why) => why.number(),
+        Ok(Checked::Done) => 1,
+        Ok(Checked::Disconnect) => 3,
+        Err(why) => u32::from(why),
     }
 }
 
 // 1 for raised; lowered is below 0 and reads as 0.
-pub(crate) fn throttled(reply: round_trip::Reply) -> u32
+pub(crate) fn throttled(reply: Result<Turn, Refusal>) -> u32
     ensures { result ≡ told (throttling.answer_of reply) }
 {
     match reply {
-        round_trip::Reply::Held => 0,
-        round_trip::Reply::Raised => 1,
-        round_trip::Reply::Lowered => 0,
-        round_trip::Reply::Refused(why) => why.number(),
+        Ok(Turn::Held | Turn::Lowered) => 0,
+        Ok(Turn::Raised) => 1,
+        Err(why) => u32::from(why),
     }
 }
 
 // 1 for stored.
-pub(crate) fn arrived(reply: arrival::Reply) -> u32
+pub(crate) fn arrived(reply: Result<Arrived, Refusal>) -> u32
     ensures { result ≡ told (arriving.answer_of reply) }
 {
     match reply {
-        arrival::Reply::Passed => 0,
-        arrival::Reply::Stored => 1,
-        arrival::Reply::Refused(why) => why.number(),
+        Ok(Arrived::Passed) => 0,
+        Ok(Arrived::Stored) => 1,
+        Err(why) => u32::from(why),
     }
 }
 
 // 1 for a packet, 2 for a block.
-pub(crate) fn received(reply: receive::Reply) -> u32
+pub(crate) fn received(reply: Result<Option<Received>, Refusal>) -> u32
     ensures { result ≡ told (receiving.answer_of reply) }
 {
     match reply {
-        receive::Reply::Nothing => 0,
-        receive::Reply::Packet {
-            channel: _,
-            cell: _,
-            length: _,
-        } => 1,
-        receive::Reply::Block {
-            channel: _,
-            cell: _,
-            length: _,
-        } => 2,
-        receive::Reply::Refused(why) => why.number(),
+        Ok(None) => 0,
+        Ok(Some(Received::Packet { .. })) => 1,
+        Ok(Some(Received::Block { .. })) => 2,
+        Err(why) => u32::from(why),
     }
 }
 

@@ -3,8 +3,7 @@
 use Rattle.std.proofs.Common.{◌≡◌, ℕ, List, [], ◌∷◌, get_or, sym, refl, ap, ◌∙◌, arith}
 use Rattle.numbers.specs.Answers.{Answer, number_of, done, refused, numbers_of}
 use Rattle.numbers.specs.Clock.{answer_of, sampled}
-use Rattle.numbers.specs.declared.clock.Trip.{Trip}
-use Rattle.numbers.specs.declared.clock.Trip.TheVariants.{PassedOver, Taken}
+use Rattle.std.specs.Prelude.{Option, Some, None}
 use Rattle.numbers.specs.declared.refusals.Refusal.{Refusal}
 use Rattle.numbers.specs.declared.refusals.Refusal.TheVariants.{NotConnected, InvalidChannel, PacketTooLarge, FragmentsExceeded, FailedToQueue, NotReceiving, LengthTooLarge, NotStored, BadCommand, NotRemoved, OutOfRange, NoRoom, Damaged, BadFragment, Unreadable}
 
@@ -86,11 +85,11 @@ done_apart xs ys e = sym (numbers_of-done xs) ∙ ap numbers_of e ∙ numbers_of
 abbrev value : ℕ → Answer → ℕ
 value i a = get_or (numbers_of a) i 0
 
-pub trips_apart : (a b : Trip) → answer_of a ≡ answer_of b → a ≡ b
-trips_apart PassedOver PassedOver e = refl
-trips_apart PassedOver (Taken t) e = absurd (omega (arith, ap (value 0) e))
-trips_apart (Taken s) PassedOver e = absurd (omega (arith, ap (value 0) e))
-trips_apart (Taken s) (Taken t) e = ap Taken (ap (value 1) e)
+pub trips_apart : (a b : Option ℕ) → answer_of a ≡ answer_of b → a ≡ b
+trips_apart None None e = refl
+trips_apart None (Some t) e = absurd (omega (arith, ap (value 0) e))
+trips_apart (Some s) None e = absurd (omega (arith, ap (value 0) e))
+trips_apart (Some s) (Some t) e = ap Some (ap (value 1) e)
 
-pub sample_settled : (clock sent : ℕ) (a b : Trip) → answer_of a ≡ sampled clock sent → answer_of b ≡ sampled clock sent → a ≡ b
+pub sample_settled : (clock sent : ℕ) (a b : Option ℕ) → answer_of a ≡ sampled clock sent → answer_of b ≡ sampled clock sent → a ≡ b
 sample_settled clock sent a b p q = trips_apart a b (p ∙ sym q)

@@ -1,10 +1,8 @@
 -- Times on a clock of 32 bits.
-use Rattle.std.specs.Prelude.{ℕ, ◌+◌, ◌-◌, ◌%◌, [], ◌∷◌, nat_le, nat_lt}
+use Rattle.std.specs.Prelude.{ℕ, ◌+◌, ◌-◌, ◌%◌, [], ◌∷◌, nat_le, nat_lt, Option, Some, None}
 use Rattle.numbers.specs.Pick.{pick, both}
 use Rattle.numbers.specs.Modulo.{minus}
 use Rattle.numbers.specs.Answers.{Answer, done}
-use Rattle.numbers.specs.declared.clock.Trip.{Trip}
-use Rattle.numbers.specs.declared.clock.Trip.TheVariants.{PassedOver, Taken}
 
 -- "The distance of two times is a - b modulo 2^32; if that is 86,400,000 or more, b - a modulo 2^32."
 abbrev pub distance : ℕ → ℕ → ℕ
@@ -21,14 +19,14 @@ completed clock sent =
 abbrev pub gap : ℕ → ℕ → ℕ
 gap clock sent = minus 32 clock (completed clock sent)
 
-abbrev pub trip_of : ℕ → ℕ → Trip
+abbrev pub trip_of : ℕ → ℕ → Option ℕ
 trip_of clock sent =
-    pick (nat_le 86400000 (gap clock sent)) PassedOver (Taken (pick (nat_lt (gap clock sent) 1) 1 (gap clock sent)))
+    pick (nat_le 86400000 (gap clock sent)) None (Some (pick (nat_lt (gap clock sent) 1) 1 (gap clock sent)))
 
 -- 0 and which: passed over, or the sample
-abbrev pub answer_of : Trip → Answer
-answer_of PassedOver = done (0 ∷ [])
-answer_of (Taken s) = done (1 ∷ s ∷ [])
+abbrev pub answer_of : Option ℕ → Answer
+answer_of None = done (0 ∷ [])
+answer_of (Some s) = done (1 ∷ s ∷ [])
 
 abbrev pub sampled : ℕ → ℕ → Answer
 sampled clock sent = answer_of (trip_of clock sent)

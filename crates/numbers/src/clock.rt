@@ -8,9 +8,9 @@ pub const OVERFLOW: u32 = 86400000;
 pub fn distance(a: u32, b: u32) -> u32
     ensures { result ≡ distance a b }
 {
-    let plain = std::num::wrapping_sub_u32(a, b);
+    let plain = a.wrapping_sub(b);
     if OVERFLOW <= plain {
-        std::num::wrapping_sub_u32(b, a)
+        b.wrapping_sub(a)
     } else {
         plain
     }
@@ -28,25 +28,19 @@ pub fn completed(clock: u32, sent: u16) -> u32
     if 32768 <= low {
         return near;
     }
-    std::num::wrapping_sub_u32(near, 65536)
-}
-
-#[derive(Clone, Copy)]
-pub enum Trip {
-    PassedOver,
-    Taken(u32),
+    near.wrapping_sub(65536)
 }
 
 // The round trip that an acknowledgement at the clock shows, at least 1; none for a sent time ahead of the clock.
-pub fn sample(clock: u32, sent: u16) -> Trip
+pub fn sample(clock: u32, sent: u16) -> Option<u32>
     ensures { answer_of result ≡ sampled clock sent }
 {
-    let gap = std::num::wrapping_sub_u32(clock, completed(clock, sent));
+    let gap = clock.wrapping_sub(completed(clock, sent));
     if OVERFLOW <= gap {
-        return Trip::PassedOver;
+        return None;
     }
     if gap < 1 {
-        return Trip::Taken(1);
+        return Some(1);
     }
-    Trip::Taken(gap)
+    Some(gap)
 }

@@ -16,7 +16,7 @@ impl Reliable {
     pub fn next(self) -> Reliable
         ensures { result.0 ≡ step self.0 }
     {
-        Reliable(std::num::wrapping_add_u16(self.0, 1))
+        Reliable(self.0.wrapping_add(1))
     }
 }
 
@@ -25,7 +25,7 @@ impl Unreliable {
     pub fn next(self) -> Unreliable
         ensures { result.0 ≡ step self.0 }
     {
-        Unreliable(std::num::wrapping_add_u16(self.0, 1))
+        Unreliable(self.0.wrapping_add(1))
     }
 }
 
@@ -34,6 +34,6 @@ impl Group {
     pub fn next(self) -> Group
         ensures { result.0 ≡ step self.0 }
     {
-        Group(std::num::wrapping_add_u16(self.0, 1))
+        Group(self.0.wrapping_add(1))
     }
 }

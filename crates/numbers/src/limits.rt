@@ -8,8 +8,5 @@ use crate::consts;
 pub fn mtu_fits(mtu: u32) -> bool
     ensures { result ≡ mtu_fits mtu }
 {
-    if mtu < consts::PROTOCOL_MINIMUM_MTU {
-        return false;
-    }
-    mtu <= consts::PROTOCOL_MAXIMUM_MTU
+    (consts::PROTOCOL_MINIMUM_MTU..=consts::PROTOCOL_MAXIMUM_MTU).contains(&mtu)
 }

@@ -21,11 +21,11 @@ pub enum Refusal {
     Unreadable,
 }
 
-impl Refusal {
-    pub fn number(self) -> u32
-        ensures { result ≡ number_of self }
-    {
-        match self {
+impl From<Refusal> for u32 {
+    ghost from_gives = { λ why n. n ≡ number_of why };
+
+    fn from(why: Refusal) -> u32 {
+        match why {
             Refusal::NotConnected => 1,
             Refusal::InvalidChannel => 2,
             Refusal::PacketTooLarge => 3,

@@ -7,7 +7,7 @@ ghost use Rattle.numbers.specs.Wrapping.{round_trip_timeout, reaches};
 pub fn double(x: u32) -> u32
     ensures { result ≡ sum 32 x x }
 {
-    std::num::wrapping_add_u32(x, x)
+    x.wrapping_add(x)
 }
 
 // A command's first timeout: round trip + 4 × variance, modulo 2^32.
@@ -16,7 +16,7 @@ pub fn round_trip_timeout(trip: u32, variance: u32) -> u32
 {
     let twice = double(variance);
     let four = double(twice);
-    std::num::wrapping_add_u32(trip, four)
+    trip.wrapping_add(four)
 }
 
 // Whether 2^(attempts - 1) is at least the limit, exactly, for every attempts.

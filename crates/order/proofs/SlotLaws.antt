@@ -7,10 +7,10 @@ use mathlib.Core.Bool.{Bool, true, false}
 use mathlib.Core.List.{List, [], ◌∷◌, ◌++◌, map}
 use native.Mathlib.Nat.{zero-add}
 use native.Mathlib.Omega.{arith}
-use lib.Dec.{ltb, eqb}
+use lib.Dec.{ltb}
 use lib.ListN.{length, get_or, set, take, drop, length-append, length-set, get_or-map}
 use lib.Seq.{get_or-set_same, get_or-set_other}
-use borrow.Author.Tests.{lt-ltb, le-ltb, ne_eqb, eqb-true}
+use borrow.Author.Tests.{lt-ltb, le-ltb, ne_eqb}
 use Rattle.numbers.specs.Pick.{pick, both}
 use Rattle.numbers.proofs.BoolLaws.{both_left, both_right}
 use Rattle.command.specs.Layout.{known, layout, width_of}
@@ -19,7 +19,6 @@ use Rattle.command.specs.Rows.{kind_of, row_of}
 use Rattle.command.specs.Shapes.{assembled}
 use Rattle.command.specs.declared.fields.Command.{Command}
 use Rattle.command.proofs.LayoutLaws.{known_low, known_high, layout-known, layout-length, each_layout}
-use Rattle.command.proofs.TableLaws.{below}
 use Rattle.command.proofs.RowLaws.{pad-length, pad_at}
 use Rattle.wire.specs.Decoded.{decoded, unnamed}
 use Rattle.wire.proofs.ShapeLaws.{cut as cut_to, cuts as cuts_to, shaped_row, shaped_row_lem}
@@ -155,21 +154,7 @@ module _ (k : ℕ) (xs : List ℕ) where
       go true e = ap (λ (c : Command). get_or (row_of c) j 0) (decoded_is true e) ∙ known_at j e ∙ ap (cut (8 * width_of k j)) (same (ltb j 3) (get_or xs j 0))
       go false e = ap (λ (c : Command). get_or (row_of c) j 0) (decoded_is false e) ∙ none_at j
 
--- a field by its width
-pub field_none : (w x : ℕ) → w ≡ 0 → plain 0 0 ≡ cut_place (8 * w) x
-field_none w x e = ap (plain 0) (cut_none x) ∙ ap (λ (v : ℕ). cut_place (8 * v) x) (sym e)
-
-pub field_of : (w v x : ℕ) → w ≡ v → cut_place (8 * v) x ≡ cut_place (8 * w) x
-field_of w v x e = ap (λ (u : ℕ). cut_place (8 * u) x) (sym e)
-
 -- ---- a slot by its row of numbers
--- its nine numbers: two of 16 bits, four of 32, two of 16, a flag
-abbrev nine_bits : ℕ → ℕ
-nine_bits j = pick (ltb j 2) 16 (pick (ltb j 6) 32 (pick (ltb j 8) 16 1))
-
-pub nine_bits_lem : (j : ℕ) → j < 9 → get_or (slot_bits 1) j 0 ≡ nine_bits j
-nine_bits_lem j h = eqb-true (get_or (slot_bits 1) j 0) (nine_bits j) (below (λ i. eqb (get_or (slot_bits 1) i 0) (nine_bits i)) 9 refl j h)
-
 abbrev eightfold : ℕ → ℕ
 eightfold bytes = 8 * bytes
 

@@ -1,15 +1,20 @@
 -- Which slots the lists name: the turns and the ends of the loops over a list and over the channels; two lists one after the other.
 -- The argument: the definition on the whole is the definition on what is left.
-use Prim.Native.Nat.{ℕ, ◌+◌, ◌*◌, ◌≤◌, ◌<◌, min}
-use mathlib.Core.Path.{◌≡◌, ap, ◌∙◌}
-use mathlib.Core.Bool.{Bool, true, false}
-use mathlib.Core.List.{List, ◌++◌}
+use Prim.Native.Nat.{ℕ, zero, suc, ◌+◌, ◌-◌, ◌*◌, ◌≤◌, ◌<◌, min}
+use mathlib.Core.Path.{◌≡◌, refl, sym, ap, ◌∙◌}
+use mathlib.Core.Bool.{Bool, true, false, ◌||◌}
+use mathlib.Core.List.{List, [], ◌∷◌, ◌++◌, map}
 use lib.ListN.{length, get_or, take, drop, length-take}
-use borrow.Author.Tests.{eq-eqb, ne_eqb}
+use lib.Seq.{take-take}
+use lib.Dec.{eqb}
+use native.Mathlib.Omega.{arith}
+use Rattle.std.specs.List.{list_any, between}
+use Rattle.lists.proofs.Placed.{items_are, items_length}
+use Rattle.lists.proofs.Mapped.{map-take}
 use Rattle.numbers.specs.Pick.{pick}
 use Rattle.cells.specs.Runs.{has}
-use Rattle.cells.proofs.Views.{rest_step, rest_end, part_step}
-use Rattle.lists.specs.Rows.{row_at, items_of}
+use Rattle.cells.proofs.Views.{rest_end, part_step}
+use Rattle.lists.specs.Rows.{low, section, row_at, items_of}
 use Rattle.record.specs.Damage.{below, held}
 use Rattle.record.specs.Lists.{in_items}
 use Rattle.record.specs.declared.groups.Channel.{Channel}
@@ -21,15 +26,35 @@ use Rattle.places.proofs.ChannelLaws.{held_is}
 use Rattle.order.specs.Table.{used_outgoing, used_incoming}
 
 -- ---- in one list
-module _ (xs : List ℕ) (k s : ℕ) where
-  pub has_hit : k < length xs → get_or xs k 0 ≡ s → has (drop k xs) s ≡ true
-  has_hit h e = rw (rest_step xs k 0 h, eq-eqb (get_or xs k 0) s e)
+or_pick : (b t : Bool) → (b || t) ≡ pick b true t
+or_pick true t = refl
+or_pick false t = refl
 
-  pub has_miss : k < length xs → (get_or xs k 0 ≡ s → ⊥) → has (drop k xs) s ≡ has (drop (k + 1) xs) s
-  has_miss h e = rw (rest_step xs k 0 h, ne_eqb (get_or xs k 0) s e)
+has_any : (xs : List ℕ) (s : ℕ) → list_any (λ x. eqb (low x) s) xs ≡ has (map low xs) s
+has_any [] s = refl
+has_any (x ∷ xs) s = ap (λ (b : Bool). eqb (low x) s || b) (has_any xs s) ∙ or_pick (eqb (low x) s) (has (map low xs) s)
 
-  pub has_end : length xs ≤ k → has (drop k xs) s ≡ false
-  has_end h = rw (rest_end xs k h)
+take_length : (xs : List ℕ) (v : ℕ) → take (length (take v xs)) xs ≡ take v xs
+take_length xs zero = refl
+take_length [] (suc v) = refl
+take_length (x ∷ xs) (suc v) = ap (λ (l : List ℕ). x ∷ l) (take_length xs v)
+
+-- its cells up to the length
+pub names_any : (ws : List ℕ) (at size n s : ℕ) → at + size + 1 ≤ length ws → n ≡ length (items_of (row_at at size ws))
+    → list_any (λ x. eqb (low x) s) (between (at + 1) (at + 1 + n) ws) ≡ has (items_of (row_at at size ws)) s
+names_any ws at size n s h e =
+    let cells : List ℕ = section (at + 1) size ws in
+    let v : ℕ = low (get_or ws at 0) in
+    let few : n ≡ min v size = e ∙ items_length ws at size h in
+    let some : at + 1 + n - (at + 1) ≡ n = omega arith in
+    let part : take n cells ≡ between (at + 1) (at + 1 + n) ws = take-take n size (drop (at + 1) ws) (omega arith) ∙ ap (λ (k : ℕ). take k (drop (at + 1) ws)) (sym some) in
+    let items : map low (take n cells) ≡ items_of (row_at at size ws) =
+    map-take low n cells
+    ∙ ap (λ (k : ℕ). take k (map low cells)) (e ∙ ap length (items_are ws at size h))
+    ∙ take_length (map low cells) v
+    ∙ sym (items_are ws at size h)
+    in
+    has_any (between (at + 1) (at + 1 + n) ws) s ∙ ap (λ (l : List ℕ). has (map low l) s) (sym part) ∙ ap (λ (l : List ℕ). has l s) items
 
 -- ---- in one of two
 module _ (xs ys : List ℕ) (s : ℕ) where

@@ -71,11 +71,8 @@ pub(crate) fn as_command(e: Place) -> Place
     ensures { result ≡ as_command e }
 {
     Place {
-        number: e.number,
-        bits: e.bits,
-        most: e.most,
         is_command: true,
-        is_written: e.is_written,
+        ..e
     }
 }
 
@@ -88,9 +85,7 @@ pub(crate) fn written_if(when: bool, e: Place) -> Place
     }
     Place {
         number: 0,
-        bits: e.bits,
-        most: e.most,
-        is_command: e.is_command,
         is_written: false,
+        ..e
     }
 }

@@ -11,7 +11,7 @@ ghost use Rattle.places.specs.Whole.{whole, record_length};
 ghost use Rattle.order.specs.Table.{table, nowhere, lists_places, things_places};
 
 use parts::FLAGS;
-use places::{CHANNEL_WIDTH, CHANNELS, DISPATCHED, IN_POOL, MARKS, POOL, SENT};
+use places::{CHANNEL_WIDTH, CHANNELS, DISPATCHED, IN_POOL, MARKS, POOL, RECORD, SENT};
 use pool::{IN_WIDTH, WIDTH};
 use record::{INCOMING, OUTGOING};
 
@@ -31,8 +31,7 @@ pub struct Place {
 const LIST: usize = 33;
 
 // Place i of the record.
-pub fn place_at(words: &[u32], i: usize) -> Place
-    requires { length words.now ≡ record_length }
+pub fn place_at(words: &[u32; RECORD], i: usize) -> Place
     ensures { result ≡ get_or (table (whole words.now)) i nowhere }
 {
     if i < SENT {
@@ -48,9 +47,8 @@ pub fn place_at(words: &[u32], i: usize) -> Place
 }
 
 // The lists: three of the outgoing pool, and the dispatched.
-fn lists(words: &[u32], j: usize) -> Place
-    requires words_len { length words.now ≡ record_length }
-    requires j_bound { j < 112 }
+fn lists(words: &[u32; RECORD], j: usize) -> Place
+    requires { j < 112 }
     ensures { result ≡ get_or (lists_places (whole words.now).lists) j nowhere }
 {
     if j < DISPATCHED - SENT {
@@ -60,8 +58,7 @@ fn lists(words: &[u32], j: usize) -> Place
 }
 
 // The channels, the slots of both pools, the marks.
-fn things(words: &[u32], j: usize) -> Place
-    requires { length words.now ≡ record_length }
+fn things(words: &[u32; RECORD], j: usize) -> Place
     ensures { result ≡ get_or (things_places (whole words.now)) j nowhere }
 {
     if j < POOL - CHANNELS {

@@ -8,12 +8,11 @@ ghost use Rattle.places.specs.Whole.{whole, record_length};
 ghost use Rattle.places.specs.Updates.{channel_at};
 ghost use Rattle.order.specs.Table.{nowhere, numbered, own_bits, own_row, group_bits, group_row, list_places, channel_places, slot_places, in_slot_places, marks_row, slot_bits, used_outgoing, used_incoming};
 ghost use Rattle.order.specs.CodeCuts.{cut_place, field_from, command_place};
-ghost use Rattle.pool.specs.Slots.{kind_from};
 
 use crate::{Place, kinds, used};
 use command::layout;
 use numbers::widths::low16;
-use places::{CHANNEL_WIDTH, CHANNELS, HELD, IN_POOL, MARKS, POOL};
+use places::{CHANNEL_WIDTH, CHANNELS, HELD, IN_POOL, MARKS, POOL, RECORD};
 use pool::{IN_WIDTH, WIDTH};
 use record::INCOMING;
 
@@ -34,9 +33,8 @@ const OWN: usize = 9;
 const KIND: usize = 25;
 
 // The numbers up to the outgoing reliable number: two peer ids, the connect id, two session ids, the others.
-pub(crate) fn own(words: &[u32], j: usize) -> Place
-    requires words_len { length words.now ≡ record_length }
-    requires j_bound { j < 43 }
+pub(crate) fn own(words: &[u32; RECORD], j: usize) -> Place
+    requires { j < 43 }
     ensures { result ≡ get_or (numbered own_bits (own_row (whole words.now))) j nowhere }
 {
     let x = words[j];
@@ -56,9 +54,8 @@ pub(crate) fn own(words: &[u32], j: usize) -> Place
 }
 
 // Flags, reserved and the two groups, then the words, event data, waiting total and host count.
-pub(crate) fn group(words: &[u32], j: usize) -> Place
-    requires words_len { length words.now ≡ record_length }
-    requires j_bound { j < 39 }
+pub(crate) fn group(words: &[u32; RECORD], j: usize) -> Place
+    requires { j < 39 }
     ensures { result ≡ get_or (numbered group_bits (group_row (whole words.now).unsequenced (whole words.now).waiting)) j nowhere }
 {
     let x = words[FLAGS + j];
@@ -85,8 +82,7 @@ pub(crate) fn list(words: &[u32], at: usize, size: usize, j: usize) -> Place
 }
 
 // A channel: its four numbers, its list.
-pub(crate) fn channel(words: &[u32], c: usize, j: usize) -> Place
-    requires words_len { length words.now ≡ record_length }
+pub(crate) fn channel(words: &[u32; RECORD], c: usize, j: usize) -> Place
     requires c_lt_channels { c < channels }
     requires j_bound { j < 17 }
     ensures { result ≡ get_or (channel_places (ltb c (whole words.now).standing.channels) (channel_at (whole words.now) c)) j nowhere }
@@ -104,16 +100,11 @@ fn slot_number(j: usize, x: u32) -> Place
     requires { j < 9 }
     ensures { result ≡ cut_place (get_or (slot_bits 1) j 0) x }
 {
-    if j < 2 {
-        return kinds::short(x);
+    match j {
+        0 | 1 | 6 | 7 => kinds::short(x),
+        2..=5 => kinds::long(x),
+        _ => kinds::flag(x),
     }
-    if j < 6 {
-        return kinds::long(x);
-    }
-    if j < 8 {
-        return kinds::short(x);
-    }
-    kinds::flag(x)
 }
 
 // A number of a command, by the bytes that its struct has for it; past the last field there is none.
@@ -121,29 +112,12 @@ fn field(bytes: usize, x: u32) -> Place
     requires { (bytes ≤ 4) × (bytes ≡ 3 → ⊥) }
     ensures { result ≡ cut_place (8 * bytes) x }
 {
-    if bytes == 0 {
-        return kinds::none();
+    match bytes {
+        0 => kinds::none(),
+        1 => kinds::byte(x),
+        2 => kinds::short(x),
+        _ => kinds::long(x),
     }
-    if bytes == 1 {
-        return kinds::byte(x);
-    }
-    if bytes == 2 {
-        return kinds::short(x);
-    }
-    kinds::long(x)
-}
-
-// The kind that a slot's fields have: an empty slot's where the number names none.
-fn kind_from(kind: u32) -> u8
-    ensures { result ≡ kind_from kind }
-{
-    if kind < 1 {
-        return 1;
-    }
-    if 12 < kind {
-        return 1;
-    }
-    kind as u8
 }
 
 // A field of a kind that is none reads 0.
@@ -153,13 +127,10 @@ fn field_from(kind: u32, j: usize, x: u32) -> u32
     if j < 3 {
         return x;
     }
-    if kind < 1 {
-        return 0;
+    match kind {
+        1..=12 => x,
+        _ => 0,
     }
-    if 12 < kind {
-        return 0;
-    }
-    x
 }
 
 // Number j of a command of a kind: the byte, the channel, the number, then the fields.
@@ -167,7 +138,7 @@ fn command(kind: u32, j: usize, x: u32) -> Place
     requires { j < 16 }
     ensures { result ≡ command_place kind j x }
 {
-    let bytes = layout::width_of(kind_from(kind), j);
+    let bytes = layout::width_of(pool::kind_from(kind), j);
     let e = field(bytes, field_from(kind, j, x));
     if j == 0 {
         return kinds::as_command(e);
@@ -176,8 +147,7 @@ fn command(kind: u32, j: usize, x: u32) -> Place
 }
 
 // An outgoing slot: nine numbers, its command, and its kind, which is never written.
-pub(crate) fn outgoing(words: &[u32], s: usize, j: usize) -> Place
-    requires words_len { length words.now ≡ record_length }
+pub(crate) fn outgoing(words: &[u32; RECORD], s: usize, j: usize) -> Place
     requires s_lt_outgoing { s < outgoing }
     requires j_bound { j < 26 }
     ensures { result ≡ get_or (slot_places (used_outgoing (whole words.now) s) (get_or (whole words.now).outgoing s no_outgoing)) j nowhere }
@@ -195,8 +165,7 @@ pub(crate) fn outgoing(words: &[u32], s: usize, j: usize) -> Place
 }
 
 // An incoming slot.
-pub(crate) fn incoming(words: &[u32], s: usize, j: usize) -> Place
-    requires words_len { length words.now ≡ record_length }
+pub(crate) fn incoming(words: &[u32; RECORD], s: usize, j: usize) -> Place
     requires s_lt_incoming { s < incoming }
     requires j_bound { j < 6 }
     ensures { result ≡ get_or (in_slot_places (used_incoming (whole words.now) s) (get_or (whole words.now).incoming s no_incoming)) j nowhere }
@@ -213,8 +182,7 @@ pub(crate) fn incoming(words: &[u32], s: usize, j: usize) -> Place
 }
 
 // The two words of marks; past them there is no place.
-pub(crate) fn mark(words: &[u32], j: usize) -> Place
-    requires { length words.now ≡ record_length }
+pub(crate) fn mark(words: &[u32; RECORD], j: usize) -> Place
     ensures { result ≡ get_or (numbered (32 ∷ 32 ∷ []) (marks_row (whole words.now).marks)) j nowhere }
 {
     if j < 2 {

@@ -7,8 +7,8 @@ ghost use Rattle.places.specs.Whole.{whole, record_length};
 ghost use Rattle.order.specs.Table.{used_outgoing, used_incoming};
 
 use crate::parts::COUNT;
-use cells::least;
-use places::{CHANNEL_WIDTH, CHANNELS, DISPATCHED, HELD, OUTGOING, RELIABLE, SENT};
+use numbers::widths::low16;
+use places::{CHANNEL_WIDTH, CHANNELS, DISPATCHED, HELD, OUTGOING, RECORD, RELIABLE, SENT};
 use record::groups::CHANNELS as ALL;
 use record::{INCOMING, OUTGOING as CELLS};
 
@@ -18,53 +18,37 @@ fn names(words: &[u32], at: usize, size: usize, s: usize) -> bool
     ensures { result ≡ has (items_of (row_at at size words.now)) s }
 {
     let n = lists::count(words, at, size);
-    let mut k: usize = 0;
-    while k < n {
-        if lists::slot_at(words, at, size, k) as usize == s {
-            return true;
-        }
-        k = k + 1;
-    }
-    false
+    let from = at + 1;
+    words[from..from + n]
+        .iter()
+        .any(|x| low16(*x) as usize == s)
 }
 
 // Whether an outgoing slot is used.
-pub fn outgoing(words: &[u32], s: usize) -> bool
-    requires { length words.now ≡ record_length }
+pub fn outgoing(words: &[u32; RECORD], s: usize) -> bool
     ensures { result ≡ used_outgoing (whole words.now) s }
 {
-    if names(words, SENT, CELLS, s) {
-        return true;
-    }
-    if names(words, RELIABLE, CELLS, s) {
-        return true;
-    }
-    names(words, OUTGOING, CELLS, s)
+    names(words, SENT, CELLS, s)
+        || names(words, RELIABLE, CELLS, s)
+        || names(words, OUTGOING, CELLS, s)
 }
 
 // Whether the list of a channel below the count names slot s.
-fn held(words: &[u32], s: usize) -> bool
-    requires { length words.now ≡ record_length }
+fn held(words: &[u32; RECORD], s: usize) -> bool
     ensures { result ≡ has (held_by (below (whole words.now).channels (whole words.now).standing.channels)) s }
 {
-    let count = least(words[COUNT] as usize, ALL);
-    let mut c: usize = 0;
-    while c < count {
+    let count = (words[COUNT] as usize).min(ALL);
+    for c in 0..count {
         if names(words, CHANNELS + c * CHANNEL_WIDTH + HELD, INCOMING, s) {
             return true;
         }
-        c = c + 1;
     }
     false
 }
 
 // Whether an incoming slot is used: by the dispatched ones, or by a channel below the count.
-pub fn incoming(words: &[u32], s: usize) -> bool
-    requires { length words.now ≡ record_length }
+pub fn incoming(words: &[u32; RECORD], s: usize) -> bool
     ensures { result ≡ used_incoming (whole words.now) s }
 {
-    if names(words, DISPATCHED, INCOMING, s) {
-        return true;
-    }
-    held(words, s)
+    names(words, DISPATCHED, INCOMING, s) || held(words, s)
 }

@@ -1,12 +1,11 @@
 -- Setting up on the lent record: what the code changes in its places is what the outbox with its lists has, and the record's other groups stay.
 -- The argument: each record on the way is a variable with an equation; the definitions compute.
+use Rattle.std.specs.Prelude.{None, Option, Some}
 use Rattle.std.proofs.Common.{◌≡◌, ℕ, ◌+◌, ◌<◌, ◌≤◌, min, true, List, ◌++◌, length, set, sym, refl, ap, ◌∙◌, subst, arith, length-append}
 use lib.ListN.{get_or-eq_default}
 use lib.Seq.{set_out}
 use Rattle.numbers.specs.Modulo.{sum}
 use Rattle.cells.specs.Free.{is_marked, first_from, nameable}
-use Rattle.cells.specs.declared.Free.{Free}
-use Rattle.cells.specs.declared.Free.TheVariants.{Lowest, Full}
 use Rattle.cells.proofs.Lowest.{first_exists, free_and_named}
 use Rattle.record.specs.Lists.{outgoing, out_items}
 use Rattle.record.specs.Room.{room_in}
@@ -73,30 +72,30 @@ Sets p o marks x r after y =
     × (y ≡ queued_by p (queueing (in_lists o marks p.lists) x))
 
 -- f is the lowest slot without a mark, as the code found it
-module _ (marks : List ℕ) (long : length marks ≡ outgoing) (f : Free) (fe : f ≡ first_from (is_marked marks) (min (length marks) nameable) 0) where
+module _ (marks : List ℕ) (long : length marks ≡ outgoing) (f : Option ℕ) (fe : f ≡ first_from (is_marked marks) (min (length marks) nameable) 0) where
   found_is : f ≡ first_from (is_marked marks) outgoing 0
   found_is = rw long at fe
 
-  pub found_exists : (s : ℕ) → f ≡ Lowest s → s < length marks
+  pub found_exists : (s : ℕ) → f ≡ Some s → s < length marks
   found_exists s e = rw long (first_exists (is_marked marks) outgoing s (sym found_is ∙ e))
 
   module _ (p : Peer) (o : lent.Outbox) (x : Piece) where
     abbrev By : lent.Outbox → List ℕ → Peer → Queued → Type 0
     By r after y q = (in_lists r after q.outbox.lists ≡ q.outbox) × (y ≡ queued_by p q)
 
-    queueing_is : (g : Free) → f ≡ g → queueing (in_lists o marks p.lists) x ≡ queueing_in g (in_lists o marks p.lists) x
-    queueing_is g e = ap (λ (f : Free). queueing_in f (in_lists o marks p.lists) x) (sym found_is ∙ e)
+    queueing_is : (g : Option ℕ) → f ≡ g → queueing (in_lists o marks p.lists) x ≡ queueing_in g (in_lists o marks p.lists) x
+    queueing_is g e = ap (λ (f : Option ℕ). queueing_in f (in_lists o marks p.lists) x) (sym found_is ∙ e)
 
-    pub sets_none : Whole p → f ≡ Full → Sets p o marks x o marks p
+    pub sets_none : Whole p → f ≡ None → Sets p o marks x o marks p
     sets_none s e =
-        subst (By o marks p) (sym (queueing_is Full e)) (refl, ap (with_outgoing p) (sym (set_out p.outgoing outgoing _ (omega (arith, s.outgoing)))))
+        subst (By o marks p) (sym (queueing_is None e)) (refl, ap (with_outgoing p) (sym (set_out p.outgoing outgoing _ (omega (arith, s.outgoing)))))
 
     -- t is how the command was stamped; v and y are the record with its list, then with its slot
-    pub sets_one : (s : ℕ) → f ≡ Lowest s → (t : Stamped) → t ≡ stamped x.command.byte x.command.channel x.offset o.counters → (n : ℕ)
+    pub sets_one : (s : ℕ) → f ≡ Some s → (t : Stamped) → t ≡ stamped x.command.byte x.command.channel x.offset o.counters → (n : ℕ)
         → n ≡ sum 32 o.queued 1 → (slot : Outgoing) → slot ≡ slot_of x t n → (v y : Peer) → v ≡ with_lists p (lists_with p.lists x s)
         → y ≡ with_outgoing v (set v.outgoing s slot) → (r : lent.Outbox) → r ≡ placed o x t.counters → Sets p o marks x r (set marks s 1) y
     sets_one s e t te n ne slot se v y ve ye r re =
-        subst (By r (set marks s 1) y) (sym (queueing_is (Lowest s) e))
+        subst (By r (set marks s 1) y) (sym (queueing_is (Some s) e))
         (rw (re, te), ye ∙ ap (λ (y : Peer). with_outgoing y (set y.outgoing s slot)) ve ∙ rw (se, te, ne))
 
 -- ---- the free slots of a sound record: with what the three lists name they are the whole pool; a, b and c are the lists' lengths

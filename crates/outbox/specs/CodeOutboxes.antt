@@ -1,11 +1,9 @@
 -- Only the code's own: setting up on an outbox, which holds what it changes beside the slots. The rule on the record is setup's Queueing,
 -- and setup's Stored says that the two agree.
-use Rattle.std.specs.Prelude.{ℕ, List, replicate, slice_set}
+use Rattle.std.specs.Prelude.{ℕ, List, replicate, slice_set, None, Option, Some}
 use Rattle.numbers.specs.Modulo.{sum}
 use Rattle.record.specs.Lists.{outgoing}
 use Rattle.cells.specs.Free.{is_marked, marked_all, first_from}
-use Rattle.cells.specs.declared.Free.{Free}
-use Rattle.cells.specs.declared.Free.TheVariants.{Lowest, Full}
 use Rattle.record.specs.Damage.{used_out}
 use Rattle.record.specs.declared.groups.Totals.{Totals}
 use Rattle.record.specs.declared.groups.Waiting.{Waiting}
@@ -50,9 +48,9 @@ placed_in o x s k =
       marks = slice_set o.marks s 1;
     }
 
-abbrev pub queueing_in : Free → Outbox → Piece → Queued
-queueing_in (Lowest s) o x = record { outbox = placed_in o x s (stamp_in o x).counters; at = s; slot = slot_in o x }
-queueing_in Full o x = record { outbox = o; at = outgoing; slot = slot_in o x }
+abbrev pub queueing_in : Option ℕ → Outbox → Piece → Queued
+queueing_in (Some s) o x = record { outbox = placed_in o x s (stamp_in o x).counters; at = s; slot = slot_in o x }
+queueing_in None o x = record { outbox = o; at = outgoing; slot = slot_in o x }
 
 abbrev pub queueing : Outbox → Piece → Queued
 queueing o x = queueing_in (first_from (is_marked o.marks) outgoing 0) o x

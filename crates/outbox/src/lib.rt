@@ -18,10 +18,10 @@ ghost use Rattle.outbox.specs.CodePlaces.{in_lists, placed, queued_by, recounted
 
 use crate::counting::Counters;
 use crate::pieces::Piece;
-use cells::{Free, marks};
+use cells::marks;
 use command::bytes;
 use numbers::counters::{Reliable, Unreliable};
-use places::{channels, groups, pools};
+use places::{RECORD, channels, groups, pools};
 use queues::{Out, outgoing};
 use record::OUTGOING;
 use record::groups::CHANNELS;
@@ -35,8 +35,7 @@ pub struct Outbox {
 }
 
 // The counters that a command on this channel may step; 0 for a channel that is not there.
-fn counters_at(words: &[u32], channel: u8) -> Counters
-    requires { length words.now ≡ record_length }
+fn counters_at(words: &[u32; RECORD], channel: u8) -> Counters
     ensures { result ≡ counters_at (whole words.now).flow.own_number (whole words.now).channels channel (whole words.now).unsequenced.outgoing }
 {
     let flow = groups::flow(words);
@@ -62,9 +61,8 @@ fn counters_at(words: &[u32], channel: u8) -> Counters
 }
 
 // What setting up on a channel changes, off the record; each slot that the lists name gets its mark.
-pub fn open(words: &[u32], channel: u8, marks: &mut [u8]) -> Outbox
-    requires words_len { length words.now ≡ record_length }
-    requires marks_value { marks.old ≡ replicate outgoing 0 }
+pub fn open(words: &[u32; RECORD], channel: u8, marks: &mut [u8]) -> Outbox
+    requires { marks.old ≡ replicate outgoing 0 }
     ensures { in_lists result marks.new (whole words.now).lists ≡ outbox_of (whole words.now).totals (whole words.now).waiting (whole words.now).flow (whole words.now).unsequenced (whole words.now).channels channel (whole words.now).lists }
 {
     let totals = groups::totals(words);
@@ -79,8 +77,7 @@ pub fn open(words: &[u32], channel: u8, marks: &mut [u8]) -> Outbox
 }
 
 // Flag 128 and a packet: send-reliable. Else outgoing.
-fn join(words: &mut [u32], x: Piece, s: u16)
-    requires { length words.old ≡ record_length }
+fn join(words: &mut [u32; RECORD], x: Piece, s: u16)
     ensures { whole words.new ≡ with_lists (whole words.old) (lists_with (whole words.old).lists x s) }
 {
     let c = x.command;
@@ -105,14 +102,13 @@ fn placed(o: Outbox, x: Piece, counters: Counters) -> Outbox
 }
 
 // A piece in the lowest free slot: in its list, in the pool, and marked. With none free, nothing changes.
-pub fn queue(words: &mut [u32], marks: &mut [u8], o: Outbox, x: Piece) -> Outbox
-    requires words_len { length words.old ≡ record_length }
-    requires marks_len { length marks.old ≡ outgoing }
+pub fn queue(words: &mut [u32; RECORD], marks: &mut [u8], o: Outbox, x: Piece) -> Outbox
+    requires { length marks.old ≡ outgoing }
     ensures out { in_lists result marks.new (queueing (in_lists o marks.old (whole words.old).lists) x).outbox.lists ≡ (queueing (in_lists o marks.old (whole words.old).lists) x).outbox }
     ensures kept { whole words.new ≡ queued_by (whole words.old) (queueing (in_lists o marks.old (whole words.old).lists) x) }
 {
     let free = marks::lowest(marks);
-    let Free::Lowest(s) = free else {
+    let Some(s) = free else {
         return o;
     };
     let c = x.command;
@@ -126,8 +122,7 @@ pub fn queue(words: &mut [u32], marks: &mut [u8], o: Outbox, x: Piece) -> Outbox
 }
 
 // The counters back: the peer's own number, its group, the channel's two.
-fn recount(words: &mut [u32], channel: u8, k: Counters)
-    requires { length words.old ≡ record_length }
+fn recount(words: &mut [u32; RECORD], channel: u8, k: Counters)
     ensures { whole words.new ≡ recounted (whole words.old) channel k }
 {
     let own = k.own;
@@ -142,8 +137,7 @@ fn recount(words: &mut [u32], channel: u8, k: Counters)
 }
 
 // The outbox's numbers back, once all is queued.
-pub fn close(words: &mut [u32], channel: u8, o: Outbox)
-    requires { length words.old ≡ record_length }
+pub fn close(words: &mut [u32; RECORD], channel: u8, o: Outbox)
     ensures { whole words.new ≡ closed (whole words.old) channel o }
 {
     let mut totals = groups::totals(words);
@@ -156,9 +150,8 @@ pub fn close(words: &mut [u32], channel: u8, o: Outbox)
 }
 
 // How many slots are free: in a sound record the lists name slots that are there, each once.
-pub fn room_in(words: &[u32]) -> usize
-    requires words_len { length words.now ≡ record_length }
-    requires words_value { sound (whole words.now) ≡ true }
+pub fn room_in(words: &[u32; RECORD]) -> usize
+    requires { sound (whole words.now) ≡ true }
     ensures { result ≡ room_in (whole words.now).lists }
 {
     let sent = outgoing::count(words, Out::Sent);

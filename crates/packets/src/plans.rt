@@ -11,7 +11,6 @@ use numbers::refusals::Refusal;
 use outbox::counting::Counters;
 use outbox::pieces::Piece;
 use peer::Peer;
-use peer::gate::Gate;
 use peer::settings::Settings;
 use record::groups::Standing;
 
@@ -22,31 +21,36 @@ pub enum Packet {
     Pieces(Cut),
 }
 
-fn send_gate(settings: Settings, standing: Standing, channel: u8, length: u32) -> Gate
+fn send_gate(
+    settings: Settings,
+    standing: Standing,
+    channel: u8,
+    length: u32,
+) -> Result<(), Refusal>
     ensures { result ≡ send_gate settings channel length standing }
 {
     if standing.state != Peer::CONNECTED {
-        return Gate::Shut(Refusal::NotConnected);
+        return Err(Refusal::NotConnected);
     }
     if standing.channels <= channel as u32 {
-        return Gate::Shut(Refusal::InvalidChannel);
+        return Err(Refusal::InvalidChannel);
     }
     if settings.packet < length {
-        return Gate::Shut(Refusal::PacketTooLarge);
+        return Err(Refusal::PacketTooLarge);
     }
-    Gate::Open
+    Ok(())
 }
 
-fn queue_gate(count: u32, free: usize) -> Gate
+fn queue_gate(count: u32, free: usize) -> Result<(), Refusal>
     ensures { result ≡ queue_gate count free }
 {
     if consts::PROTOCOL_MAXIMUM_FRAGMENT_COUNT < count {
-        return Gate::Shut(Refusal::FragmentsExceeded);
+        return Err(Refusal::FragmentsExceeded);
     }
     if free < count as usize {
-        return Gate::Shut(Refusal::FailedToQueue);
+        return Err(Refusal::FailedToQueue);
     }
-    Gate::Open
+    Ok(())
 }
 
 // How many pieces of the fragment length a packet makes, the last one perhaps shorter.
@@ -115,12 +119,9 @@ pub fn plan_gate(
     length: u32,
     count: u32,
     free: usize,
-) -> Gate
+) -> Result<(), Refusal>
     ensures { result ≡ then (send_gate settings channel length standing) (queue_gate count free) }
 {
-    let gate = send_gate(settings, standing, channel, length);
-    if let Gate::Shut(why) = gate {
-        return Gate::Shut(why);
-    }
+    send_gate(settings, standing, channel, length)?;
     queue_gate(count, free)
 }

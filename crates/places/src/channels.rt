@@ -6,7 +6,7 @@ ghost use Rattle.peer.specs.Updates.{with_channels};
 ghost use Rattle.places.specs.Whole.{whole, record_length};
 ghost use Rattle.places.specs.Updates.{channel_at, numbers_of};
 
-use crate::{CHANNEL_WIDTH, CHANNELS};
+use crate::{CHANNEL_WIDTH, CHANNELS, RECORD};
 use numbers::counters::{Reliable, Unreliable};
 use numbers::widths::{low16, wide16};
 
@@ -19,9 +19,8 @@ pub struct Numbers {
     pub incoming_unreliable: Unreliable,
 }
 
-pub fn numbers_of(words: &[u32], i: usize) -> Numbers
-    requires words_len { length words.now ≡ record_length }
-    requires i_lt_channels { i < channels }
+pub fn numbers_of(words: &[u32; RECORD], i: usize) -> Numbers
+    requires { i < channels }
     ensures { result ≡ numbers_of (channel_at (whole words.now) i) }
 {
     let at = CHANNELS + i * CHANNEL_WIDTH;
@@ -38,18 +37,16 @@ pub fn numbers_of(words: &[u32], i: usize) -> Numbers
 }
 
 // Its two outgoing numbers.
-pub fn put_outgoing(words: &mut [u32], i: usize, r: Reliable, u: Unreliable)
-    requires words_len { length words.old ≡ record_length }
-    requires i_lt_channels { i < channels }
+pub fn put_outgoing(words: &mut [u32; RECORD], i: usize, r: Reliable, u: Unreliable)
+    requires { i < channels }
     ensures { whole words.new ≡ with_channels (whole words.old) (set (whole words.old).channels i (with_numbers (channel_at (whole words.old) i) r u)) }
 {
     put_pair(words, CHANNELS + i * CHANNEL_WIDTH, r.0, u.0);
 }
 
 // Its two incoming numbers.
-pub fn put_incoming(words: &mut [u32], i: usize, r: Reliable, u: Unreliable)
-    requires words_len { length words.old ≡ record_length }
-    requires i_lt_channels { i < channels }
+pub fn put_incoming(words: &mut [u32; RECORD], i: usize, r: Reliable, u: Unreliable)
+    requires { i < channels }
     ensures { whole words.new ≡ with_channels (whole words.old) (set (whole words.old).channels i (with_last (channel_at (whole words.old) i) r u)) }
 {
     put_pair(words, CHANNELS + i * CHANNEL_WIDTH + 2, r.0, u.0);

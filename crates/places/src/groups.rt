@@ -5,14 +5,14 @@ ghost use Rattle.peer.specs.Updates.{with_standing, with_totals, with_times, wit
 ghost use Rattle.places.specs.Whole.{whole, record_length};
 ghost use Rattle.places.specs.Updates.{with_trips};
 
+use crate::RECORD;
 use numbers::counters::{Group, Reliable};
 use numbers::widths::{low16, wide16};
 use record::groups::{
     Flow, Limits, Loss, Marks, Standing, Throttling, Times, Totals, Trips, Waiting,
 };
 
-pub fn standing(words: &[u32]) -> Standing
-    requires { length words.now ≡ record_length }
+pub fn standing(words: &[u32; RECORD]) -> Standing
     ensures { result ≡ (whole words.now).standing }
 {
     Standing {
@@ -21,16 +21,14 @@ pub fn standing(words: &[u32]) -> Standing
     }
 }
 
-pub fn put_standing(words: &mut [u32], x: Standing)
-    requires { length words.old ≡ record_length }
+pub fn put_standing(words: &mut [u32; RECORD], x: Standing)
     ensures { whole words.new ≡ with_standing (whole words.old) x }
 {
     words[5] = x.state;
     words[6] = x.channels;
 }
 
-pub fn totals(words: &[u32]) -> Totals
-    requires { length words.now ≡ record_length }
+pub fn totals(words: &[u32; RECORD]) -> Totals
     ensures { result ≡ (whole words.now).totals }
 {
     Totals {
@@ -39,16 +37,14 @@ pub fn totals(words: &[u32]) -> Totals
     }
 }
 
-pub fn put_totals(words: &mut [u32], x: Totals)
-    requires { length words.old ≡ record_length }
+pub fn put_totals(words: &mut [u32; RECORD], x: Totals)
     ensures { whole words.new ≡ with_totals (whole words.old) x }
 {
     words[11] = x.incoming;
     words[12] = x.outgoing;
 }
 
-pub fn times(words: &[u32]) -> Times
-    requires { length words.now ≡ record_length }
+pub fn times(words: &[u32; RECORD]) -> Times
     ensures { result ≡ (whole words.now).times }
 {
     Times {
@@ -59,8 +55,7 @@ pub fn times(words: &[u32]) -> Times
     }
 }
 
-pub fn put_times(words: &mut [u32], x: Times)
-    requires { length words.old ≡ record_length }
+pub fn put_times(words: &mut [u32; RECORD], x: Times)
     ensures { whole words.new ≡ with_times (whole words.old) x }
 {
     words[13] = x.last_send;
@@ -69,8 +64,7 @@ pub fn put_times(words: &mut [u32], x: Times)
     words[16] = x.earliest_timeout;
 }
 
-pub fn loss(words: &[u32]) -> Loss
-    requires { length words.now ≡ record_length }
+pub fn loss(words: &[u32; RECORD]) -> Loss
     ensures { result ≡ (whole words.now).loss }
 {
     Loss {
@@ -82,8 +76,7 @@ pub fn loss(words: &[u32]) -> Loss
     }
 }
 
-pub fn put_loss(words: &mut [u32], x: Loss)
-    requires { length words.old ≡ record_length }
+pub fn put_loss(words: &mut [u32; RECORD], x: Loss)
     ensures { whole words.new ≡ with_loss (whole words.old) x }
 {
     words[17] = x.epoch;
@@ -93,8 +86,7 @@ pub fn put_loss(words: &mut [u32], x: Loss)
     words[21] = x.variance;
 }
 
-pub fn throttling(words: &[u32]) -> Throttling
-    requires { length words.now ≡ record_length }
+pub fn throttling(words: &[u32; RECORD]) -> Throttling
     ensures { result ≡ (whole words.now).throttling }
 {
     Throttling {
@@ -108,8 +100,7 @@ pub fn throttling(words: &[u32]) -> Throttling
     }
 }
 
-pub fn put_throttling(words: &mut [u32], x: Throttling)
-    requires { length words.old ≡ record_length }
+pub fn put_throttling(words: &mut [u32; RECORD], x: Throttling)
     ensures { whole words.new ≡ with_throttling (whole words.old) x }
 {
     words[22] = x.value;
@@ -121,8 +112,7 @@ pub fn put_throttling(words: &mut [u32], x: Throttling)
     words[28] = x.interval;
 }
 
-pub fn limits(words: &[u32]) -> Limits
-    requires { length words.now ≡ record_length }
+pub fn limits(words: &[u32; RECORD]) -> Limits
     ensures { result ≡ (whole words.now).limits }
 {
     Limits {
@@ -133,8 +123,7 @@ pub fn limits(words: &[u32]) -> Limits
     }
 }
 
-pub fn trips(words: &[u32]) -> Trips
-    requires { length words.now ≡ record_length }
+pub fn trips(words: &[u32; RECORD]) -> Trips
     ensures { result ≡ (whole words.now).trips }
 {
     Trips {
@@ -147,8 +136,7 @@ pub fn trips(words: &[u32]) -> Trips
     }
 }
 
-pub fn put_trips(words: &mut [u32], x: Trips)
-    requires { length words.old ≡ record_length }
+pub fn put_trips(words: &mut [u32; RECORD], x: Trips)
     ensures { whole words.new ≡ with_trips (whole words.old) x }
 {
     words[33] = x.last;
@@ -159,8 +147,7 @@ pub fn put_trips(words: &mut [u32], x: Trips)
     words[38] = x.variance;
 }
 
-pub fn waiting(words: &[u32]) -> Waiting
-    requires { length words.now ≡ record_length }
+pub fn waiting(words: &[u32; RECORD]) -> Waiting
     ensures { result ≡ (whole words.now).waiting }
 {
     Waiting {
@@ -170,8 +157,7 @@ pub fn waiting(words: &[u32]) -> Waiting
     }
 }
 
-pub fn put_waiting(words: &mut [u32], x: Waiting)
-    requires { length words.old ≡ record_length }
+pub fn put_waiting(words: &mut [u32; RECORD], x: Waiting)
     ensures { whole words.new ≡ with_waiting (whole words.old) x }
 {
     words[191] = x.event;
@@ -179,8 +165,7 @@ pub fn put_waiting(words: &mut [u32], x: Waiting)
     words[193] = x.queued;
 }
 
-pub fn flow(words: &[u32]) -> Flow
-    requires { length words.now ≡ record_length }
+pub fn flow(words: &[u32; RECORD]) -> Flow
     ensures { result ≡ (whole words.now).flow }
 {
     let reliable = Reliable(low16(words[42]));
@@ -192,8 +177,7 @@ pub fn flow(words: &[u32]) -> Flow
     }
 }
 
-pub fn put_flow(words: &mut [u32], x: Flow)
-    requires { length words.old ≡ record_length }
+pub fn put_flow(words: &mut [u32; RECORD], x: Flow)
     ensures { whole words.new ≡ with_flow (whole words.old) x }
 {
     let n = x.own_number;
@@ -205,38 +189,33 @@ pub fn put_flow(words: &mut [u32], x: Flow)
 }
 
 // The peer's flags.
-pub fn flags(words: &[u32]) -> u16
-    requires { length words.now ≡ record_length }
+pub fn flags(words: &[u32; RECORD]) -> u16
     ensures { result ≡ (whole words.now).unsequenced.flags }
 {
     low16(words[155])
 }
 
-pub fn put_flags(words: &mut [u32], x: u16)
-    requires { length words.old ≡ record_length }
+pub fn put_flags(words: &mut [u32; RECORD], x: u16)
     ensures { whole words.new ≡ with_unsequenced (whole words.old) (with_flags (whole words.old).unsequenced x) }
 {
     words[155] = wide16(x);
 }
 
 // The last unsequenced group that went out.
-pub fn outgoing_group(words: &[u32]) -> Group
-    requires { length words.now ≡ record_length }
+pub fn outgoing_group(words: &[u32; RECORD]) -> Group
     ensures { result ≡ (whole words.now).unsequenced.outgoing }
 {
     Group(low16(words[158]))
 }
 
-pub fn put_outgoing_group(words: &mut [u32], x: Group)
-    requires { length words.old ≡ record_length }
+pub fn put_outgoing_group(words: &mut [u32; RECORD], x: Group)
     ensures { whole words.new ≡ with_unsequenced (whole words.old) (with_outgoing_group (whole words.old).unsequenced x) }
 {
     words[158] = wide16(x.0);
 }
 
 // C-11: the marks of a block's pieces.
-pub fn marks(words: &[u32]) -> Marks
-    requires { length words.now ≡ record_length }
+pub fn marks(words: &[u32; RECORD]) -> Marks
     ensures { result ≡ (whole words.now).marks }
 {
     Marks {
@@ -245,8 +224,7 @@ pub fn marks(words: &[u32]) -> Marks
     }
 }
 
-pub fn put_marks(words: &mut [u32], x: Marks)
-    requires { length words.old ≡ record_length }
+pub fn put_marks(words: &mut [u32; RECORD], x: Marks)
     ensures { whole words.new ≡ with_marks (whole words.old) x }
 {
     words[1234] = x.low;

@@ -4,15 +4,14 @@ ghost use Rattle.record.specs.Updates.{with_window};
 ghost use Rattle.peer.specs.Updates.{with_unsequenced};
 ghost use Rattle.places.specs.Whole.{whole, record_length};
 
-use crate::WORDS;
+use crate::{RECORD, WORDS};
 use numbers::consts::UNSEQUENCED_WORDS;
 use numbers::counters::Group;
 use numbers::widths::{low16, wide16};
 use record::groups::Unsequenced;
 
 // "The 32 words go in and come back as one array": the window's words with the flags and groups beside them.
-pub fn unsequenced(words: &[u32]) -> Unsequenced
-    requires { length words.now ≡ record_length }
+pub fn unsequenced(words: &[u32; RECORD]) -> Unsequenced
     ensures { result ≡ (whole words.now).unsequenced }
 {
     let mut window = [0u32; UNSEQUENCED_WORDS];
@@ -28,15 +27,13 @@ pub fn unsequenced(words: &[u32]) -> Unsequenced
     }
 }
 
-fn put_words(words: &mut [u32], window: [u32; UNSEQUENCED_WORDS])
-    requires { length words.old ≡ record_length }
+fn put_words(words: &mut [u32; RECORD], window: [u32; UNSEQUENCED_WORDS])
     ensures { whole words.new ≡ with_unsequenced (whole words.old) (with_window (whole words.old).unsequenced (whole words.old).unsequenced.incoming window) }
 {
     pool::copy(words, WORDS, &window, 0, UNSEQUENCED_WORDS);
 }
 
-pub fn put_unsequenced(words: &mut [u32], x: Unsequenced)
-    requires { length words.old ≡ record_length }
+pub fn put_unsequenced(words: &mut [u32; RECORD], x: Unsequenced)
     ensures { whole words.new ≡ with_unsequenced (whole words.old) x }
 {
     let a = x.incoming;

@@ -28,37 +28,25 @@ pub const IN_WIDTH: usize = 6;
 pub const IN_POOL: usize = 72;
 
 // So many numbers, from a place on, to another.
-pub fn copy(to: &mut [u32], at: usize, from: &[u32], place: usize, count: usize)
+pub fn copy<T: Copy>(to: &mut [T], at: usize, from: &[T], place: usize, count: usize)
     requires count_in_bounds { at + count ≤ length to.old }
     requires count_in_bounds_2 { place + count ≤ length from.now }
     ensures { to.new ≡ paste to.old at (drop place from.now) count }
 {
-    let mut i: usize = 0;
-    while i < count {
-        to[at + i] = from[place + i];
-        i = i + 1;
-    }
+    to[at..at + count].copy_from_slice(&from[place..place + count]);
 }
 
 // All bytes to 0.
 pub fn clear(bytes: &mut [u8])
     ensures { bytes.new ≡ replicate (length bytes.old) 0 }
 {
-    let n = bytes.len();
-    let mut i: usize = 0;
-    while i < n {
-        bytes[i] = 0;
-        i = i + 1;
-    }
+    bytes.fill(0);
 }
 
 fn flag_of(b: bool) -> u32
     ensures { result ≡ flag b }
 {
-    if b {
-        return 1;
-    }
-    0
+    u32::from(b)
 }
 
 // The slot that a slot's numbers are, each read modulo its width.
@@ -68,21 +56,16 @@ pub fn slot_from(part: [u32; WIDTH]) -> Outgoing
     let mut row = [0u32; 16];
     copy(&mut row, 0, &part, 9, 16);
     let command = wire::build::decoded(part[25], row);
-    let reliable = Reliable(low16(part[0]));
-    let unreliable = Unreliable(low16(part[1]));
-    let length = low16(part[6]);
-    let attempts = low16(part[7]);
-    let packet = 1 <= part[8];
     Outgoing {
-        reliable,
-        unreliable,
+        reliable: Reliable(low16(part[0])),
+        unreliable: Unreliable(low16(part[1])),
         sent: part[2],
         timeout: part[3],
         queued: part[4],
         offset: part[5],
-        length,
-        attempts,
-        packet,
+        length: low16(part[6]),
+        attempts: low16(part[7]),
+        packet: 1 <= part[8],
         command,
     }
 }
@@ -91,55 +74,30 @@ pub fn slot_from(part: [u32; WIDTH]) -> Outgoing
 fn words(slot: Outgoing) -> [u32; WIDTH]
     ensures { (result ≡ words_of slot) × (slot_from result ≡ slot) }
 {
-    let length = slot.length as u32;
-    let c = slot.command;
-    let row = rows::of(c);
-    let f = c.fields;
-    let kind = rows::kind_of(f) as u32;
-    let r = slot.reliable;
-    let u = slot.unreliable;
-    let reliable = r.0 as u32;
-    let unreliable = u.0 as u32;
-    let attempts = slot.attempts as u32;
-    let packet = flag_of(slot.packet);
-    let mut part = [
-        reliable,
-        unreliable,
+    let own = [
+        slot.reliable.0 as u32,
+        slot.unreliable.0 as u32,
         slot.sent,
         slot.timeout,
         slot.queued,
         slot.offset,
-        length,
-        attempts,
-        packet,
-        0,
-        0,
-        0,
-        0,
-        0,
-        0,
-        0,
-        0,
-        0,
-        0,
-        0,
-        0,
-        0,
-        0,
-        0,
-        0,
-        kind,
+        slot.length as u32,
+        slot.attempts as u32,
+        flag_of(slot.packet),
     ];
+    let row = rows::of(slot.command);
+    let mut part = [0; WIDTH];
+    copy(&mut part, 0, &own, 0, 9);
     copy(&mut part, 9, &row, 0, 16);
+    part[25] = rows::kind_of(slot.command.fields) as u32;
     part
 }
 
 fn no_brief() -> Brief
     ensures { result ≡ brief_of no_outgoing }
 {
-    let reliable = Reliable(0);
     Brief {
-        reliable,
+        reliable: Reliable(0),
         byte: 0,
         channel: 0,
         sent: 0,
@@ -193,9 +151,8 @@ fn brief_from(part: &[u32]) -> Brief
     requires { length part.now ≡ width }
     ensures { result ≡ brief_of (slot_from part.now) }
 {
-    let reliable = Reliable(low16(part[0]));
     Brief {
-        reliable,
+        reliable: Reliable(low16(part[0])),
         byte: low8(part[9]),
         channel: low8(part[10]),
         sent: part[2],
@@ -238,11 +195,10 @@ fn in_slot_from(part: &[u32]) -> Incoming
     requires { length part.now ≡ in_width }
     ensures { result ≡ in_slot_from part.now }
 {
-    let number = Reliable(low16(part[2]));
     Incoming {
         byte: low8(part[0]),
         channel: low8(part[1]),
-        number,
+        number: Reliable(low16(part[2])),
         fragments: part[3],
         remaining: part[4],
         length: part[5],
@@ -270,14 +226,10 @@ pub fn put_in(pool: &mut [u32], i: usize, slot: Incoming)
     if INCOMING <= i {
         return;
     }
-    let byte = slot.byte as u32;
-    let channel = slot.channel as u32;
-    let n = slot.number;
-    let number = n.0 as u32;
     let row = [
-        byte,
-        channel,
-        number,
+        slot.byte as u32,
+        slot.channel as u32,
+        slot.number.0 as u32,
         slot.fragments,
         slot.remaining,
         slot.length,
@@ -286,26 +238,20 @@ pub fn put_in(pool: &mut [u32], i: usize, slot: Incoming)
 }
 
 // The kind that a slot's fields have: an empty slot's where the number names none.
-fn kind_from(kind: u32) -> u32
+pub fn kind_from(kind: u32) -> u8
     ensures { result ≡ kind_from kind }
 {
-    if kind < 1 {
-        return 1;
+    match kind {
+        1..=12 => kind as u8,
+        _ => 1,
     }
-    if 12 < kind {
-        return 1;
-    }
-    kind
 }
 
 // Whether a slot with this byte, channel and kind may stand in a list.
 fn fit_of(byte: u32, channel: u32, kind: u32, count: u32) -> bool
     ensures { result ≡ fit_of byte channel kind count }
 {
-    if byte % 256 % 16 != kind_from(kind) {
-        return false;
-    }
-    on_channel(low8(channel), count)
+    byte % 256 % 16 == kind_from(kind) as u32 && on_channel(low8(channel), count)
 }
 
 // What a slot with these numbers is good for: 0 nothing, 1 a list, 2 the sent list too.

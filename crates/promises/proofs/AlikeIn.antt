@@ -1,6 +1,7 @@
 -- The receiving side on two records that are the same, but for pieces (AlikePieces): each call gives the same answer and leaves the same stores, and what it
 -- leaves is alike, the slots named included. The argument: what follows, what is held and which slot is free go by what the lists name and by what those slots
 -- hold, equal on both sides; an arrival writes the same slot alike, and the lists then name nothing but that slot and what they named.
+use Rattle.std.specs.Prelude.{Some}
 use Prim.Native.Nat.{ℕ, suc, ◌+◌, ◌≤◌, ◌<◌}
 use mathlib.Core.Path.{◌≡◌, refl, ap, ap₂, sym, subst, ◌∙◌}
 use mathlib.Core.Bool.{Bool, true, false}
@@ -9,15 +10,16 @@ use native.Mathlib.Omega.{arith}
 use lib.Dec.{eqb, ltb}
 use lib.ListN.{length, get_or, set, length-take}
 use lib.Seq.{take-set-lt, get_or-take}
+use Rattle.std.specs.Prelude.{⊤, Result, Ok}
 use Rattle.numbers.specs.Pick.{pick}
 use Rattle.numbers.specs.Answers.{Answer}
 use Rattle.numbers.specs.declared.counters.Group.{Group}
+use Rattle.numbers.specs.declared.refusals.Refusal.{Refusal}
 use Rattle.record.specs.Lists.{incoming, in_items}
 use Rattle.record.proofs.Views.{in_items_keep}
 use Rattle.record.proofs.Keeps.{one, times, times_append, pushed_adds, inserted_adds, without_takes, times_moved}
 use Rattle.cells.specs.Runs.{first, pushed, inserted, without, moved_from, moved_to}
 use Rattle.cells.specs.Free.{lowest}
-use Rattle.cells.specs.declared.Free.TheVariants.{Lowest}
 use Rattle.cells.proofs.Lowest.{lowest_exists}
 use Rattle.record.specs.Sizes as sizes
 use Rattle.record.specs.Flags.{flagged}
@@ -37,8 +39,6 @@ use Rattle.peer.specs.Updates.{with_unsequenced}
 use Rattle.peer.specs.declared.settings.Settings.{Settings}
 use Rattle.peer.specs.declared.Peer.{Peer}
 use Rattle.peer.specs.declared.gate.Lent.TheVariants as lent
-use Rattle.peer.specs.declared.gate.Gate.{Gate}
-use Rattle.peer.specs.declared.gate.Gate.TheVariants.{Open}
 use Rattle.peer.proofs.Gates.{sound_open}
 use Rattle.peer.proofs.Ranges.{count_high}
 use Rattle.laws.specs.Same.{ListView, ChannelView}
@@ -245,7 +245,7 @@ module _ (p : Peer) (whole : Whole p) (few : p.standing.channels ≤ sizes.chann
       omega (arith, h, now, one_list, used_adds l (set cs i c) s, used_adds p.lists cs s)
 
 module _ (p q : Peer) (k : Like p q) (w : Within p q) where
-  behind_twins : (g h : Gate) (o r : Outcome Peer) → g ≡ h → (g ≡ Open → Twins o r) → Twins (behind g p o) (behind h q r)
+  behind_twins : (g h : Result ⊤ Refusal) (o r : Outcome Peer) → g ≡ h → (g ≡ Ok tt → Twins o r) → Twins (behind g p o) (behind h q r)
   behind_twins g h o r e rest = behind_pair Twins g h p q o r e (λ why. record { answer = refl; like = k; within = w }) rest
 
   -- ---- what is ready of a channel
@@ -290,7 +290,7 @@ module _ (p q : Peer) (k : Like p q) (w : Within p q) where
     room_same s =
         ap₃ (λ (n : Standing) (t : Waiting) (xs : List ℕ). room_for s n.state t.total (lowest incoming xs)) k.standing k.waiting names_same
 
-    module _ (v : Incoming) (n : ℕ) (free : free_slot p.lists p.channels p.standing.channels ≡ Lowest n) where
+    module _ (v : Incoming) (n : ℕ) (free : free_slot p.lists p.channels p.standing.channels ≡ Some n) where
       pub pools : Agree no_incoming (n ∷ named p) (set p.incoming n v) (set q.incoming n v)
       pools =
           let low = lowest_exists incoming (named p) n free in
@@ -418,12 +418,12 @@ module _ (p q : Peer) (k : Like p q) (w : Within p q) where
       abbrev y : State
       y = record { peer = q; store = store; second = second }
 
-      pub behind_landed : (g h : Gate) (o r : Outcome State) → g ≡ h → (g ≡ Open → Landed o r) → Landed (behind g x o) (behind h y r)
+      pub behind_landed : (g h : Result ⊤ Refusal) (o r : Outcome State) → g ≡ h → (g ≡ Ok tt → Landed o r) → Landed (behind g x o) (behind h y r)
       behind_landed g h o r e rest =
           behind_pair Landed g h x y o r e (λ why. record { answer = refl; store = refl; second = refl; like = k; within = w }) rest
 
       -- a free slot
-      module _ (a : Arrival) (n : ℕ) (free : free_slot p.lists p.channels p.standing.channels ≡ Lowest n) where
+      module _ (a : Arrival) (n : ℕ) (free : free_slot p.lists p.channels p.standing.channels ≡ Some n) where
         -- at the end of dispatched
         delivered_lined : Lined (delivered p.lists n) (delivered q.lists n)
         delivered_lined =
@@ -509,7 +509,7 @@ module _ (p q : Peer) (k : Like p q) (w : Within p q) where
         fate_same : fate_on s a p ≡ fate_on s a q
         fate_same = ap₂ fate_of (passed_same whole whole' few a.channel a.number.0 on) (room_same whole whole' s)
 
-        module _ (n : ℕ) (free : free_slot p.lists p.channels p.standing.channels ≡ Lowest n) where
+        module _ (n : ℕ) (free : free_slot p.lists p.channels p.standing.channels ≡ Some n) where
           abbrev now : Channel
           now = held_with p.incoming (channel_of a p) a.number.0 n
 

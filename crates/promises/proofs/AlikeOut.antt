@@ -1,6 +1,7 @@
 -- The sending side on two records that are the same, and reset, begin, set state: each call gives the same answer, and what it leaves is alike.
 -- The argument: a call reads groups, what the lists name and what the slots named hold, which are equal on both sides; a slot that it writes it writes
 -- alike, and its lists then name nothing but that slot and what they named.
+use Rattle.std.specs.Prelude.{None, Option, Some}
 use Prim.Native.Nat.{ℕ, ◌+◌, ◌≤◌, ◌<◌}
 use mathlib.Core.Path.{◌≡◌, refl, ap, ap₂, sym, subst, ◌∙◌}
 use mathlib.Core.Bool.{Bool, true, false}
@@ -9,7 +10,9 @@ use native.Mathlib.Omega.{arith}
 use lib.Dec.{ltb, leb}
 use lib.ListN.{length, set, get_or-eq_default}
 use borrow.Author.Tests.{eqb-true, ltb-true}
+use Rattle.std.specs.Prelude.{⊤, Result, Ok}
 use Rattle.numbers.specs.Pick.{pick}
+use Rattle.numbers.specs.declared.refusals.Refusal.{Refusal}
 use Rattle.numbers.specs.declared.refusals.Refusal.TheVariants.{OutOfRange}
 use Rattle.numbers.specs.Modulo.{sum}
 use Rattle.throttle.specs.Throttling.{by_tests}
@@ -21,8 +24,6 @@ use Rattle.record.proofs.Views.{out_items_keep}
 use Rattle.record.proofs.Keeps.{one, times, times_append, pushed_adds, without_takes}
 use Rattle.cells.specs.Runs.{first, pushed, without}
 use Rattle.cells.specs.Free.{lowest, how_many}
-use Rattle.cells.specs.declared.Free.{Free}
-use Rattle.cells.specs.declared.Free.TheVariants.{Lowest, Full}
 use Rattle.cells.proofs.Lowest.{lowest_exists}
 use Rattle.record.specs.Sizes.{itself}
 use Rattle.record.specs.Fresh.{no_outgoing, no_channel}
@@ -47,8 +48,6 @@ use Rattle.peer.specs.Gate.{fits, gate_of, behind, on_record}
 use Rattle.peer.specs.declared.settings.Settings.{Settings}
 use Rattle.peer.specs.declared.Peer.{Peer}
 use Rattle.peer.specs.declared.gate.Lent.TheVariants as lent
-use Rattle.peer.specs.declared.gate.Gate.{Gate}
-use Rattle.peer.specs.declared.gate.Gate.TheVariants.{Open}
 use Rattle.peer.proofs.Gates.{sound_open}
 use Rattle.laws.proofs.SameLaws.{agree_less, agree_set, agree_new, named_first, named_with, Lined, lined_used, ranked_set, ranked_at, Like}
 use Rattle.laws.proofs.SameLaws.{out_shape, channel_shape, out_items_lem, out_kept}
@@ -57,7 +56,6 @@ use Rattle.laws.proofs.SamePairs.{behind_pair, ranked_by, rebuilt_like}
 use Rattle.lifecycle.specs.Calls.{begin_fits, begun, begins_sound, begins, stated, sets_state_sound, sets_state}
 use Rattle.round_trip.specs.Interval.{throttle_of, throttled}
 use Rattle.round_trip.specs.Calls as throttling
-use Rattle.round_trip.specs.declared.Reply.TheVariants as vr
 use Rattle.outbox.specs.Counting.{channel_at, stamped}
 use Rattle.outbox.specs.Pieces.{slot_of, grown, to_reliable, lists_with}
 use Rattle.outbox.specs.declared.counting.Counters.{Counters}
@@ -76,6 +74,7 @@ use Rattle.send_step.specs.Steps.{list_of, attempted, head, is_acknowledged, wit
 use Rattle.send_step.specs.Calls as stepping
 use Rattle.send_step.specs.declared.heads.Queue.{Queue}
 use Rattle.send_step.specs.declared.heads.Queue.TheVariants as queue
+use Rattle.throttle.specs.declared.Turn.TheVariants as turn
 
 -- two results of a call: one answer, and records that are alike
 pub record Twin (o r : Outcome Peer) : Type 0 where
@@ -261,9 +260,9 @@ module _ (x : Piece) (p q : Peer) (k : Like p q) (wp : Whole p) (wq : Whole q) (
       subst (λ (xs : List ℕ). Like (queued x p) (queued_in (lowest outgoing xs) x q)) (lined_used p.lists q.lists k.lists)
       (go (lowest outgoing (used_out p.lists)) refl)
     where
-      go : (f : Free) → lowest outgoing (used_out p.lists) ≡ f → Like (queued_in f x p) (queued_in f x q)
-      go (Lowest n) e = queued_at_like n (lowest_exists outgoing (used_out p.lists) n e)
-      go Full e = k
+      go : (f : Option ℕ) → lowest outgoing (used_out p.lists) ≡ f → Like (queued_in f x p) (queued_in f x q)
+      go (Some n) e = queued_at_like n (lowest_exists outgoing (used_out p.lists) n e)
+      go None e = k
 
 all_like : (xs : List Piece) (p q : Peer) → Like p q → Whole p → Whole q → all_fit p.standing.channels xs ≡ true → Like (queued_all xs p) (queued_all xs q)
 unfolding queued_all
@@ -279,7 +278,7 @@ commands_by size channel long flags v =
 
 module _ (p q : Peer) (k : Like p q) where
   -- behind any gate that is the same on both
-  behind_twin : (g h : Gate) (o r : Outcome Peer) → g ≡ h → (g ≡ Open → Twin o r) → Twin (behind g p o) (behind h q r)
+  behind_twin : (g h : Result ⊤ Refusal) (o r : Outcome Peer) → g ≡ h → (g ≡ Ok tt → Twin o r) → Twin (behind g p o) (behind h q r)
   behind_twin g h o r e rest = behind_pair Twin g h p q o r e (λ why. record { answer = refl; like = k }) rest
 
   -- and the gate of every call
@@ -325,7 +324,7 @@ module _ (p q : Peer) (k : Like p q) where
         (λ good.
         record {
           answer =
-              ap₂ (λ (t : Throttling) (u : Trips). throttling.answer_of (by_tests (throttle_of t u) sample vr.Held vr.Raised vr.Lowered vr.Held))
+              ap₂ (λ (t : Throttling) (u : Trips). throttling.answer_of (Ok (by_tests (throttle_of t u) sample turn.Held turn.Raised turn.Lowered turn.Held)))
               k.throttling k.trips;
           like =
               rebuilt_like p q k k.standing k.totals k.times k.loss

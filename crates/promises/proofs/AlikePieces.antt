@@ -1,6 +1,7 @@
 -- The arrival of a piece (C-11) on two records that are the same: one answer, the same stores, and what is left is alike, the slots named included.
 -- The argument: which block a piece is of and what becomes of it go by slots named, by the free slot and by the marks, equal on both sides; a first piece
 -- writes the same free slot, a piece its own block's slot, named in both, and a block that is complete then goes as dispatch lets it go (AlikeIn).
+use Rattle.std.specs.Prelude.{None, Option, Some}
 use Prim.Native.Nat.{ℕ, ◌+◌, ◌≤◌, ◌<◌}
 use mathlib.Core.Path.{◌≡◌, refl, ap, ap₂, sym, subst, ◌∙◌}
 use mathlib.Core.Bool.{Bool, true, false, not}
@@ -10,9 +11,6 @@ use lib.Dec.{eqb}
 use lib.ListN.{length, get_or, length-set}
 use borrow.Author.Tests.{eqb-true}
 use Rattle.numbers.specs.Pick.{pick, both}
-use Rattle.cells.specs.declared.First.{First}
-use Rattle.cells.specs.declared.First.TheVariants.{Slot, Empty}
-use Rattle.cells.specs.declared.Free.TheVariants.{Lowest}
 use Rattle.record.specs.Lists.{in_items}
 use Rattle.record.proofs.Keeps.{one, times}
 use Rattle.record.specs.Sizes as sizes
@@ -61,7 +59,7 @@ module _ (a b : List Incoming) where
   unfolding unfinished
   unfinished_agree [] start h = refl
   unfinished_agree (s ∷ ss) start h =
-      ap₂ (λ (i : Incoming) (f : First). pick (is_unfinished start i) (Slot s) f) (h s (named_first s ss)) (unfinished_agree ss start (λ x k. h x (omega (arith, k))))
+      ap₂ (λ (i : Incoming) (f : Option ℕ). pick (is_unfinished start i) (Some s) f) (h s (named_first s ss)) (unfinished_agree ss start (λ x k. h x (omega (arith, k))))
 
   blocks_agree : (xs : List ℕ) → Agree no_incoming xs a b → blocks a xs ≡ blocks b xs
   unfolding blocks
@@ -127,7 +125,7 @@ module _ (p q : Peer) (k : Like p q) (w : Within p q) (whole : Whole p) (whole' 
 module _ (p q : Peer) (k : Like p q) (w : Within p q) (whole : Whole p) (whole' : Whole q) (few : p.standing.channels ≤ sizes.channels)
     (a : Piece) (on : a.channel < p.standing.channels) where
   -- ---- the block's slot, free before, joins the channel's list
-  module _ (n : ℕ) (free : free_slot p.lists p.channels p.standing.channels ≡ Lowest n) where
+  module _ (n : ℕ) (free : free_slot p.lists p.channels p.standing.channels ≡ Some n) where
     abbrev block : Incoming
     block = block_of a.byte a.channel a.start a.fragment
 
@@ -170,18 +168,18 @@ module _ (p q : Peer) (k : Like p q) (w : Within p q) (whole : Whole p) (whole' 
         ap (λ (n : ℕ). not (eqb n 0))
         (blocks_agree p.incoming q.incoming (named p) w ∙ ap (blocks q.incoming) (names_same p q k w whole whole'))
 
-    by_same : (f : First) → unfinished_on a p ≡ f → fate_by f s a p ≡ fate_by f s a q
-    by_same Empty e =
+    by_same : (f : Option ℕ) → unfinished_on a p ≡ f → fate_by f s a p ≡ fate_by f s a q
+    by_same None e =
         ap₃ (λ (passed another : Bool) (r : Room). first_fate passed (fields_fit s.packet a.fragment) another r)
         (passed_same p q k w whole whole' few a.channel a.start.0 on) any_same (room_same p q k w whole whole' s)
-    by_same (Slot n) e =
+    by_same (Some n) e =
         ap₂ (λ (i : Incoming) (m : Marks). later_fate (both (fields_fit s.packet a.fragment) (like_first a.fragment i)) (piece_marked m a.fragment.number) n)
         (held_same n (unfinished_found p.incoming (in_items (channel_of a p).held) a.start.0 n e).named) k.marks
 
     fate_same : fate_on s a p ≡ fate_on s a q
     fate_same =
         ap₂ (λ (n : Standing) (f : Fate). pick (eqb n.state disconnect_later) fate.Passed f) k.standing
-        (by_same (unfinished_on a p) refl ∙ ap (λ (f : First). fate_by f s a q) unfinished_same)
+        (by_same (unfinished_on a p) refl ∙ ap (λ (f : Option ℕ). fate_by f s a q) unfinished_same)
 
     module _ (store second datagram : List ℕ) where
       abbrev x : State

@@ -1,24 +1,21 @@
 -- Acknowledgement and timeout check on two records that are the same: the same answer, and what they leave is alike.
 -- The argument: searches and walk go by what the slots of a list hold, which is equal on both sides, so they find the same place and set the same marks;
 -- a slot that is not in a list afterwards is not asked for.
+use Rattle.std.specs.Prelude.{Option, Some, None}
 use Prim.Native.Nat.{ℕ, ◌+◌, ◌≤◌, ◌<◌}
 use mathlib.Core.Path.{◌≡◌, refl, ap, ap₂, sym, subst, ◌∙◌}
 use mathlib.Core.List.{List, [], ◌∷◌}
 use native.Mathlib.Omega.{arith}
 use lib.Dec.{eqb}
 use lib.ListN.{length, get_or, set, length-set}
+use Rattle.std.specs.Prelude.{Result, Ok}
 use Rattle.numbers.specs.Pick.{pick}
-use Rattle.numbers.specs.declared.clock.Trip.{Trip}
-use Rattle.numbers.specs.declared.clock.Trip.TheVariants.{PassedOver, Taken}
+use Rattle.numbers.specs.declared.refusals.Refusal.{Refusal}
 use Rattle.record.specs.Lists.{outgoing, out_items}
 use Rattle.record.specs.declared.outgoing.OutList.{OutList}
 use Rattle.record.proofs.Views.{out_items_keep}
 use Rattle.record.proofs.Keeps.{times, times-without, without_takes, prepended_adds}
 use Rattle.cells.specs.Runs.{first, is_empty, without, prepended}
-use Rattle.cells.specs.declared.First.{First}
-use Rattle.cells.specs.declared.First.TheVariants.{Slot, Empty}
-use Rattle.cells.specs.declared.Found.{Found}
-use Rattle.cells.specs.declared.Found.TheVariants.{At, Nowhere}
 use Rattle.record.specs.Fresh.{no_outgoing}
 use Rattle.record.specs.Damage.{used_out}
 use Rattle.record.specs.Updates.{with_timeouts, with_packets_lost, with_transit}
@@ -39,15 +36,18 @@ use Rattle.laws.proofs.SameLaws.{Agree, agree_less, agree_set, Lined, lined_used
 use Rattle.laws.proofs.SamePairs.{ranked_by, rebuilt_like}
 use Rattle.round_trip.specs.Interval.{measured}
 use Rattle.round_trip.specs.declared.averages.Measured.{Measured}
-use Rattle.acknowledge.specs.Removal.{in_sent, in_queue, seek, or_else, spot_of, cut, lists_without, slot_at, held_by, flow_without, is_some, times_without, command_at}
+use Rattle.queues.specs.declared.Out.{Out}
+use Rattle.queues.specs.declared.Out.TheVariants as out
+use Rattle.std.specs.Prelude.{is_some}
+use Rattle.acknowledge.specs.Removal.{in_sent, in_queue, found_by, seek, or_else, spot_of, cut, lists_without, slot_at, held_by, flow_without, times_without, command_at}
+use Rattle.acknowledge.specs.declared.removal.Seen.{Seen}
 use Rattle.acknowledge.specs.declared.removal.Spot.{Spot}
-use Rattle.acknowledge.specs.declared.removal.Spot.TheVariants as spot
-use Rattle.acknowledge.proofs.RemovalLaws.{Placed}
+use Rattle.acknowledge.proofs.RemovalLaws.{spot_at, Placed}
 use Rattle.laws.proofs.Acknowledged.{found_placed}
 use Rattle.laws.proofs.Marking.{bearing_some}
 use Rattle.acknowledge.specs.Calls as acknowledging
-use Rattle.acknowledge.specs.declared.Reply.{Reply as Heard}
-use Rattle.acknowledge.specs.declared.Reply.TheVariants as heard
+use Rattle.acknowledge.specs.declared.Event.{Event}
+use Rattle.acknowledge.specs.declared.Event.TheVariants as heard
 use Rattle.overdue.specs.Overdue.{stays, back_outgoing, back_reliable}
 use Rattle.overdue.specs.Walking.{turn_by, at_entry, Walked, marked_by, walked, bearing, ahead, lists_by}
 use Rattle.overdue.specs.declared.step.Walk.{Walk}
@@ -56,52 +56,58 @@ use Rattle.timeouts.specs.Calls as checking
 use Rattle.promises.proofs.AlikeOut.{Twin, ap₃, used_adds, on_twin}
 
 -- ---- the searches
-seek_agree : (f g : ℕ → ℕ) (k : ℕ) (xs : List ℕ) → ((s : ℕ) → 0 < times xs s → f s ≡ g s) → seek f k xs ≡ seek g k xs
+seek_agree : (f g : ℕ → Seen) (k : ℕ) (xs : List ℕ) → ((s : ℕ) → 0 < times xs s → f s ≡ g s) → seek f k xs ≡ seek g k xs
 unfolding seek
 seek_agree f g k [] h = refl
 seek_agree f g k (s ∷ ss) h =
-    ap₂ (λ (v : ℕ) (r : Found). pick (eqb v 0) r (pick (eqb v 1) (At k) Nowhere)) (h s (named_first s ss))
+    ap₂ (λ (v : Seen) (r : Option ℕ). found_by v k r) (h s (named_first s ss))
     (seek_agree f g (k + 1) ss (λ x n. h x (omega (arith, n))))
 
 module _ (l m : Lists) (e : Lined l m) (a b : List Outgoing) (h : Agree no_outgoing (used_out l) a b) where
   spot_same : (number channel : ℕ) → spot_of a number channel l ≡ spot_of b number channel m
   spot_same number channel =
-      ap₃ (λ (x y z : Found). or_else x spot.Sent (or_else y spot.Outgoing (or_else z spot.Reliable spot.Nowhere)))
+      ap₃ (λ (x y z : Option ℕ). or_else x out.Sent (or_else y out.Outgoing (or_else z out.Reliable None)))
       (by (in_sent number channel) l.sent m.sent e.sent (λ s n. omega (arith, n, used_adds l s)))
       (by (in_queue number channel) l.outgoing m.outgoing e.outgoing (λ s n. omega (arith, n, used_adds l s)))
       (by (in_queue number channel) l.send_reliable m.send_reliable e.send_reliable (λ s n. omega (arith, n, used_adds l s)))
     where
-      by : (f : Outgoing → ℕ) (x y : OutList) → out_shape x ≡ out_shape y → ((s : ℕ) → 0 < times (out_items x) s → 0 < times (used_out l) s)
+      by : (f : Outgoing → Seen) (x y : OutList) → out_shape x ≡ out_shape y → ((s : ℕ) → 0 < times (out_items x) s → 0 < times (used_out l) s)
           → seek (λ (s : ℕ). f (get_or a s no_outgoing)) 0 (out_items x) ≡ seek (λ (s : ℕ). f (get_or b s no_outgoing)) 0 (out_items y)
       by f x y d names =
           seek_agree (λ (s : ℕ). f (get_or a s no_outgoing)) (λ (s : ℕ). f (get_or b s no_outgoing)) 0 (out_items x) (λ s n. ap f (h s (names s n)))
           ∙ ap (seek (λ (s : ℕ). f (get_or b s no_outgoing)) 0) (out_items_lem x y d)
 
   -- a slot, if there is one, is named
-  abbrev Named : First → Type 0
-  Named f = (s : ℕ) → f ≡ Slot s → 0 < times (used_out l) s
+  abbrev Named : Option ℕ → Type 0
+  Named f = (s : ℕ) → f ≡ Some s → 0 < times (used_out l) s
 
-  held_same : (f : First) → Named f → held_by a f ≡ held_by b f
-  held_same (Slot s) n = h s (n s refl)
-  held_same Empty n = refl
+  held_same : (f : Option ℕ) → Named f → held_by a f ≡ held_by b f
+  held_same (Some s) n = h s (n s refl)
+  held_same None n = refl
 
-  slot_same : (w : Spot) → slot_at w l ≡ slot_at w m
-  slot_same (spot.Sent k) = ap (λ (xs : List ℕ). Slot (get_or xs k 0)) (out_items_lem l.sent m.sent e.sent)
-  slot_same (spot.Outgoing k) = ap (λ (xs : List ℕ). Slot (get_or xs k 0)) (out_items_lem l.outgoing m.outgoing e.outgoing)
-  slot_same (spot.Reliable k) = ap (λ (xs : List ℕ). Slot (get_or xs k 0)) (out_items_lem l.send_reliable m.send_reliable e.send_reliable)
-  slot_same spot.Nowhere = refl
+  place_same : (list : Out) (k : ℕ) → slot_at (spot_at list k) l ≡ slot_at (spot_at list k) m
+  place_same out.Sent k = ap (λ (xs : List ℕ). Some (get_or xs k 0)) (out_items_lem l.sent m.sent e.sent)
+  place_same out.Outgoing k = ap (λ (xs : List ℕ). Some (get_or xs k 0)) (out_items_lem l.outgoing m.outgoing e.outgoing)
+  place_same out.Reliable k = ap (λ (xs : List ℕ). Some (get_or xs k 0)) (out_items_lem l.send_reliable m.send_reliable e.send_reliable)
+
+  slot_same : (w : Option Spot) → slot_at w l ≡ slot_at w m
+  slot_same (Some s) = place_same s.list s.place
+  slot_same None = refl
 
   cut_like : (x y : OutList) (k : ℕ) → out_shape x ≡ out_shape y → out_shape (cut x k) ≡ out_shape (cut y k)
   cut_like x y k d = out_kept x y (without (out_items x) k) (without (out_items y) k) (ap (λ (xs : List ℕ). without xs k) (out_items_lem x y d))
 
-  without_lined : (w : Spot) → Lined (lists_without w l) (lists_without w m)
-  without_lined (spot.Sent k) =
+  place_lined : (list : Out) (k : ℕ) → Lined (lists_without (spot_at list k) l) (lists_without (spot_at list k) m)
+  place_lined out.Sent k =
       record { sent = cut_like l.sent m.sent k e.sent; send_reliable = e.send_reliable; outgoing = e.outgoing; dispatched = e.dispatched }
-  without_lined (spot.Outgoing k) =
+  place_lined out.Outgoing k =
       record { sent = e.sent; send_reliable = e.send_reliable; outgoing = cut_like l.outgoing m.outgoing k e.outgoing; dispatched = e.dispatched }
-  without_lined (spot.Reliable k) =
+  place_lined out.Reliable k =
       record { sent = e.sent; send_reliable = cut_like l.send_reliable m.send_reliable k e.send_reliable; outgoing = e.outgoing; dispatched = e.dispatched }
-  without_lined spot.Nowhere = e
+
+  without_lined : (w : Option Spot) → Lined (lists_without w l) (lists_without w m)
+  without_lined (Some s) = place_lined s.list s.place
+  without_lined None = e
 
 -- what is at a place is named
 at_named : (xs : List ℕ) (k : ℕ) → k < length xs → 0 < times xs (get_or xs k 0)
@@ -109,63 +115,69 @@ at_named xs k h =
     let e = times-without xs k (get_or xs k 0) h in
     omega (arith, e, named_first (get_or xs k 0) [])
 
-slot_of : {a b : ℕ} → Slot a ≡ Slot b → a ≡ b
+slot_of : {a b : ℕ} → Some a ≡ Some b → a ≡ b
 slot_of e = ap slot_in e
   where
-    slot_in : First → ℕ
-    slot_in (Slot s) = s
-    slot_in Empty = 0
+    slot_in : Option ℕ → ℕ
+    slot_in (Some s) = s
+    slot_in None = 0
 
 module _ (l : Lists) where
-  spot_named : (w : Spot) → Placed w l → (s : ℕ) → slot_at w l ≡ Slot s → 0 < times (used_out l) s
-  spot_named (spot.Sent k) h s d =
+  place_named : (list : Out) (k : ℕ) → Placed (spot_at list k) l → (s : ℕ) → slot_at (spot_at list k) l ≡ Some s → 0 < times (used_out l) s
+  place_named out.Sent k h s d =
       subst (λ (x : ℕ). 0 < times (used_out l) x) (slot_of d)
       (omega (arith, used_adds l (get_or (out_items l.sent) k 0), at_named (out_items l.sent) k h))
-  spot_named (spot.Outgoing k) h s d =
+  place_named out.Outgoing k h s d =
       subst (λ (x : ℕ). 0 < times (used_out l) x) (slot_of d)
       (omega (arith, used_adds l (get_or (out_items l.outgoing) k 0), at_named (out_items l.outgoing) k h))
-  spot_named (spot.Reliable k) h s d =
+  place_named out.Reliable k h s d =
       subst (λ (x : ℕ). 0 < times (used_out l) x) (slot_of d)
       (omega (arith, used_adds l (get_or (out_items l.send_reliable) k 0), at_named (out_items l.send_reliable) k h))
-  spot_named spot.Nowhere h s d = absurd (let z : ◌≡◌ {A = ℕ} 0 1 = cc in omega arith)
+
+  spot_named : (w : Option Spot) → Placed w l → (s : ℕ) → slot_at w l ≡ Some s → 0 < times (used_out l) s
+  spot_named (Some w) h s d = place_named w.list w.place h s d
+  spot_named None h s d = absurd (let z : ◌≡◌ {A = ℕ} 0 1 = cc in omega arith)
 
   cut_names : (x : OutList) (k s : ℕ) → times (out_items (cut x k)) s ≤ times (out_items x) s
   cut_names x k s =
       let d = ap (λ (xs : List ℕ). times xs s) (out_items_keep x (without (out_items x) k)) in omega (arith, d, without_takes (out_items x) k s)
 
-  without_names : (w : Spot) (s : ℕ) → times (used_out (lists_without w l)) s ≤ times (used_out l) s
-  without_names (spot.Sent k) s = omega (arith, used_adds (lists_without (spot.Sent k) l) s, used_adds l s, cut_names l.sent k s)
-  without_names (spot.Outgoing k) s = omega (arith, used_adds (lists_without (spot.Outgoing k) l) s, used_adds l s, cut_names l.outgoing k s)
-  without_names (spot.Reliable k) s = omega (arith, used_adds (lists_without (spot.Reliable k) l) s, used_adds l s, cut_names l.send_reliable k s)
-  without_names spot.Nowhere s = omega arith
+  cut_lists_names : (list : Out) (k s : ℕ) → times (used_out (lists_without (spot_at list k) l)) s ≤ times (used_out l) s
+  cut_lists_names out.Sent k s = omega (arith, used_adds (lists_without (spot_at out.Sent k) l) s, used_adds l s, cut_names l.sent k s)
+  cut_lists_names out.Outgoing k s = omega (arith, used_adds (lists_without (spot_at out.Outgoing k) l) s, used_adds l s, cut_names l.outgoing k s)
+  cut_lists_names out.Reliable k s = omega (arith, used_adds (lists_without (spot_at out.Reliable k) l) s, used_adds l s, cut_names l.send_reliable k s)
 
-  first_named : (xs : List ℕ) (s : ℕ) → first xs ≡ Slot s → 0 < times xs s
+  without_names : (w : Option Spot) (s : ℕ) → times (used_out (lists_without w l)) s ≤ times (used_out l) s
+  without_names (Some w) s = cut_lists_names w.list w.place s
+  without_names None s = omega arith
+
+  first_named : (xs : List ℕ) (s : ℕ) → first xs ≡ Some s → 0 < times xs s
   first_named [] s d = absurd (let z : ◌≡◌ {A = ℕ} 0 1 = cc in omega arith)
   first_named (x ∷ xs) s d = subst (λ (y : ℕ). 0 < times (x ∷ xs) y) (slot_of d) (named_first x xs)
 
-  head_named : (w : Spot) (s : ℕ) → first (out_items (lists_without w l).sent) ≡ Slot s → 0 < times (used_out l) s
+  head_named : (w : Option Spot) (s : ℕ) → first (out_items (lists_without w l).sent) ≡ Some s → 0 < times (used_out l) s
   head_named w s d =
       omega (arith, first_named (out_items (lists_without w l).sent) s d, used_adds (lists_without w l) s, without_names w s)
 
 -- what an acknowledgement answers, by the slots that are left
-abbrev event_by : ℕ → ℕ → List ℕ → Heard
+abbrev event_by : ℕ → ℕ → List ℕ → Result Event Refusal
 event_by state command used =
     pick (eqb state acknowledging_connect) (acknowledging.removed_or command acknowledging.verify_connect heard.Connect)
     (pick (eqb state disconnecting) (acknowledging.removed_or command acknowledging.disconnect heard.Disconnect)
-    (pick (eqb state disconnect_later) (pick (is_empty used) heard.DisconnectNow heard.Done) heard.Done))
+    (pick (eqb state disconnect_later) (pick (is_empty used) (Ok heard.DisconnectNow) (Ok heard.Done)) (Ok heard.Done)))
 
 module _ (p q : Peer) (k : Like p q) where
-  module _ (w : Spot) (placed : Placed w p.lists) (sample clock : ℕ) where
+  module _ (w : Option Spot) (placed : Placed w p.lists) (sample clock : ℕ) where
     abbrev left : Lists
     left = lists_without w p.lists
 
     abbrev left' : Lists
     left' = lists_without w q.lists
 
-    abbrev head : First
+    abbrev head : Option ℕ
     head = first (out_items left.sent)
 
-    abbrev head' : First
+    abbrev head' : Option ℕ
     head' = first (out_items left'.sent)
 
     lined : Lined left left'
@@ -196,10 +208,10 @@ module _ (p q : Peer) (k : Like p q) where
         record {
           answer =
               ap₃ (λ (n : Standing) (c : ℕ) (xs : List ℕ). acknowledging.answer_of (event_by n.state c xs)) k.standing
-              (ap₂ (λ (f : First) (o : Outgoing). command_at (is_some f) o) slots removed) (lined_used left left' lined);
+              (ap₂ (λ (f : Option ℕ) (o : Outgoing). command_at (is_some f) o) slots removed) (lined_used left left' lined);
           like =
               rebuilt_like p q k k.standing k.totals
-              (ap₂ (λ (f g : First). times_without (is_some f) (is_some g) (held_by p.outgoing head) (acknowledging.received clock p.times)) slots heads
+              (ap₂ (λ (f g : Option ℕ). times_without (is_some f) (is_some g) (held_by p.outgoing head) (acknowledging.received clock p.times)) slots heads
               ∙ ap₂ (λ (o : Outgoing) (t : Times). times_without (is_some (slot_at w q.lists)) (is_some head') o (acknowledging.received clock t)) next k.times)
               k.loss (ap (λ (m : Measured). m.throttling) now) (ap (λ (m : Measured). m.trips) now) (ap₂ (flow_without w) removed k.flow) lined
               k.unsequenced k.waiting (ranked_by p q k)
@@ -208,10 +220,10 @@ module _ (p q : Peer) (k : Like p q) where
               k.marks;
         }
 
-  by_twin : (t : Trip) (channel number clock : ℕ) → Twin (acknowledging.acknowledges_by t channel number clock p) (acknowledging.acknowledges_by t channel number clock q)
-  by_twin PassedOver channel number clock = record { answer = refl; like = k }
-  by_twin (Taken sample) channel number clock =
-      subst (λ (w : Spot). Twin (acknowledging.heard_at (spot_of p.outgoing number channel p.lists) sample clock p) (acknowledging.heard_at w sample clock q))
+  by_twin : (t : Option ℕ) (channel number clock : ℕ) → Twin (acknowledging.acknowledges_by t channel number clock p) (acknowledging.acknowledges_by t channel number clock q)
+  by_twin None channel number clock = record { answer = refl; like = k }
+  by_twin (Some sample) channel number clock =
+      subst (λ (w : Option Spot). Twin (acknowledging.heard_at (spot_of p.outgoing number channel p.lists) sample clock p) (acknowledging.heard_at w sample clock q))
       (spot_same p.lists q.lists k.lists p.outgoing q.outgoing k.outs number channel)
       (heard_twin (spot_of p.outgoing number channel p.lists) (found_placed p.outgoing number channel p.lists) sample clock)
 
@@ -301,4 +313,4 @@ module _ (p q : Peer) (k : Like p q) (long : length p.outgoing ≡ length q.outg
   pub check_twin : sound p ≡ sound q → (s : Settings) → Twin (checking.checks s clock p) (checking.checks s clock q)
   check_twin alike s =
       on_twin p q k alike s (checking.checks_sound clock p) (checking.checks_sound clock q)
-      (λ good. record { answer = ap (λ (w : Walk). checking.answer_of (checking.reply_by w.over)) walks.walk; like = checked_like })
+      (λ good. record { answer = ap (λ (w : Walk). checking.answer_of (Ok (checking.reply_by w.over))) walks.walk; like = checked_like })

@@ -1,6 +1,7 @@
 -- What is promised of blocks and can be read off the rule (promises/specs/Blocks): whole exactly when all pieces are marked (`block_whole`), a marked piece changes
 -- nothing (`marked_changes_nothing`), and only a stored piece changes the second store (`second_kept`).
 -- The argument: the fate's cases in their order; in a sound record a block's numbers and marks belong together, and then blocks' `complete` and `marked_complete` hold.
+use Rattle.std.specs.Prelude.{None, Option, Some}
 use Prim.Native.Nat.{ℕ}
 use mathlib.Core.Path.{◌≡◌, refl, ap, sym, ◌∙◌}
 use mathlib.Core.Bool.{Bool, true, false, false≢true}
@@ -13,8 +14,6 @@ use Rattle.numbers.specs.declared.counters.Group.{Group}
 use borrow.Author.Tests.{eqb-true}
 use Rattle.numbers.proofs.BoolLaws.{both_left, both_right}
 use Rattle.cells.specs.Runs.{has}
-use Rattle.cells.specs.declared.First.{First}
-use Rattle.cells.specs.declared.First.TheVariants.{Slot, Empty}
 use Rattle.record.specs.Sizes.{cell}
 use Rattle.record.specs.Fresh.{no_incoming}
 use Rattle.record.specs.Marks.{piece_marked}
@@ -76,7 +75,7 @@ module _ (s : Settings) (a : Piece) (p : Peer) where
       go false = rest
 
   -- a later piece that is marked
-  marked_fate : (n : ℕ) → unfinished_on a p ≡ Slot n → piece_marked p.marks a.fragment.number ≡ true
+  marked_fate : (n : ℕ) → unfinished_on a p ≡ Some n → piece_marked p.marks a.fragment.number ≡ true
       → (P : Fate → Type 0) → P fate.Passed → P fate.Unfit → P (fate_on s a p)
   marked_fate n is marked P passed unfit =
       by_state P passed (rw is (rw marked (go (both (fields_fit s.packet a.fragment) (like_first a.fragment (get_or p.incoming n no_incoming))))))
@@ -85,36 +84,36 @@ module _ (s : Settings) (a : Piece) (p : Peer) where
       go true = passed
       go false = unfit
 
-  -- one that begins a block, or is of an unfinished one: 8 is the first's, First too, Later the other's
+  -- one that begins a block, or is of an unfinished one: 8 is the first's, Option ℕ too, Later the other's
   pub data Goes : Fate → Type 0 where
     passed : Goes fate.Passed
     unfit : Goes fate.Unfit
-    full : unfinished_on a p ≡ Empty → Goes fate.NoRoom
-    first_piece : (n : ℕ) → unfinished_on a p ≡ Empty → Goes (fate.First n)
-    later_piece : (n : ℕ) → unfinished_on a p ≡ Slot n → Goes (fate.Later n)
+    full : unfinished_on a p ≡ None → Goes fate.NoRoom
+    first_piece : (n : ℕ) → unfinished_on a p ≡ None → Goes (fate.First n)
+    later_piece : (n : ℕ) → unfinished_on a p ≡ Some n → Goes (fate.Later n)
 
   pub goes : Goes (fate_on s a p)
   goes = by_state Goes passed (by (unfinished_on a p) refl)
     where
-      room_goes : (e : unfinished_on a p ≡ Empty) (another : Bool) (r : Room) → Goes (opens another r)
+      room_goes : (e : unfinished_on a p ≡ None) (another : Bool) (r : Room) → Goes (opens another r)
       room_goes e another room.Passed = passed
       room_goes e another room.NoRoom = full e
       room_goes e true (room.Stored n) = full e
       room_goes e false (room.Stored n) = first_piece n e
 
-      first_goes : (e : unfinished_on a p ≡ Empty) (over fit : Bool) → Goes (first_fate over fit (any_block p) (room_of s p))
+      first_goes : (e : unfinished_on a p ≡ None) (over fit : Bool) → Goes (first_fate over fit (any_block p) (room_of s p))
       first_goes e true fit = passed
       first_goes e false true = room_goes e (any_block p) (room_of s p)
       first_goes e false false = unfit
 
-      later_goes : (n : ℕ) (e : unfinished_on a p ≡ Slot n) (fit marked : Bool) → Goes (later_fate fit marked n)
+      later_goes : (n : ℕ) (e : unfinished_on a p ≡ Some n) (fit marked : Bool) → Goes (later_fate fit marked n)
       later_goes n e true true = passed
       later_goes n e true false = later_piece n e
       later_goes n e false marked = unfit
 
-      by : (b : First) → unfinished_on a p ≡ b → Goes (fate_by b s a p)
-      by Empty e = first_goes e (is_passed p.incoming (channel_of a p) a.start.0) (fields_fit s.packet a.fragment)
-      by (Slot n) e =
+      by : (b : Option ℕ) → unfinished_on a p ≡ b → Goes (fate_by b s a p)
+      by None e = first_goes e (is_passed p.incoming (channel_of a p) a.start.0) (fields_fit s.packet a.fragment)
+      by (Some n) e =
           later_goes n e (both (fields_fit s.packet a.fragment) (like_first a.fragment (get_or p.incoming n no_incoming)))
           (piece_marked p.marks a.fragment.number)
 
@@ -136,9 +135,9 @@ second_by s a datagram x =
     by f unfit = inl refl
     by f (full e) = inl refl
     by f (first_piece n e) =
-        inr (record { piece = a; is = refl; stored = refl; second = sym (ap (λ (b : First). piece_laid b a datagram x.second) e) })
+        inr (record { piece = a; is = refl; stored = refl; second = sym (ap (λ (b : Option ℕ). piece_laid b a datagram x.second) e) })
     by f (later_piece n e) =
-        inr (record { piece = a; is = refl; stored = refl; second = sym (ap (λ (b : First). piece_laid b a datagram x.second) e) })
+        inr (record { piece = a; is = refl; stored = refl; second = sym (ap (λ (b : Option ℕ). piece_laid b a datagram x.second) e) })
 
 -- an arrival of a whole packet leaves it
 unsequenced_second : (s : Settings) (a : Arrival) (g : Group) (datagram : List ℕ) (x : State) → (arrives_unsequenced s a g datagram x).after.second ≡ x.second

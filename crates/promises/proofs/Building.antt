@@ -1,6 +1,7 @@
 -- What stands in the slots along a run, carried through the calls that bring no piece: a slot that is named and no block has nothing remaining; what stands in
 -- dispatched has nothing remaining; of a block, whatever is known by its slot, the marks and the second store. The argument: such a call names what was named, as
 -- it was, or a packet that came whole; dispatch takes only what is complete; receive takes the marks only with the one block.
+use Rattle.std.specs.Prelude.{Some}
 use Prim.Native.Nat.{ℕ, zero, suc, ◌+◌, ◌≤◌, ◌<◌}
 use mathlib.Core.Path.{◌≡◌, refl, ap, sym, subst, ◌∙◌}
 use mathlib.Core.Bool.{Bool, true, false}
@@ -16,7 +17,6 @@ use Rattle.numbers.proofs.BoolLaws.{both_left}
 use Rattle.record.specs.Lists.{in_items}
 use Rattle.record.proofs.Keeps.{one, times, times_append, once_at_most}
 use Rattle.cells.specs.Runs.{first}
-use Rattle.cells.specs.declared.Free.TheVariants.{Lowest}
 use Rattle.record.specs.Fresh.{no_incoming}
 use Rattle.record.specs.Marks.{no_marks}
 use Rattle.record.specs.Blocks.{is_block}
@@ -247,7 +247,7 @@ module _ (x y : State) (n : ℕ) (second : y.second ≡ x.second) (marks : y.pee
 
 -- stored, it takes a free slot
 module _ {B : OfBlock} (a : Arrival) (datagram : List ℕ) (x : State) (n : ℕ) (whole : Whole x.peer) (good : sound x.peer ≡ true)
-    (may : Admitted a x.peer.standing (length datagram)) (free : free_slot x.peer.lists x.peer.channels x.peer.standing.channels ≡ Lowest n)
+    (may : Admitted a x.peer.standing (length datagram)) (free : free_slot x.peer.lists x.peer.channels x.peer.standing.channels ≡ Some n)
     (k : Stock B x) where
   abbrev i : ℕ
   i = a.channel

@@ -1,6 +1,7 @@
 -- What 8 and 10 leave (`eight_leaves`, `eight_first`, `eight_moves`, `ten_keeps`), and that a reliable number which is passed over changes nothing.
 -- The argument: no gate answers 8 or 10; behind it 8 is an arrival without room, which leaves the window's move and nothing else, and 10 an
 -- acknowledgement whose round trip was taken.
+use Rattle.std.specs.Prelude.{None, Option, Some}
 use Prim.Native.Nat.{ℕ}
 use mathlib.Core.Path.{◌≡◌, refl, ap, sym}
 use mathlib.Core.Bool.{Bool, true, false}
@@ -9,12 +10,12 @@ use native.Mathlib.Omega.{arith}
 use lib.Dec.{eqb}
 use lib.ListN.{length}
 use borrow.Author.Tests.{eqb-true}
+use Rattle.std.specs.Prelude.{⊤, Result, Ok, Err}
 use Rattle.numbers.specs.Pick.{pick}
 use Rattle.numbers.specs.Answers.{number_of}
 use Rattle.numbers.specs.Clock.{trip_of}
-use Rattle.numbers.specs.declared.clock.Trip.{Trip}
-use Rattle.numbers.specs.declared.clock.Trip.TheVariants.{PassedOver, Taken}
 use Rattle.numbers.specs.declared.counters.Group.{Group}
+use Rattle.numbers.specs.declared.refusals.Refusal.{Refusal}
 use Rattle.numbers.specs.declared.refusals.Refusal.TheVariants.{NotReceiving, LengthTooLarge, BadCommand}
 use Rattle.window.specs.Window.{first, cleared}
 use Rattle.record.specs.Updates.{with_window}
@@ -26,8 +27,6 @@ use Rattle.peer.specs.Gate.{fits, gate_of, then, behind}
 use Rattle.peer.specs.States.{disconnected, zombie}
 use Rattle.peer.specs.declared.settings.Settings.{Settings}
 use Rattle.peer.specs.declared.gate.Lent.TheVariants.{Nothing, Store, Both}
-use Rattle.peer.specs.declared.gate.Gate.{Gate}
-use Rattle.peer.specs.declared.gate.Gate.TheVariants.{Open, Shut}
 use Rattle.acknowledge.specs.Calls.{acknowledges_by, acknowledges_sound}
 use Rattle.arrival.specs.Arrivals.{answer_of, names, is_receiving, is_whole, arrival_gate, room_of, reply_of}
 use Rattle.arrival.specs.Window.{taken_at, passed_by}
@@ -38,7 +37,6 @@ use Rattle.arrival.specs.declared.Judged.{Judged}
 use Rattle.arrive_reliable.specs.Holding.{is_passed}
 use Rattle.arrive_unsequenced.specs.Calls.{send_unsequenced, regrouped, judged_on, unsequenced_after, unsequenced_sound}
 use Rattle.arrive_reliable.specs.Calls.{channel_of, fate_of, arrives_reliable}
-use Rattle.cells.specs.declared.First.TheVariants.{Empty}
 use Rattle.arrive_fragment.specs.Pieces as pieces
 use Rattle.arrive_fragment.specs.Pieces.{unfinished_on}
 use Rattle.arrive_fragment.specs.Calls.{send_fragment, arrival_of, fragment_sound}
@@ -69,14 +67,14 @@ passed_quiet s a datagram x p =
     (λ n good long may e. absurd (passed_fate (is_passed x.peer.incoming (channel_of a x.peer) a.number.0) (room_of s x.peer) n p e))
 
 -- ---- a number that no gate answers is answered behind it
-abbrev Spares : ℕ → Gate → Type 0
-Spares n Open = Unit {0}
-Spares n (Shut why) = number_of why ≡ n → ⊥
+abbrev Spares : ℕ → Result ⊤ Refusal → Type 0
+Spares n (Ok _) = Unit {0}
+Spares n (Err why) = number_of why ≡ n → ⊥
 
-behind_answers : {A : Type 0} (n : ℕ) (x : A) (P : A → Type 0) (rest : Outcome A) (g : Gate) → Spares n g
+behind_answers : {A : Type 0} (n : ℕ) (x : A) (P : A → Type 0) (rest : Outcome A) (g : Result ⊤ Refusal) → Spares n g
     → (rest.answer.number ≡ n → P rest.after) → (behind g x rest).answer.number ≡ n → P (behind g x rest).after
-behind_answers n x P rest Open m h e = h e
-behind_answers n x P rest (Shut why) m h e = absurd (m e)
+behind_answers n x P rest (Ok _) m h e = h e
+behind_answers n x P rest (Err why) m h e = absurd (m e)
 
 gate_spares : (n : ℕ) → (11 ≡ n → ⊥) → (13 ≡ n → ⊥) → (fit good : Bool) → Spares n (gate_of fit good)
 gate_spares n a b true true = tt
@@ -87,7 +85,7 @@ arrival_spares : (command : ℕ) (a : Arrival) (s : Settings) (standing : Standi
 arrival_spares command a s standing end = go (names a.byte command) (is_receiving a.channel standing) (is_whole a s end)
   where
     go : (b c d : Bool)
-        → Spares 8 (then (pick b Open (Shut BadCommand)) (then (pick c Open (Shut NotReceiving)) (pick d Open (Shut LengthTooLarge))))
+        → Spares 8 (then (pick b (Ok tt) (Err BadCommand)) (then (pick c (Ok tt) (Err NotReceiving)) (pick d (Ok tt) (Err LengthTooLarge))))
     go true true true = tt
     go true true false = λ e. omega (arith, e)
     go true false d = λ e. omega (arith, e)
@@ -97,16 +95,16 @@ arrival_spares command a s standing end = go (names a.byte command) (is_receivin
 pub eight_first : EightFirst
 eight_first s a datagram x z =
     let o =
-    behind_answers 8 x (λ (y : State). (unfinished_on a x.peer ≡ Empty) × (y ≡ x)) (fragment_sound s a datagram x)
+    behind_answers 8 x (λ (y : State). (unfinished_on a x.peer ≡ None) × (y ≡ x)) (fragment_sound s a datagram x)
     (gate_of (fits s (Both (length x.store) (length x.second))) (sound x.peer))
     (gate_spares 8 (λ e. omega (arith, e)) (λ e. omega (arith, e)) (fits s (Both (length x.store) (length x.second))) (sound x.peer))
-    (behind_answers 8 x (λ (y : State). (unfinished_on a x.peer ≡ Empty) × (y ≡ x)) (outcome_by s a datagram x (pieces.fate_on s a x.peer))
+    (behind_answers 8 x (λ (y : State). (unfinished_on a x.peer ≡ None) × (y ≡ x)) (outcome_by s a datagram x (pieces.fate_on s a x.peer))
     (arrival_gate send_fragment (arrival_of a) s x.peer.standing (length datagram)) (arrival_spares send_fragment (arrival_of a) s x.peer.standing (length datagram))
     (by (pieces.fate_on s a x.peer) (goes s a x.peer))) z in
     record { first = o.0; after = o.1 }
   where
     by : (f : Coming) → Goes s a x.peer f → let o = outcome_by s a datagram x f in
-        o.answer.number ≡ 8 → (unfinished_on a x.peer ≡ Empty) × (o.after ≡ x)
+        o.answer.number ≡ 8 → (unfinished_on a x.peer ≡ None) × (o.after ≡ x)
     by f passed z = absurd (omega (arith, z))
     by f unfit z = absurd (omega (arith, z))
     by f (full e) z = (e, refl)
@@ -164,12 +162,12 @@ ten_keeps s channel number sent clock p =
     (gate_spares 10 (λ e. omega (arith, e)) (λ e. omega (arith, e)) (fits s Nothing) (sound p))
     (by_state (pick (eqb p.standing.state disconnected) true (eqb p.standing.state zombie)))
   where
-    by_trip : (t : Trip) → trip_of clock sent ≡ t → let o = acknowledges_by t channel number clock p in
+    by_trip : (t : Option ℕ) → trip_of clock sent ≡ t → let o = acknowledges_by t channel number clock p in
         o.answer.number ≡ 10 → Heard channel number sent clock p o.after
-    by_trip PassedOver e z = absurd (omega (arith, z))
-    by_trip (Taken sample) e z = record { sample = sample; trip = e; is = refl }
+    by_trip None e z = absurd (omega (arith, z))
+    by_trip (Some sample) e z = record { sample = sample; trip = e; is = refl }
 
-    by_state : (b : Bool) → let o = acknowledges_by (pick b PassedOver (trip_of clock sent)) channel number clock p in
+    by_state : (b : Bool) → let o = acknowledges_by (pick b None (trip_of clock sent)) channel number clock p in
         o.answer.number ≡ 10 → Heard channel number sent clock p o.after
     by_state true z = absurd (omega (arith, z))
     by_state false z = by_trip (trip_of clock sent) refl z

@@ -1,6 +1,7 @@
 -- The arrival of a piece beside the ledger: what passes, what stands in the slots then, what joins; and, where it is the last of its block, what is known of the block.
 -- The argument: a first piece's slot was free and there was no block, so that the second store is its write over zeros; a later piece's is that of the one block,
 -- and its write comes after those before it. As many writes and pieces remaining make the block's count.
+use Rattle.std.specs.Prelude.{None, Option, Some}
 use Prim.Native.Nat.{ℕ, ◌+◌, ◌*◌, ◌<◌}
 use mathlib.Core.Path.{◌≡◌, refl, ap, ap₂, sym, subst, ◌∙◌}
 use mathlib.Core.Bool.{Bool, true, false, not}
@@ -14,8 +15,6 @@ use Rattle.numbers.specs.Pick.{pick, both}
 use Rattle.numbers.proofs.BoolLaws.{both_left, same_test}
 use Rattle.record.specs.Lists.{in_items}
 use Rattle.record.proofs.Keeps.{times, times_append, once_at_most}
-use Rattle.cells.specs.declared.First.{First}
-use Rattle.cells.specs.declared.First.TheVariants.{Slot, Empty}
 use Rattle.record.specs.Fresh.{no_channel}
 use Rattle.record.specs.Sizes.{cell, second_length}
 use Rattle.record.specs.Marks.{no_marks, piece_marked, with_piece}
@@ -84,10 +83,10 @@ pub record Own (a : Piece) (i : Incoming) : Type 0 where
 -- what is known goes on with each piece that is stored
 pub record Grows (B : Building → OfBlock) (packet : ℕ) (a : Piece) (datagram : List ℕ) (b : Building) : Type 0 where
   pub opens : FieldsFit packet a.fragment → names a.byte send_fragment ≡ true → (begun_slot a).remaining + 1 ≡ a.fragment.count
-      → B (with_write Empty a.byte (piece_written a datagram) b) (with_piece no_marks a.fragment.number) (written zeros (piece_written a datagram)) (begun_slot a)
+      → B (with_write None a.byte (piece_written a datagram) b) (with_piece no_marks a.fragment.number) (written zeros (piece_written a datagram)) (begun_slot a)
   pub continues : (n : ℕ) (m : Marks) (second : List ℕ) (i : Incoming) → FieldsFit packet a.fragment → B b m second i → Own a i
       → piece_marked m a.fragment.number ≡ false → (one_less i).remaining + 1 ≡ i.remaining
-      → B (with_write (Slot n) a.byte (piece_written a datagram) b) (with_piece m a.fragment.number) (written second (piece_written a datagram)) (one_less i)
+      → B (with_write (Some n) a.byte (piece_written a datagram) b) (with_piece m a.fragment.number) (written second (piece_written a datagram)) (one_less i)
 
 written_last : (store : List ℕ) (ws : List Write) (w : Write) → all_written store (ws ++ (w ∷ [])) ≡ written (all_written store ws) w
 unfolding all_written
@@ -115,7 +114,7 @@ blocked_grows packet a datagram b =
     }
 
 -- ---- what the ledger gets of a piece; u is the unfinished block of its start, t whether it was stored
-abbrev pub built : Piece → List ℕ → First → Bool → Building → Building
+abbrev pub built : Piece → List ℕ → Option ℕ → Bool → Building → Building
 built a datagram u t b = pick t (with_write u a.byte (piece_written a datagram) b) b
 
 abbrev pub puts : Piece → Bool → Building → List Packet
@@ -131,7 +130,7 @@ pub record Complete (B : OfBlock) (a : Piece) : Type 0 where
   pub none : slot.remaining ≡ 0
   pub own : Own a slot
 
-pub record Pieced (B : Building → OfBlock) (a : Piece) (datagram : List ℕ) (x : State) (b : Building) (u : First) (t : Bool) (y : State) : Type 0 where
+pub record Pieced (B : Building → OfBlock) (a : Piece) (datagram : List ℕ) (x : State) (b : Building) (u : Option ℕ) (t : Bool) (y : State) : Type 0 where
   pub passes : Passes x y (puts a t (built a datagram u t b)) []
   pub stock : Stock (B (built a datagram u t b)) y
   pub joined : Joined a.channel x y
@@ -144,7 +143,7 @@ packet_is : {c d y z m n f g : ℕ} {bs cs : List ℕ} → c ≡ d → y ≡ z �
 packet_is h i j k l = cc
 
 module _ (B : Building → OfBlock) (blocked : (b : Building) (m : Marks) (second : List ℕ) (i : Incoming) → B b m second i → Blocked b m second i)
-    (a : Piece) (datagram : List ℕ) (x : State) (b : Building) (u : First) where
+    (a : Piece) (datagram : List ℕ) (x : State) (b : Building) (u : Option ℕ) where
   -- one that was not stored
   pub unstored : Stock (B b) x → Pieced B a datagram x b u false x
   unstored k =
@@ -303,16 +302,16 @@ module _ (B : Building → OfBlock) (blocked : (b : Building) (m : Marks) (secon
         bytes-written s.packet a datagram (cleared x.second) fields (length-replicate (length x.second) 0 ∙ k.second) k.may.inside
         ∙ ap (λ (m : ℕ). written (replicate m 0) (piece_written a datagram)) k.second
 
-    first_known : B (built a datagram Empty true b) begun.peer.marks begun.second (slot_of begun n)
+    first_known : B (built a datagram None true b) begun.peer.marks begun.second (slot_of begun n)
     first_known =
-        carried (B (built a datagram Empty true b)) (ap (λ (m : Marks). with_piece m a.fragment.number) (no_marks_lem s a p n whole k.good on f))
+        carried (B (built a datagram None true b)) (ap (λ (m : Marks). with_piece m a.fragment.number) (no_marks_lem s a p n whole k.good on f))
         first_second at
         (grows.opens fields command (sym (ap (λ (i : Incoming). i.remaining + 1) at) ∙ first_remaining s a p n whole k.good on f))
 
-    pub first_pieced : Pieced B a datagram x b Empty true
+    pub first_pieced : Pieced B a datagram x b None true
         (record { peer = finished_on n a begun.peer; store = x.store; second = with_bytes a datagram (cleared x.second) })
     first_pieced =
-        laid_pieced B blocked a datagram x b Empty begun n first_lays (opened_pieced_whole s a p n whole k.good on f)
+        laid_pieced B blocked a datagram x b None begun n first_lays (opened_pieced_whole s a p n whole k.good on f)
         (opened_pieced_sound s a p n whole k.good on f) on (opened_named s a p n whole k.good on f)
         (ap is_block at ∙ opened_block s a p n whole k.good on f)
         (record {
@@ -392,10 +391,10 @@ module _ (B : Building → OfBlock) (blocked : (b : Building) (m : Marks) (secon
     at_later : slot_of pieced n ≡ one_less old
     at_later = later_slot s a p n whole k.good here f
 
-    pub later_pieced : Pieced B a datagram x b (Slot n) true
+    pub later_pieced : Pieced B a datagram x b (Some n) true
         (record { peer = finished_on n a pieced.peer; store = x.store; second = with_bytes a datagram x.second })
     later_pieced =
-        laid_pieced B blocked a datagram x b (Slot n) pieced n later_lays (pieced_whole s a p n whole k.good here f)
+        laid_pieced B blocked a datagram x b (Some n) pieced n later_lays (pieced_whole s a p n whole k.good here f)
         (pieced_sound s a p n whole k.good here f) here was_there (ap is_block at_later ∙ was_block)
         (record {
           channel = ap (λ (i : Incoming). i.channel) at_later ∙ own_old.channel;
@@ -406,7 +405,7 @@ module _ (B : Building → OfBlock) (blocked : (b : Building) (m : Marks) (secon
         (λ g.
         one_changed x pieced n refl refl (later_others s a p n whole k.good here f) later_packets g (named p) (λ t h. h)
         (omega (arith, was_there, once_at_most (named p) (incoming_clauses p k.good).single n)) (ne_eqb old.remaining 0 was_left))
-        (carried (B (built a datagram (Slot n) true b)) refl (bytes-written s.packet a datagram x.second fields_later k.second k.may.inside) at_later
+        (carried (B (built a datagram (Some n) true b)) refl (bytes-written s.packet a datagram x.second fields_later k.second k.may.inside) at_later
         (grows.continues n p.marks x.second old fields_later (c.block n was_there was_block) own_old f.new
         (sym (ap (λ (i : Incoming). i.remaining + 1) at_later) ∙ later_remaining s a p n whole k.good here f)))
         c
@@ -417,7 +416,7 @@ module _ (B : Building → OfBlock) (blocked : (b : Building) (m : Marks) (secon
   abbrev outcome : Outcome State
   outcome = arrives_fragment s a datagram x
 
-  abbrev unfinished_there : First
+  abbrev unfinished_there : Option ℕ
   unfinished_there = unfinished_on a x.peer
 
   fragment_named : says_one outcome.answer ≡ true → names a.byte send_fragment ≡ true
@@ -438,10 +437,10 @@ module _ (B : Building → OfBlock) (blocked : (b : Building) (m : Marks) (secon
       (λ why g. subst (λ (t : Bool). Pieced B a datagram x b unfinished_there t x) (sym (refused_one why)) none) (λ k e g. none)
       (λ n k e g.
       let f = first_piece s a x.peer n e in
-      subst (λ (u : First). Pieced B a datagram x b u true (fragment_after (fate.First n) a datagram x)) (sym f.none)
+      subst (λ (u : Option ℕ). Pieced B a datagram x b u true (fragment_after (fate.First n) a datagram x)) (sym f.none)
       (first_pieced B blocked s a datagram x b whole k grows c n f (g refl)))
       (λ n k e g.
       let f = later_piece s a x.peer n e in
-      subst (λ (u : First). Pieced B a datagram x b u true (fragment_after (fate.Later n) a datagram x)) (sym f.own)
+      subst (λ (u : Option ℕ). Pieced B a datagram x b u true (fragment_after (fate.Later n) a datagram x)) (sym f.own)
       (later_pieced B blocked s a datagram x b whole k grows c n f))
       fragment_named

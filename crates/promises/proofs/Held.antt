@@ -2,6 +2,7 @@
 -- number of the one before, and none is complete and next. What is stored takes numbers that nothing held has taken, so it takes its place in that order, and what
 -- then is next goes at once; a piece that leaves some remaining leaves its block unready; the written slot was free, so that no list names it; no other call
 -- changes a channel's last number or what it holds, but reset and begin, which make the channels new.
+use Rattle.std.specs.Prelude.{Option}
 use Prim.Native.Nat.{ℕ, ◌≤◌, ◌<◌}
 use mathlib.Core.Path.{◌≡◌, refl, ap, sym, subst}
 use mathlib.Core.Bool.{Bool, true, false, not}
@@ -13,7 +14,6 @@ use borrow.Author.Tests.{eqb-true, eqb-false}
 use Rattle.numbers.specs.Pick.{pick}
 use Rattle.numbers.specs.declared.counters.Group.{Group}
 use Rattle.numbers.specs.declared.refusals.Refusal.TheVariants.{OutOfRange}
-use Rattle.cells.specs.declared.First.{First}
 use Rattle.record.specs.Lists.{in_items}
 use Rattle.record.specs.Sizes.{channels}
 use Rattle.record.specs.Fresh.{no_channel, no_incoming}
@@ -200,7 +200,7 @@ module _ (channel : ℕ) where
       (λ n l e g.
       let f = first_piece s a x.peer n e in
       first_orderly s a x.peer n w l.good l.may.on channel k f x.store x.second low
-      (subst (λ (t : First). Begins t (is_free x a.channel a.start.0 a.fragment.count ≡ true)) f.none (g refl)))
+      (subst (λ (t : Option ℕ). Begins t (is_free x a.channel a.start.0 a.fragment.count ≡ true)) f.none (g refl)))
       (λ n l e g. later_orderly s a x.peer n w l.good l.may.on channel k (later_piece s a x.peer n e))
 
   pub call_orderly : (a : Call) (s : Settings) (datagram : List ℕ) (x : State) → Numbered a → Whole x.peer → Orderly channel x.peer

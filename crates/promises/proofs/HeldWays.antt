@@ -1,6 +1,7 @@
 -- A channel's list in order, with nothing ready (`Orderly`), through what changes a record: a dispatch, a slot that joins a list, a piece of a block.
 -- The argument: a dispatch takes what is ready and leaves the rest in order; a slot that joins was free, so that no list named it, and takes its place by its
 -- distance; a piece changes what remains of its block alone, and a block belongs to one channel. Another channel's list is as it was.
+use Rattle.std.specs.Prelude.{Some}
 use Prim.Native.Nat.{ℕ, zero, suc, ◌+◌, ◌≤◌, ◌<◌}
 use mathlib.Core.Path.{◌≡◌, refl, ap, sym, subst, ◌∙◌}
 use mathlib.Core.Bool.{Bool, true, false}
@@ -15,7 +16,6 @@ use Rattle.numbers.proofs.BoolLaws.{both_left, both_right}
 use Rattle.record.specs.Lists.{in_items}
 use Rattle.record.specs.declared.incoming.InList.{InList}
 use Rattle.record.proofs.Keeps.{one, times, times_append}
-use Rattle.cells.specs.declared.Free.TheVariants.{Lowest}
 use Rattle.record.specs.Damage.{all, below, held, own}
 use Rattle.record.specs.Fresh.{no_channel, no_incoming}
 use Rattle.record.specs.declared.groups.Channel.{Channel}
@@ -100,7 +100,7 @@ module _ (channel : ℕ) where
       go false e = let n = eqb-false channel i e in other_dispatched i p n (k n)
 
   -- ---- a slot that is free is not named
-  pub unnamed : (p : Peer) (n : ℕ) → Whole p → sound p ≡ true → free_slot p.lists p.channels p.standing.channels ≡ Lowest n
+  pub unnamed : (p : Peer) (n : ℕ) → Whole p → sound p ≡ true → free_slot p.lists p.channels p.standing.channels ≡ Some n
       → channel < p.standing.channels → times (items_on channel p) n ≡ 0
   unnamed p n w good free h =
       let cs = below p.channels p.standing.channels in
@@ -135,7 +135,7 @@ pub record Ways (channel i n : ℕ) (r : Peer) : Type 0 where
 
 -- ---- a slot that joins a list
 module _ (q : Peer) (i n : ℕ) (slot : Incoming) (whole : Whole q) (good : sound q ≡ true) (here : i < q.standing.channels)
-    (free : free_slot q.lists q.channels q.standing.channels ≡ Lowest n) where
+    (free : free_slot q.lists q.channels q.standing.channels ≡ Some n) where
   abbrev pub longer : Peer
   longer = joined q i slot.number.0 n slot whole good here free
 

@@ -1,6 +1,7 @@
 -- A near group that is not marked is stored; so an arrival that got 8 is stored once there is room; and a group of the base's window is marked exactly if
 -- it was taken since the base came there. The argument: each premise opens one test; an 8 leaves the base at g's window and g unmarked; only reset and the
 -- unsequenced arrival touch base and words, and what an arrival marks joins the log, on the words as they were or on cleared ones.
+use Rattle.std.specs.Prelude.{None, Option, Some}
 use Prim.Native.Nat.{ℕ, ◌+◌, ◌≤◌}
 use mathlib.Core.Path.{◌≡◌, refl, ap, ap₂, sym, subst, ◌∙◌}
 use mathlib.Core.Bool.{Bool, true, false}
@@ -10,6 +11,7 @@ use native.Mathlib.Omega.{arith}
 use lib.Dec.{eqb, leb}
 use lib.ListN.{length, length-replicate}
 use borrow.Author.Tests.{eqb-true, eqb-false, eq-eqb, ne_eqb, le-ltb, lt-leb}
+use Rattle.std.specs.Prelude.{Ok, Err}
 use Rattle.numbers.specs.Pick.{pick, both}
 use Rattle.numbers.specs.Limits.{window_words}
 use Rattle.numbers.specs.Answers.{number_of}
@@ -19,8 +21,6 @@ use Rattle.numbers.specs.declared.refusals.Refusal.TheVariants.{NotReceiving, Le
 use Rattle.numbers.proofs.Settled.{refused_not_done}
 use Rattle.numbers.proofs.BoolLaws.{both_false}
 use Rattle.cells.specs.Runs.{has}
-use Rattle.cells.specs.declared.Free.{Free}
-use Rattle.cells.specs.declared.Free.TheVariants.{Lowest, Full}
 use Rattle.window.specs.Window.{first, distant, marked, marking, cleared}
 use Rattle.window.proofs.Marks.{marked-cleared, marked_same, marked_other}
 use Rattle.record.specs.declared.groups.Unsequenced.{Unsequenced}
@@ -34,7 +34,6 @@ use Rattle.peer.specs.declared.settings.Settings.{Settings}
 use Rattle.peer.specs.declared.Peer.{Peer}
 use Rattle.peer.specs.declared.defaults.Kept.{Kept}
 use Rattle.peer.specs.declared.gate.Lent.TheVariants.{Store}
-use Rattle.peer.specs.declared.gate.Gate.TheVariants.{Open, Shut}
 use Rattle.peer.proofs.Gates.{behind_open, behind_has}
 use Rattle.lifecycle.specs.Calls.{kept, resets}
 use Rattle.arrival.specs.Storing.{free_slot}
@@ -156,7 +155,7 @@ module _ (s : Settings) (a : Arrival) (g : Group) (datagram : List ℕ) (x : Sta
   -- no gate answers 8
   eight_behind : (fit good named on whole : Bool) (rest : Outcome State) → Eight rest
       → Eight (behind (gate_of fit good) x (behind
-      (then (pick named Open (Shut BadCommand)) (then (pick on Open (Shut NotReceiving)) (pick whole Open (Shut LengthTooLarge)))) x rest))
+      (then (pick named (Ok tt) (Err BadCommand)) (then (pick on (Ok tt) (Err NotReceiving)) (pick whole (Ok tt) (Err LengthTooLarge)))) x rest))
   eight_behind true true true true true rest h = h
   eight_behind true true true true false rest h = λ e. absurd (omega (arith, e))
   eight_behind true true true false whole rest h = λ e. absurd (omega (arith, e))
@@ -225,11 +224,11 @@ room_passed : (s : Settings) (p : Peer) → room_of s p ≡ fate.Passed → eqb 
 room_passed s p =
     go (eqb p.standing.state disconnect_later) (leb s.waiting p.waiting.total) (free_slot p.lists p.channels p.standing.channels)
   where
-    go : (later full : Bool) (free : Free) → pick later fate.Passed (pick full fate.NoRoom (in_slot free)) ≡ fate.Passed → later ≡ true
+    go : (later full : Bool) (free : Option ℕ) → pick later fate.Passed (pick full fate.NoRoom (in_slot free)) ≡ fate.Passed → later ≡ true
     go true full free e = refl
     go false true free e = let z : ◌≡◌ {A = ℕ} 0 1 = cc in absurd (omega arith)
-    go false false (Lowest n) e = let z : ◌≡◌ {A = ℕ} 0 1 = cc in absurd (omega arith)
-    go false false Full e = let z : ◌≡◌ {A = ℕ} 0 1 = cc in absurd (omega arith)
+    go false false (Some n) e = let z : ◌≡◌ {A = ℕ} 0 1 = cc in absurd (omega arith)
+    go false false None e = let z : ◌≡◌ {A = ℕ} 0 1 = cc in absurd (omega arith)
 
 module _ (s : Settings) (a : Arrival) (g : Group) (datagram : List ℕ) (x : State) (log : List ℕ) (m : Marks (window_of x) log) where
   abbrev Then : Outcome State → Type 0

@@ -1,6 +1,7 @@
 -- A reliable arrival of the next number, with nothing of its own and no want of room in its way, is stored and joins dispatched at once, with all that
 -- was held behind it without a gap. The argument: the next number is at distance 1 and is not held, so all that is held is farther; it is stored before all
 -- that is held, follows the last number, and a dispatch takes what follows in series.
+use Rattle.std.specs.Prelude.{Some}
 use Prim.Native.Nat.{ℕ, suc, ◌+◌, ◌-◌, ◌≤◌, ◌<◌}
 use mathlib.Core.Path.{◌≡◌, refl, ap, sym, subst, ◌∙◌}
 use mathlib.Core.Bool.{Bool, true, false}
@@ -13,7 +14,6 @@ use borrow.Author.Tests.{eqb-false, eq-eqb, le-leb}
 use Rattle.numbers.specs.Pick.{pick}
 use Rattle.numbers.specs.Counters.{step}
 use Rattle.record.specs.Lists.{in_items}
-use Rattle.cells.specs.declared.Free.TheVariants.{Lowest}
 use Rattle.record.specs.Damage.{all}
 use Rattle.record.specs.Fresh.{no_channel, no_incoming}
 use Rattle.record.specs.declared.groups.Channel.{Channel}
@@ -129,7 +129,7 @@ module _ (s : Settings) (a : Arrival) (datagram : List ℕ) (x : State) (w : Who
   low : a.number.0 < 65536
   low = omega (arith, e)
 
-  free : free_slot p.lists p.channels p.standing.channels ≡ Lowest n
+  free : free_slot p.lists p.channels p.standing.channels ≡ Some n
   free = held_free s a datagram x n stored_there
 
   abbrev pool : List Incoming

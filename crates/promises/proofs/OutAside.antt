@@ -1,19 +1,20 @@
 -- The calls that have nothing to do with the outgoing lists: set state, throttle, dispatch, receive and the arrivals; and begin, which makes the
 -- channels new. The argument: none names the outgoing slots or the three lists; dispatch and an arrival change a channel's incoming side alone.
+use Rattle.std.specs.Prelude.{None, Option, Some}
 use Prim.Native.Nat.{ℕ}
 use mathlib.Core.Path.{◌≡◌, refl, ap₂}
 use mathlib.Core.Bool.{Bool, true, false}
 use mathlib.Core.List.{List, map}
 use lib.Dec.{leb, eqb}
 use lib.ListN.{get_or, set}
+use Rattle.std.specs.Prelude.{⊤, Result}
 use Rattle.numbers.specs.Pick.{pick}
 use Rattle.numbers.specs.declared.counters.Group.{Group}
 use Rattle.numbers.specs.declared.counters.Reliable.{Reliable}
+use Rattle.numbers.specs.declared.refusals.Refusal.{Refusal}
 use Rattle.numbers.specs.declared.refusals.Refusal.TheVariants.{OutOfRange}
 use Rattle.record.specs.Lists.{in_items}
 use Rattle.cells.specs.Runs.{first}
-use Rattle.cells.specs.declared.First.{First}
-use Rattle.cells.specs.declared.First.TheVariants.{Slot, Empty}
 use Rattle.record.specs.Damage.{used_out}
 use Rattle.record.specs.Fresh.{no_channel, no_outgoing}
 use Rattle.record.specs.declared.groups.Lists.{Lists}
@@ -28,7 +29,6 @@ use Rattle.peer.specs.Outcome.{State, Outcome, finished, unchanged}
 use Rattle.peer.specs.declared.settings.Settings.{Settings}
 use Rattle.peer.specs.declared.Peer.{Peer}
 use Rattle.peer.specs.declared.gate.Lent.TheVariants as lent
-use Rattle.peer.specs.declared.gate.Gate.{Gate}
 use Rattle.peer.proofs.Gates.{behind_has}
 use Rattle.lifecycle.specs.Calls.{begin_fits, begun, begins_sound, begins, stated, sets_state_sound, sets_state}
 use Rattle.round_trip.specs.Calls.{throttles_sound, throttles}
@@ -72,10 +72,10 @@ pub aside_waiting : (p q : Peer) → q.outgoing ≡ p.outgoing → used_out q.li
 aside_waiting p q slots names =
     ap₂ (λ (os : List Outgoing) (ss : List ℕ). map (λ (s : ℕ). item_of (get_or os s no_outgoing)) ss) slots names
 
-behind_aside : (p : Peer) (g : Gate) (rest : Outcome Peer) → Aside p rest.after → Aside p (behind g p rest).after
+behind_aside : (p : Peer) (g : Result ⊤ Refusal) (rest : Outcome Peer) → Aside p rest.after → Aside p (behind g p rest).after
 behind_aside p g rest k = behind_has g p rest (λ (o : Outcome Peer). Aside p o.after) (λ why. aside p) (λ e. k)
 
-abbrev gate : Settings → Peer → Gate
+abbrev gate : Settings → Peer → Result ⊤ Refusal
 gate s p = gate_of (fits s lent.Nothing) (sound p)
 
 pub state_aside : (s : Settings) (state : ℕ) (p : Peer) → Aside p (sets_state s state p).after
@@ -103,9 +103,9 @@ throttle_aside s sample p =
 pub receive_aside : (s : Settings) (p : Peer) → Aside p (receives s p).after
 receive_aside s p = behind_aside p (gate s p) (receives_sound p) (go (first (in_items p.lists.dispatched)))
   where
-    go : (f : First) → Aside p (receives_from f p).after
-    go Empty = aside p
-    go (Slot n) = record { slots = refl; names = refl; counters = record { own = refl; many = refl; given = λ c. refl } }
+    go : (f : Option ℕ) → Aside p (receives_from f p).after
+    go None = aside p
+    go (Some n) = record { slots = refl; names = refl; counters = record { own = refl; many = refl; given = λ c. refl } }
 
 -- ---- a channel that keeps its outgoing number
 pub set_given : (cs : List Channel) (i : ℕ) (d : Channel) → d.outgoing_reliable ≡ given_on cs i → (c : ℕ) → given_on (set cs i d) c ≡ given_on cs c

@@ -7,7 +7,9 @@ use mathlib.Core.Bool.{Bool, true, false}
 use mathlib.Core.List.{List, [], ◌∷◌}
 use native.Mathlib.Omega.{arith}
 use lib.ListN.{length, get_or, set}
+use Rattle.std.specs.Prelude.{⊤, Result}
 use Rattle.numbers.specs.Pick.{pick}
+use Rattle.numbers.specs.declared.refusals.Refusal.{Refusal}
 use Rattle.cells.specs.Runs.{first}
 use Rattle.cells.specs.Free.{once}
 use Rattle.record.specs.Lists.{out_items}
@@ -23,7 +25,6 @@ use Rattle.peer.specs.Sounds.{Whole}
 use Rattle.peer.specs.declared.settings.Settings.{Settings}
 use Rattle.peer.specs.declared.Peer.{Peer}
 use Rattle.peer.specs.declared.gate.Lent.TheVariants as lent
-use Rattle.peer.specs.declared.gate.Gate.{Gate}
 use Rattle.peer.proofs.Gates.{sound_open, behind_has}
 use Rattle.peer.proofs.Clauses.{Clauses, sound_clauses}
 use Rattle.command.specs.Flags.{acknowledged}
@@ -43,7 +44,7 @@ use Rattle.promises.specs.Outbook.{Item, item_of, items_at, waiting, missing, go
 use Rattle.promises.proofs.Unreported.{part_set}
 use Rattle.promises.proofs.OutCounts.{count_map, count-all, map_same, count_same, once-times, missing_none, missing-count}
 
-abbrev gate : Settings → Peer → Gate
+abbrev gate : Settings → Peer → Result ⊤ Refusal
 gate s p = gate_of (fits s lent.Nothing) (sound p)
 
 -- the command in a slot

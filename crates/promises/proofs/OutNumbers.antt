@@ -1,7 +1,8 @@
 -- On each channel the reliable numbers of what is queued are 1, 2, 3 and so on. The argument: a channel's counter, for 255 the peer's own, is the
 -- last number that was queued on it; a setup steps exactly the counter whose number its command gets; begin makes the channels new, but before it nothing
 -- was queued on any of them.
-use Prim.Native.Nat.{ℕ, ◌+◌, ◌≤◌, ◌<◌}
+use Rattle.std.specs.Prelude.{Option, Some, None}
+use Prim.Native.Nat.{ℕ, ◌≤◌, ◌<◌}
 use mathlib.Core.Path.{◌≡◌, refl, ap, ap₂, sym, subst, ◌∙◌}
 use mathlib.Core.Bool.{Bool, true, false}
 use mathlib.Core.List.{List, [], ◌∷◌, ◌++◌, map, map-append, append_assoc, append-nil}
@@ -15,15 +16,11 @@ use Rattle.numbers.specs.Modulo.{minus}
 use Rattle.numbers.specs.Limits.{mtu_fits}
 use Rattle.numbers.specs.Counters.{step}
 use Rattle.numbers.specs.declared.counters.Reliable.{Reliable}
-use Rattle.numbers.specs.declared.clock.Trip.{Trip}
-use Rattle.numbers.specs.declared.clock.Trip.TheVariants.{PassedOver, Taken}
 use Rattle.numbers.specs.declared.refusals.Refusal.TheVariants.{OutOfRange}
 use Rattle.numbers.proofs.BoolLaws.{both_right}
 use Rattle.record.specs.Channels.{is_itself, on_channel}
 use Rattle.record.specs.Lists.{out_items}
 use Rattle.cells.specs.Runs.{first}
-use Rattle.cells.specs.declared.First.{First}
-use Rattle.cells.specs.declared.First.TheVariants.{Slot, Empty}
 use Rattle.record.specs.Fresh.{no_channel}
 use Rattle.record.specs.Sizes.{channels, itself}
 use Rattle.record.specs.Updates.{with_numbers, with_transit}
@@ -55,9 +52,10 @@ use Rattle.setup.proofs.Taking.{step as setup}
 use Rattle.send_step.specs.Steps.{list_of, is_acknowledged, carrying, head, sent_as}
 use Rattle.send_step.specs.Calls.{steps_from, steps_sound, steps}
 use Rattle.send_step.specs.declared.heads.Queue.{Queue}
-use Rattle.acknowledge.specs.Removal.{spot_of, flow_without}
+use Rattle.queues.specs.declared.Out.{Out}
+use Rattle.queues.specs.declared.Out.TheVariants as out
+use Rattle.acknowledge.specs.Removal.{spot_of, flow_left, flow_without}
 use Rattle.acknowledge.specs.declared.removal.Spot.{Spot}
-use Rattle.acknowledge.specs.declared.removal.Spot.TheVariants as spot
 use Rattle.acknowledge.specs.Calls.{heard_in, acknowledges_by, acknowledges_sound, acknowledges}
 use Rattle.timeouts.specs.Calls.{checks_sound, checks}
 use Rattle.laws.proofs.Carrying.{same_all}
@@ -360,28 +358,31 @@ step_uncounted s k time p = behind_uncounted s p (steps_sound k time p) (go (fir
     own o true = refl
     own o false = refl
 
-    go : (f : First) → Uncounted p (steps_from f k time p).after
-    go Empty = uncounted p
-    go (Slot n) = record { own = own (head p n time) (is_acknowledged (head p n time)); many = refl; given = λ c. refl }
+    go : (f : Option ℕ) → Uncounted p (steps_from f k time p).after
+    go None = uncounted p
+    go (Some n) = record { own = own (head p n time) (is_acknowledged (head p n time)); many = refl; given = λ c. refl }
 
-removal_own : (w : Spot) (o : Outgoing) (f : Flow) → (flow_without w o f).own_number ≡ f.own_number
-removal_own (spot.Sent k) o f = go o.packet
+left_own : (list : Out) (o : Outgoing) (f : Flow) → (flow_left list o f).own_number ≡ f.own_number
+left_own out.Sent o f = go o.packet
   where
     go : (b : Bool) → (pick b (with_transit f (minus 32 f.transit o.length)) f).own_number ≡ f.own_number
     go true = refl
     go false = refl
-removal_own (spot.Reliable k) o f = refl
-removal_own (spot.Outgoing k) o f = refl
-removal_own spot.Nowhere o f = refl
+left_own out.Reliable o f = refl
+left_own out.Outgoing o f = refl
+
+removal_own : (w : Option Spot) (o : Outgoing) (f : Flow) → (flow_without w o f).own_number ≡ f.own_number
+removal_own (Some w) o f = left_own w.list o f
+removal_own None o f = refl
 
 pub acknowledge_uncounted : (s : Settings) (channel number sent clock : ℕ) (p : Peer)
     → Uncounted p (acknowledges s channel number sent clock p).after
 acknowledge_uncounted s channel number sent clock p =
     behind_uncounted s p (acknowledges_sound channel number sent clock p) (go (heard_in p.standing.state clock sent))
   where
-    go : (t : Trip) → Uncounted p (acknowledges_by t channel number clock p).after
-    go PassedOver = uncounted p
-    go (Taken sample) = record { own = removal_own (spot_of p.outgoing number channel p.lists) _ p.flow; many = refl; given = λ c. refl }
+    go : (t : Option ℕ) → Uncounted p (acknowledges_by t channel number clock p).after
+    go None = uncounted p
+    go (Some sample) = record { own = removal_own (spot_of p.outgoing number channel p.lists) _ p.flow; many = refl; given = λ c. refl }
 
 pub check_uncounted : (s : Settings) (clock : ℕ) (p : Peer) → Uncounted p (checks s clock p).after
 check_uncounted s clock p = behind_uncounted s p (checks_sound clock p) (record { own = refl; many = refl; given = λ c. refl })

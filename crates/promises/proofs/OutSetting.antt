@@ -6,7 +6,9 @@ use mathlib.Core.Bool.{Bool, true}
 use mathlib.Core.List.{List, [], ◌∷◌}
 use lib.ListN.{length}
 use borrow.Author.Tests.{leb-true}
+use Rattle.std.specs.Prelude.{⊤, Result}
 use Rattle.numbers.proofs.BoolLaws.{both_true}
+use Rattle.numbers.specs.declared.refusals.Refusal.{Refusal}
 use Rattle.command.specs.Rows.{names_fields}
 use Rattle.record.specs.Channels.{on_channel}
 use Rattle.record.proofs.ChannelLaws.{itself_on}
@@ -17,7 +19,6 @@ use Rattle.peer.specs.Sounds.{Whole}
 use Rattle.peer.specs.declared.settings.Settings.{Settings}
 use Rattle.peer.specs.declared.Peer.{Peer}
 use Rattle.peer.specs.declared.gate.Lent.TheVariants as lent
-use Rattle.peer.specs.declared.gate.Gate.{Gate}
 use Rattle.peer.proofs.Gates.{sound_open, behind_has, behind_open}
 use Rattle.outbox.specs.Pieces.{to_reliable}
 use Rattle.outbox.specs.declared.pieces.Piece.{Piece}
@@ -45,7 +46,7 @@ pub data Queues (p q : Peer) : Type 0 where
   none : q ≡ p → Queues p q
   some : Sets p q → Queues p q
 
-abbrev gate : Settings → Peer → Gate
+abbrev gate : Settings → Peer → Result ⊤ Refusal
 gate s p = gate_of (fits s lent.Nothing) (sound p)
 
 abbrev After : Peer → Outcome Peer → Type 0

@@ -1,20 +1,20 @@
 -- The calls that let packets pass: dispatch, receive and the arrivals of packets (of pieces: Piecing, Fragments).
 -- The argument: dispatch names each slot as often as before; receive takes dispatched's head, which is complete; an arrival that is stored adds one slot, free before, to
 -- what is named, at the end of dispatched or in its channel's list.
+use Rattle.std.specs.Prelude.{Option, Some}
 use Prim.Native.Nat.{ℕ, ◌+◌, ◌*◌, ◌<◌}
 use mathlib.Core.Path.{◌≡◌, refl, ap, ◌∙◌}
 use mathlib.Core.Bool.{Bool, true, false}
 use mathlib.Core.List.{List, [], ◌∷◌, ◌++◌}
 use lib.ListN.{length, take, drop, get_or}
 use lib.Seq.{take-set-lt}
+use Rattle.std.specs.Prelude.{Ok, Some}
 use Rattle.numbers.specs.Pick.{pick}
 use Rattle.numbers.specs.Answers.{refused}
 use Rattle.numbers.specs.declared.counters.Group.{Group}
 use Rattle.numbers.specs.declared.refusals.Refusal.{Refusal}
 use Rattle.record.specs.Lists.{in_items}
 use Rattle.cells.specs.Runs.{first}
-use Rattle.cells.specs.declared.Free.{Free}
-use Rattle.cells.specs.declared.Free.TheVariants.{Lowest}
 use Rattle.record.proofs.Keeps.{times}
 use Rattle.record.specs.Sizes.{cell}
 use Rattle.record.specs.Fresh.{no_incoming}
@@ -49,7 +49,7 @@ use Rattle.laws.proofs.Stores.{unsequenced_stores, unsequenced_adds, reliable_st
 use Rattle.laws.proofs.Unsequenced.{unsequenced_has, stored_free, more_by as delivered-by}
 use Rattle.laws.proofs.Reliable.{reliable_has, held_free, between, between_whole, between-sound, left_dispatched, more_by as held_by}
 use Rattle.receive.specs.Calls.{answer_of, reply_of, without_first, taken, receives_from, receives_sound, receives}
-use Rattle.receive.specs.declared.Reply.TheVariants as vr
+use Rattle.receive.specs.declared.Received.TheVariants as vr
 use Rattle.link_in.specs.Steps.{beside}
 use Rattle.link.specs.Runs.{says_one, says_two, Packet, handed}
 use Rattle.promises.specs.Packets.{packet_at, is_complete, payload}
@@ -94,7 +94,7 @@ handed_head x n = go (is_block i)
     i : Incoming
     i = get_or x.peer.incoming n no_incoming
 
-    go : (b : Bool) → handed (answer_of (pick b (vr.Block i.channel n i.length) (vr.Packet i.channel n i.length))) x
+    go : (b : Bool) → handed (answer_of (Ok (Some (pick b (vr.Block i.channel n i.length) (vr.Packet i.channel n i.length))))) x
         ≡ record {
           channel = i.channel;
           byte = i.byte;
@@ -134,7 +134,7 @@ Comes a datagram x o =
 abbrev More : State → State → ℕ → Type 0
 More x y n = (g : List ℕ → ℕ) → Sums g → g (named y.peer) ≡ g (n ∷ []) + g (named x.peer)
 
-pub same_slot : {f : Free} (n k : ℕ) → f ≡ Lowest n → f ≡ Lowest k → n ≡ k
+pub same_slot : {f : Option ℕ} (n k : ℕ) → f ≡ Some n → f ≡ Some k → n ≡ k
 same_slot n k d e = cc
 
 module _ (a : Arrival) (datagram : List ℕ) (x : State) where
@@ -142,7 +142,7 @@ module _ (a : Arrival) (datagram : List ℕ) (x : State) where
   refused_comes why k js = rw (refused_one why) (still_passes x x.peer (still x.peer))
 
   module _ (n : ℕ) (y : State) (good : sound x.peer ≡ true) (may : Admitted a x.peer.standing (length datagram))
-      (free : free_slot x.peer.lists x.peer.channels x.peer.standing.channels ≡ Lowest n) (more : More x y n) where
+      (free : free_slot x.peer.lists x.peer.channels x.peer.standing.channels ≡ Some n) (more : More x y n) where
     stored_comes : Comes a datagram x (record { answer = stored; after = y })
     stored_comes (leaves l not) js = absurd (not refl)
     stored_comes (stores k is) js =
@@ -150,7 +150,7 @@ module _ (a : Arrival) (datagram : List ℕ) (x : State) where
         (λ g adds. more g adds ∙ ap (λ (m : ℕ). g (m ∷ []) + g (named x.peer)) (same_slot n k.slot free k.free))
 
   module _ (n : ℕ) (whole : Whole x.peer) (good : sound x.peer ≡ true) (may : Admitted a x.peer.standing (length datagram))
-      (free : free_slot x.peer.lists x.peer.channels x.peer.standing.channels ≡ Lowest n) where
+      (free : free_slot x.peer.lists x.peer.channels x.peer.standing.channels ≡ Some n) where
     -- in its channel's list, and some of that list then in dispatched
     held_more : More x (reliable_after (fate.Stored n) a datagram x) n
     held_more g adds =

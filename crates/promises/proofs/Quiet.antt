@@ -1,6 +1,7 @@
 -- The calls that leave what the incoming lists name, and what it holds: begin, set state, ping, send, setup, send step, acknowledgement, timeout check
 -- and throttle. The argument: none names the incoming slots or dispatched; of a channel setup changes two numbers alone; begin makes channels new
 -- only where none counted.
+use Rattle.std.specs.Prelude.{None, Option, Some}
 use Prim.Native.Nat.{ℕ}
 use mathlib.Core.Path.{◌≡◌, refl, ap, sym, ◌∙◌}
 use mathlib.Core.Bool.{Bool, true, false}
@@ -8,20 +9,16 @@ use mathlib.Core.List.{List, [], ◌∷◌, ◌++◌}
 use lib.Dec.{leb}
 use lib.ListN.{length, take}
 use borrow.Author.Tests.{eqb-true}
+use Rattle.std.specs.Prelude.{⊤, Result}
 use Rattle.numbers.specs.Pick.{pick}
 use Rattle.numbers.specs.Limits.{mtu_fits}
-use Rattle.numbers.specs.declared.clock.Trip.{Trip}
-use Rattle.numbers.specs.declared.clock.Trip.TheVariants.{PassedOver, Taken}
+use Rattle.numbers.specs.declared.refusals.Refusal.{Refusal}
 use Rattle.numbers.specs.declared.refusals.Refusal.TheVariants.{OutOfRange}
 use Rattle.numbers.proofs.BoolLaws.{both_right}
 use Rattle.record.specs.Lists.{outgoing, out_items, in_items}
 use Rattle.record.specs.declared.incoming.InList.{InList}
 use Rattle.cells.specs.Runs.{first}
 use Rattle.cells.specs.Free.{lowest}
-use Rattle.cells.specs.declared.Free.{Free}
-use Rattle.cells.specs.declared.Free.TheVariants.{Lowest, Full}
-use Rattle.cells.specs.declared.First.{First}
-use Rattle.cells.specs.declared.First.TheVariants.{Slot, Empty}
 use Rattle.record.specs.Sizes.{channels}
 use Rattle.record.specs.Damage.{below, held, used_out}
 use Rattle.record.specs.Updates.{with_sent_list, longer}
@@ -35,7 +32,6 @@ use Rattle.peer.specs.Gate.{fits, gate_of, behind, on_record}
 use Rattle.peer.specs.declared.settings.Settings.{Settings}
 use Rattle.peer.specs.declared.Peer.{Peer}
 use Rattle.peer.specs.declared.gate.Lent.TheVariants as lent
-use Rattle.peer.specs.declared.gate.Gate.{Gate}
 use Rattle.peer.proofs.Gates.{behind_has}
 use Rattle.lifecycle.specs.Calls.{begin_fits, begun, begins_sound, begins, stated, sets_state_sound, sets_state}
 use Rattle.lifecycle.proofs.Sound.{held_none}
@@ -64,7 +60,7 @@ use Rattle.promises.proofs.Presence.{named, Still, still}
 then : {p q r : Peer} → Still p q → Still q r → Still p r
 then j k = record { slots = k.slots ∙ j.slots; items = k.items ∙ j.items; names = k.names ∙ j.names }
 
-behind_still : (p : Peer) (g : Gate) (rest : Outcome Peer) → Still p rest.after → Still p (behind g p rest).after
+behind_still : (p : Peer) (g : Result ⊤ Refusal) (rest : Outcome Peer) → Still p rest.after → Still p (behind g p rest).after
 behind_still p g rest k = behind_has g p rest (λ (o : Outcome Peer). Still p o.after) (λ why. still p) (λ e. k)
 
 -- and the gate of every call
@@ -108,15 +104,15 @@ queued_still : (x : Piece) (p : Peer) → Still p (queued x p)
 unfolding queued queued_at
 queued_still x p = go (lowest outgoing (used_out p.lists))
   where
-    go : (f : Free) → Still p (queued_in f x p)
-    go (Lowest n) =
+    go : (f : Option ℕ) → Still p (queued_in f x p)
+    go (Some n) =
         record {
           slots = refl;
           items = ap in_items (joined_dispatched p.lists n x);
           names =
               setup-named p.incoming p.lists x n p.channels x.command.channel (stamp_of x p).counters p.standing.channels p.waiting.total;
         }
-    go Full = still p
+    go None = still p
 
 all_still : (xs : List Piece) (p : Peer) → Still p (queued_all xs p)
 unfolding queued_all
@@ -153,16 +149,16 @@ step_still : (s : Settings) (q : Queue) (time : ℕ) (p : Peer) → Still p (ste
 unfolding sent_as
 step_still s q time p = on_still s p (steps_sound q time p) (go (first (out_items (list_of q p.lists))))
   where
-    go : (f : First) → Still p (steps_from f q time p).after
-    go Empty = still p
-    go (Slot n) =
+    go : (f : Option ℕ) → Still p (steps_from f q time p).after
+    go None = still p
+    go (Some n) =
         let came = sent_dispatched q p.lists n (head p n time) in
         record { slots = refl; items = ap in_items came; names = listed p came }
 
 -- ---- and so do these
-by_still : (t : Trip) (channel number clock : ℕ) (p : Peer) → Still p (acknowledges_by t channel number clock p).after
-by_still PassedOver channel number clock p = still p
-by_still (Taken sample) channel number clock p =
+by_still : (t : Option ℕ) (channel number clock : ℕ) (p : Peer) → Still p (acknowledges_by t channel number clock p).after
+by_still None channel number clock p = still p
+by_still (Some sample) channel number clock p =
     let came = same_dispatched (spot_of p.outgoing number channel p.lists) p.lists in
     record { slots = refl; items = ap in_items came; names = listed p came }
 

@@ -2,6 +2,7 @@
 -- are as they were (`refused_unchanged`); 13 only of a record that is not sound (`sound_undamaged`).
 -- The argument: a gate's refusals are read off its tests and leave what they found, what is behind the gates is done, and only an arrival without
 -- room (8) and an acknowledgement that removed nothing (10) are refused there.
+use Rattle.std.specs.Prelude.{None, Option, Some}
 use Prim.Native.Nat.{ℕ}
 use mathlib.Core.Path.{◌≡◌, refl, ap, sym, ◌∙◌}
 use mathlib.Core.Bool.{Bool, true, false, not}
@@ -10,20 +11,17 @@ use native.Mathlib.Omega.{arith}
 use lib.Dec.{eqb, leb, ltb}
 use lib.ListN.{length, get_or}
 use borrow.Author.Tests.{eqb-false, not-true}
+use Rattle.std.specs.Prelude.{⊤, Result, Ok, Err, Some}
 use Rattle.numbers.specs.Pick.{pick, both}
 use Rattle.numbers.proofs.BoolLaws.{both_left, both_right}
 use Rattle.numbers.specs.Answers.{number_of, refused}
 use Rattle.numbers.specs.Limits.{most_fragments}
 use Rattle.numbers.specs.Modulo.{sum}
-use Rattle.numbers.specs.declared.clock.Trip.{Trip}
-use Rattle.numbers.specs.declared.clock.Trip.TheVariants.{PassedOver, Taken}
 use Rattle.numbers.specs.declared.counters.Group.{Group}
 use Rattle.numbers.specs.declared.counters.Reliable.{Reliable}
 use Rattle.numbers.specs.declared.refusals.Refusal.{Refusal}
 use Rattle.numbers.specs.declared.refusals.Refusal.TheVariants.{NotReceiving, LengthTooLarge, NotStored, BadCommand, NotRemoved, OutOfRange, BadFragment}
 use Rattle.cells.specs.Runs.{first, is_empty}
-use Rattle.cells.specs.declared.First.{First}
-use Rattle.cells.specs.declared.First.TheVariants.{Slot, Empty}
 use Rattle.record.specs.Channels.{on_channel}
 use Rattle.record.specs.Lists.{out_items, in_items}
 use Rattle.record.specs.Damage.{used_out}
@@ -42,8 +40,6 @@ use Rattle.peer.specs.declared.settings.Settings.{Settings}
 use Rattle.peer.specs.declared.Peer.{Peer}
 use Rattle.peer.specs.declared.gate.Lent.{Lent}
 use Rattle.peer.specs.declared.gate.Lent.TheVariants.{Nothing, Store, Both}
-use Rattle.peer.specs.declared.gate.Gate.{Gate}
-use Rattle.peer.specs.declared.gate.Gate.TheVariants.{Open, Shut}
 use Rattle.lifecycle.specs.Calls.{resets, begin_fits, begins, sets_state}
 use Rattle.setup.specs.Calls.{setup_gate, sets_up}
 use Rattle.setup.specs.Queueing.{room}
@@ -53,10 +49,11 @@ use Rattle.setup.specs.Pings.{ping_gate, pings}
 use Rattle.send_step.specs.Steps.{list_of}
 use Rattle.send_step.specs.Calls as stepping
 use Rattle.send_step.specs.declared.heads.Queue.{Queue}
-use Rattle.acknowledge.specs.Removal.{spot_of, slot_at, held_by, lists_without, is_some, command_at}
+use Rattle.std.specs.Prelude.{is_some}
+use Rattle.acknowledge.specs.Removal.{spot_of, slot_at, held_by, lists_without, command_at}
 use Rattle.acknowledge.specs.Calls as acknowledging
-use Rattle.acknowledge.specs.declared.Reply.{Reply}
-use Rattle.acknowledge.specs.declared.Reply.TheVariants as vr
+use Rattle.acknowledge.specs.declared.Event.{Event}
+use Rattle.acknowledge.specs.declared.Event.TheVariants as vr
 use Rattle.timeouts.specs.Calls as checking
 use Rattle.arrival.specs.Arrivals.{answer_of, names, is_receiving, is_whole, arrival_gate, reply_of}
 use Rattle.arrival.specs.declared.Arrival.{Arrival}
@@ -66,7 +63,7 @@ use Rattle.arrive_unsequenced.specs.Calls.{send_unsequenced, judged_on, unsequen
 use Rattle.arrive_reliable.specs.Calls.{send_reliable, fate_on, reliable_after, arrives_reliable}
 use Rattle.dispatch.specs.Calls.{dispatch_gate, dispatches}
 use Rattle.receive.specs.Calls as receiving
-use Rattle.receive.specs.declared.Reply.TheVariants as got
+use Rattle.receive.specs.declared.Received.TheVariants as got
 use Rattle.arrive_fragment.specs.Pieces as pieces
 use Rattle.arrive_fragment.specs.Calls.{send_fragment, arrival_of, fragment_after, arrives_fragment}
 use Rattle.arrive_fragment.specs.declared.Piece.{Piece as Arriving}
@@ -75,7 +72,6 @@ use Rattle.arrive_fragment.specs.declared.Fate.TheVariants as coming
 use Rattle.throttle.specs.declared.Throttle.{Throttle}
 use Rattle.round_trip.specs.Interval.{throttle_of}
 use Rattle.round_trip.specs.Calls as throttling
-use Rattle.round_trip.specs.declared.Reply.TheVariants as turn
 use Rattle.link_in.specs.Steps.{beside}
 use Rattle.link.specs.Steps.{calls}
 use Rattle.promises.specs.Refusals.{may, AnswersMay, RefusedUnchanged, SoundUndamaged}
@@ -84,6 +80,7 @@ use Rattle.link_out.specs.declared.calls.Call.TheVariants as out
 use Rattle.link_in.specs.declared.calls.Call.TheVariants as inw
 use Rattle.link.specs.declared.calls.Call.{Call}
 use Rattle.link.specs.declared.calls.Call.TheVariants as call
+use Rattle.throttle.specs.declared.Turn.TheVariants as turn
 
 -- own refusals: those that a call may answer behind its gate
 abbrev own : Call → ℕ → Bool
@@ -102,9 +99,9 @@ record Fair {A : Type 0} (k : Call) (good : Bool) (x : A) (o : Outcome A) : Type
   pub whole : good ≡ true → o.answer.number ≡ 13 → ⊥
 
 -- the refusals of a call's own gate
-abbrev Fits : Call → Gate → Type 0
-Fits k Open = Unit {0}
-Fits k (Shut why) = own k (number_of why) ≡ true
+abbrev Fits : Call → Result ⊤ Refusal → Type 0
+Fits k (Ok _) = Unit {0}
+Fits k (Err why) = own k (number_of why) ≡ true
 
 module _ {A : Type 0} {good : Bool} (k : Call) (x : A) where
   done : (o : Outcome A) → o.answer.number ≡ 0 → Fair k good x o
@@ -119,9 +116,9 @@ module _ {A : Type 0} {good : Bool} (k : Call) (x : A) where
   late why y m which =
       record { number = λ n. own-may k (number_of why) m; kept = λ n e t. absurd (which e t); whole = λ g. own_not k (number_of why) m }
 
-  behind_fair : (rest : Outcome A) (g : Gate) → Fits k g → Fair k good x rest → Fair k good x (behind g x rest)
-  behind_fair rest Open m f = f
-  behind_fair rest (Shut why) m f = shut why m
+  behind_fair : (rest : Outcome A) (g : Result ⊤ Refusal) → Fits k g → Fair k good x rest → Fair k good x (behind g x rest)
+  behind_fair rest (Ok _) m f = f
+  behind_fair rest (Err why) m f = shut why m
 
 -- the gate of every call: 11, and 13 only where the record is not sound
 gated_fair : {A : Type 0} (k : Call) (x : A) (s : Settings) (lent : Lent) (p : Peer) (rest : Outcome A) → own k 11 ≡ true → may k 13 ≡ true
@@ -191,9 +188,9 @@ module _ (s : Settings) (p : Peer) where
       k : Call
       k = call.Outward (out.SendStep q time)
 
-      by_first : (f : First) → Fair k (sound p) p (stepping.steps_from f q time p)
-      by_first Empty = done k p _ refl
-      by_first (Slot n) = done k p _ refl
+      by_first : (f : Option ℕ) → Fair k (sound p) p (stepping.steps_from f q time p)
+      by_first None = done k p _ refl
+      by_first (Some n) = done k p _ refl
 
   acknowledgement_fair : (channel : ℕ) (number : Reliable) (sent clock : ℕ)
       → Fair (call.Outward (out.Acknowledgement channel number sent clock)) (sound p) p (acknowledging.acknowledges s channel number.0 sent clock p)
@@ -203,12 +200,12 @@ module _ (s : Settings) (p : Peer) where
       k : Call
       k = call.Outward (out.Acknowledgement channel number sent clock)
 
-      Heard : Peer → Reply → Type 0
+      Heard : Peer → Result Event Refusal → Type 0
       Heard y r = Fair k (sound p) p (record { answer = acknowledging.answer_of r; after = y })
 
-      removed : (y : Peer) (command wanted : ℕ) (event : Reply) → Heard y event → Heard y (acknowledging.removed_or command wanted event)
+      removed : (y : Peer) (command wanted : ℕ) (event : Event) → Heard y (Ok event) → Heard y (acknowledging.removed_or command wanted event)
       removed y command wanted event h =
-          picked (Heard y) (eqb command wanted) event (vr.Refused NotRemoved) h (late k p NotRemoved y refl (λ e t. t refl))
+          picked (Heard y) (eqb command wanted) (Ok event) (Err NotRemoved) h (late k p NotRemoved y refl (λ e t. t refl))
 
       event : (y : Peer) (state command : ℕ) (left : Lists) → Heard y (acknowledging.event_in state command left)
       event y state command left =
@@ -217,9 +214,9 @@ module _ (s : Settings) (p : Peer) where
           (picked (Heard y) (eqb state disconnect_later) _ _
           (picked (Heard y) (is_empty (used_out left)) _ _ (done k p _ refl) (done k p _ refl)) (done k p _ refl)))
 
-      by_trip : (t : Trip) → Fair k (sound p) p (acknowledging.acknowledges_by t channel number.0 clock p)
-      by_trip PassedOver = done k p _ refl
-      by_trip (Taken sample) =
+      by_trip : (t : Option ℕ) → Fair k (sound p) p (acknowledging.acknowledges_by t channel number.0 clock p)
+      by_trip None = done k p _ refl
+      by_trip (Some sample) =
           let spot = spot_of p.outgoing number.0 channel p.lists in
           let slot = slot_at spot p.lists in
           event (acknowledging.heard_at spot sample clock p).after p.standing.state (command_at (is_some slot) (held_by p.outgoing slot))
@@ -231,7 +228,7 @@ module _ (s : Settings) (p : Peer) where
       k : Call
       k = call.Outward (out.TimeoutCheck clock)
 
-      by_walk : (over : Bool) → (checking.answer_of (checking.reply_by over)).number ≡ 0
+      by_walk : (over : Bool) → (checking.answer_of (Ok (checking.reply_by over))).number ≡ 0
       by_walk true = refl
       by_walk false = refl
 
@@ -245,13 +242,13 @@ module _ (s : Settings) (p : Peer) where
   receive_fair = gated_fair (call.Inward inw.Receive) p s Nothing p _ refl refl (by_first (first (in_items p.lists.dispatched)))
     where
       by_kind : (i : Incoming) (n : ℕ) (y : Peer) (b : Bool)
-          → Fair (call.Inward inw.Receive) (sound p) p (record { answer = receiving.answer_of (pick b (got.Block i.channel n i.length) (got.Packet i.channel n i.length)); after = y })
+          → Fair (call.Inward inw.Receive) (sound p) p (record { answer = receiving.answer_of (Ok (Some (pick b (got.Block i.channel n i.length) (got.Packet i.channel n i.length)))); after = y })
       by_kind i n y true = done _ p _ refl
       by_kind i n y false = done _ p _ refl
 
-      by_first : (f : First) → Fair (call.Inward inw.Receive) (sound p) p (receiving.receives_from f p)
-      by_first Empty = done _ p _ refl
-      by_first (Slot n) = by_kind (get_or p.incoming n no_incoming) n _ (is_block (get_or p.incoming n no_incoming))
+      by_first : (f : Option ℕ) → Fair (call.Inward inw.Receive) (sound p) p (receiving.receives_from f p)
+      by_first None = done _ p _ refl
+      by_first (Some n) = by_kind (get_or p.incoming n no_incoming) n _ (is_block (get_or p.incoming n no_incoming))
 
   throttle_fair : (sample : ℕ) → Fair (call.Outward (out.Throttle sample)) (sound p) p (throttling.throttles s sample p)
   throttle_fair sample =
@@ -264,7 +261,7 @@ module _ (s : Settings) (p : Peer) where
       t : Throttle
       t = throttle_of p.throttling p.trips
 
-      by_tests : (a b c : Bool) → (throttling.answer_of (pick a turn.Held (pick b turn.Raised (pick c turn.Lowered turn.Held)))).number ≡ 0
+      by_tests : (a b c : Bool) → (throttling.answer_of (Ok (pick a turn.Held (pick b turn.Raised (pick c turn.Lowered turn.Held))))).number ≡ 0
       by_tests true b c = refl
       by_tests false true c = refl
       by_tests false false true = refl
@@ -281,7 +278,7 @@ module _ (s : Settings) (a : Arrival) (datagram : List ℕ) (x : State) where
   arrival_fits k command nine six seven = go (names a.byte command) (is_receiving a.channel p.standing) (is_whole a s (length datagram))
     where
       go : (b c d : Bool)
-          → Fits k (then (pick b Open (Shut BadCommand)) (then (pick c Open (Shut NotReceiving)) (pick d Open (Shut LengthTooLarge))))
+          → Fits k (then (pick b (Ok tt) (Err BadCommand)) (then (pick c (Ok tt) (Err NotReceiving)) (pick d (Ok tt) (Err LengthTooLarge))))
       go true true true = tt
       go true true false = seven
       go true false d = six

@@ -2,6 +2,7 @@
 -- The argument: a channel's last number is the last of its log (`Counted` in Reporting); a number of the log with k after it lies k numbers behind it, so
 -- up to 32,768 it is passed over. So an inserted repeat changes nothing at all, and what follows is the same run from the same state. A piece of an unfinished block that
 -- is marked is unfit or passed over; of another block it is passed over by its start, as a reliable number.
+use Rattle.std.specs.Prelude.{None, Option, Some}
 use Prim.Native.Nat.{ℕ, ◌+◌, ◌%◌, ◌<◌, ◌≤◌}
 use mathlib.Core.Path.{◌≡◌, refl, ap, subst, ◌∙◌}
 use mathlib.Core.Bool.{Bool, true, false}
@@ -12,8 +13,6 @@ use lib.ListN.{length, get_or}
 use borrow.Author.Tests.{eqb-false, ltb-false}
 use Rattle.numbers.specs.Counters as counters
 use Rattle.numbers.specs.Pick.{pick, both}
-use Rattle.cells.specs.declared.First.{First}
-use Rattle.cells.specs.declared.First.TheVariants.{Slot, Empty}
 use Rattle.record.specs.Fresh.{no_channel, no_incoming}
 use Rattle.record.specs.Marks.{piece_marked}
 use Rattle.record.specs.declared.groups.Channel.{Channel}
@@ -106,12 +105,12 @@ module _ (s : Settings) (a : Piece) (datagram : List ℕ) (x : State) where
   marked_left true marked n m = rw m
   marked_left false marked n m = refl
 
-  piece_left : (log : List ℕ) → Counted a.channel x.peer log → (f : First) → RepeatsPiece f a x.peer log
+  piece_left : (log : List ℕ) → Counted a.channel x.peer log → (f : Option ℕ) → RepeatsPiece f a x.peer log
       → fragment_after (fate_by f s a x.peer) a datagram x ≡ x
-  piece_left log c (Slot n) r =
+  piece_left log c (Some n) r =
       marked_left (both (fields_fit s.packet a.fragment) (like_first a.fragment (get_or x.peer.incoming n no_incoming)))
       (piece_marked x.peer.marks a.fragment.number) n r
-  piece_left log c Empty r = rw (counted_passed a.channel x.peer log a.start.0 c r)
+  piece_left log c None r = rw (counted_passed a.channel x.peer log a.start.0 c r)
 
   piece_quiet : (log : List ℕ) → Counted a.channel x.peer log → RepeatsPiece (unfinished_on a x.peer) a x.peer log
       → (arrives_fragment s a datagram x).after ≡ x

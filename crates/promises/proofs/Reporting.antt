@@ -2,6 +2,7 @@
 -- A block of k pieces takes k of them.
 -- The argument: along a run a channel's last number is the last of its log; what a dispatch takes follows it number by number, a block's too; reset and
 -- begin start both anew, and no other call changes a channel's last number.
+use Rattle.std.specs.Prelude.{Some}
 use Prim.Native.Nat.{ℕ, zero, suc, ◌+◌, ◌-◌, ◌%◌, ◌<◌}
 use mathlib.Core.Path.{◌≡◌, refl, ap, sym, subst, ◌∙◌}
 use mathlib.Core.Bool.{Bool, true, false}
@@ -11,6 +12,7 @@ use lib.ListN.{length, take, drop, get_or, replicate}
 use lib.Seq.{drop-length, drop-append_seam, get_or-set_same, get_or-set_other}
 use native.Mathlib.Omega.{arith}
 use borrow.Author.Tests.{eqb-true, eqb-false, ne_eqb}
+use Rattle.std.specs.Prelude.{⊤, Result}
 use Rattle.numbers.specs.Pick.{pick}
 use Rattle.numbers.specs.Answers.{number_of}
 use Rattle.numbers.specs.Counters as counters
@@ -22,7 +24,6 @@ use Rattle.numbers.proofs.BoolLaws.{both_right}
 use Rattle.numbers.proofs.Settled.{refused_not_done}
 use Rattle.record.specs.Lists.{in_items}
 use Rattle.record.specs.declared.incoming.InList.{InList}
-use Rattle.cells.specs.declared.Free.TheVariants.{Lowest}
 use Rattle.record.specs.Sizes.{channels}
 use Rattle.record.specs.Fresh.{no_channel, no_incoming}
 use Rattle.record.specs.declared.groups.Channel.{Channel}
@@ -37,7 +38,6 @@ use Rattle.peer.specs.declared.settings.Settings.{Settings}
 use Rattle.peer.specs.declared.Peer.{Peer}
 use Rattle.peer.specs.declared.defaults.Kept.{Kept}
 use Rattle.peer.specs.declared.gate.Lent.TheVariants as lent
-use Rattle.peer.specs.declared.gate.Gate.{Gate}
 use Rattle.peer.proofs.Gates.{sound_open, behind_has}
 use Rattle.peer.proofs.Ranges.{count_high}
 use Rattle.lifecycle.specs.Calls.{kept, begin_fits, begun, begins_sound, begins, sets_state, resets}
@@ -71,7 +71,7 @@ use Rattle.promises.proofs.Picks.{picked}
 use Rattle.promises.proofs.Sounding.{fresh_whole, call_sounds}
 use Rattle.promises.proofs.Unreported.{part_set, number_on, Unreported, state_unreported, outward_unreported, receive_unreported}
 
-abbrev gate : Settings → Peer → Gate
+abbrev gate : Settings → Peer → Result ⊤ Refusal
 gate s p = gate_of (fits s lent.Nothing) (sound p)
 
 -- ---- numbers one after another
@@ -301,7 +301,7 @@ module _ (channel : ℕ) where
     not_arrived = unsettled x.peer x.peer a.channel log refl c
 
     held : (n : ℕ) → sound x.peer ≡ true → Admitted a x.peer.standing (length datagram)
-        → free_slot x.peer.lists x.peer.channels x.peer.standing.channels ≡ Lowest n
+        → free_slot x.peer.lists x.peer.channels x.peer.standing.channels ≡ Some n
         → After (reliable_after (fate.Stored n) a datagram x)
     held n good may free =
         let q = between a datagram x n w good may free in

@@ -1,6 +1,7 @@
 -- What goes in and what joins dispatched, by its kind: what is stored is reliable or unsequenced by its byte; what joins by an unsequenced arrival is its
 -- payload, what joins by a reliable one, a piece (Piecing) or a dispatch is of its channel, and by no other call anything joins. The argument: a stored arrival passed its
 -- gate; a sound record's channel lists hold slots of their own channel; nothing arrives before begin, which alone makes channels count.
+use Rattle.std.specs.Prelude.{None, Option, Some}
 use Prim.Native.Nat.{ℕ, zero, suc, ◌+◌, ◌%◌, ◌≤◌, ◌<◌}
 use mathlib.Core.Path.{◌≡◌, refl, ap, sym, ◌∙◌}
 use mathlib.Core.Bool.{Bool, true, false, not}
@@ -10,19 +11,17 @@ use lib.Dec.{eqb, leb}
 use lib.ListN.{length, take, drop, get_or, length-map, length-take, drop_of_length-le}
 use lib.Seq.{drop-length, drop_at, get_or-take}
 use borrow.Author.Tests.{eqb-true, ne_eqb}
+use Rattle.std.specs.Prelude.{⊤, Result, Ok, Err}
 use Rattle.numbers.specs.Pick.{pick, both}
 use Rattle.numbers.specs.Counters.{step}
 use Rattle.numbers.specs.declared.counters.Group.{Group}
 use Rattle.numbers.specs.Limits.{mtu_fits}
-use Rattle.numbers.specs.declared.clock.Trip.{Trip}
-use Rattle.numbers.specs.declared.clock.Trip.TheVariants.{PassedOver, Taken}
+use Rattle.numbers.specs.declared.refusals.Refusal.{Refusal}
 use Rattle.numbers.specs.declared.refusals.Refusal.TheVariants.{OutOfRange, NotReceiving, LengthTooLarge, BadCommand}
 use Rattle.numbers.proofs.Settled.{refused_not_done}
 use Rattle.numbers.proofs.BoolLaws.{both_left, both_right, both_true, both_false, both_with_true}
 use Rattle.record.specs.Lists.{out_items, in_items}
 use Rattle.cells.specs.Runs.{first}
-use Rattle.cells.specs.declared.First.{First}
-use Rattle.cells.specs.declared.First.TheVariants.{Slot, Empty}
 use Rattle.record.specs.Sizes.{channels}
 use Rattle.record.specs.Fresh.{no_channel, no_incoming}
 use Rattle.record.specs.Damage.{all, below, own}
@@ -38,8 +37,6 @@ use Rattle.peer.specs.Sounds.{Whole}
 use Rattle.peer.specs.declared.settings.Settings.{Settings}
 use Rattle.peer.specs.declared.Peer.{Peer}
 use Rattle.peer.specs.declared.gate.Lent.TheVariants as lent
-use Rattle.peer.specs.declared.gate.Gate.{Gate}
-use Rattle.peer.specs.declared.gate.Gate.TheVariants.{Open, Shut}
 use Rattle.peer.proofs.Gates.{openness, sound_open, behind_has}
 use Rattle.peer.proofs.InClauses.{incoming_clauses, shorter_items}
 use Rattle.peer.proofs.Ranges.{count_high}
@@ -132,14 +129,14 @@ put_none f true k h = rw (h refl)
 put_none f false k h = refl
 
 -- ---- a stored arrival's byte names its command
-pub gate_names : (command : ℕ) (a : Arrival) (s : Settings) (standing : Standing) (end : ℕ) → arrival_gate command a s standing end ≡ Open
+pub gate_names : (command : ℕ) (a : Arrival) (s : Settings) (standing : Standing) (end : ℕ) → arrival_gate command a s standing end ≡ Ok tt
     → names a.byte command ≡ true
 gate_names command a s standing end e = go (names a.byte command) refl e
   where
     go : (b : Bool) → names a.byte command ≡ b
-        → then (pick b Open (Shut BadCommand))
-        (then (pick (is_receiving a.channel standing) Open (Shut NotReceiving)) (pick (is_whole a s end) Open (Shut LengthTooLarge)))
-        ≡ Open
+        → then (pick b (Ok tt) (Err BadCommand))
+        (then (pick (is_receiving a.channel standing) (Ok tt) (Err NotReceiving)) (pick (is_whole a s end) (Ok tt) (Err LengthTooLarge)))
+        ≡ Ok tt
         → names a.byte command ≡ true
     go true t e = t
     go false t e = absurd (omega (arith, ap openness e))
@@ -442,7 +439,7 @@ module _ (s : Settings) (a : Arrival) (group : Group) (datagram : List ℕ) (x :
 abbrev pub Before : Peer → Peer → Type 0
 Before p q = Unbegun q → Unbegun p
 
-behind_before : (p : Peer) (g : Gate) (rest : Outcome Peer) → Before p rest.after → Before p (behind g p rest).after
+behind_before : (p : Peer) (g : Result ⊤ Refusal) (rest : Outcome Peer) → Before p rest.after → Before p (behind g p rest).after
 behind_before p g rest h = behind_has g p rest (λ (o : Outcome Peer). Before p o.after) (λ why z. z) (λ e. h)
 
 on_before : (s : Settings) (p : Peer) (rest : Outcome Peer) → Before p rest.after → Before p (on_record s p rest).after
@@ -456,14 +453,14 @@ state_before s state p =
     on_before s p (sets_state_sound state p)
     (picked (λ (o : Outcome Peer). Before p o.after) (leb state last_state) (finished (stated state p)) (unchanged OutOfRange p) (λ z. z) (λ z. z))
 
-step_before : (f : First) (q : Queue) (time : ℕ) (p : Peer) → Before p (steps_from f q time p).after
+step_before : (f : Option ℕ) (q : Queue) (time : ℕ) (p : Peer) → Before p (steps_from f q time p).after
 unfolding sent_as
-step_before Empty q time p z = z
-step_before (Slot n) q time p z = z
+step_before None q time p z = z
+step_before (Some n) q time p z = z
 
-by_before : (t : Trip) (channel number clock : ℕ) (p : Peer) → Before p (acknowledges_by t channel number clock p).after
-by_before PassedOver channel number clock p z = z
-by_before (Taken sample) channel number clock p z = z
+by_before : (t : Option ℕ) (channel number clock : ℕ) (p : Peer) → Before p (acknowledges_by t channel number clock p).after
+by_before None channel number clock p z = z
+by_before (Some sample) channel number clock p z = z
 
 pub outward_before : (s : Settings) (c : Outward) (p : Peer) → Before p (calls_out s c p).after
 outward_before s out.Ping p =

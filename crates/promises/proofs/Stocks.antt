@@ -1,5 +1,6 @@
 -- What stands in the slots, through every call: the marks stay by the calls that bring and take nothing in, a reset leaves no slot named, and each other call has its law.
 -- The argument: none of those calls names the marks; the rest is Building's and Fragments'.
+use Rattle.std.specs.Prelude.{None, Option, Some}
 use Prim.Native.Nat.{ℕ}
 use mathlib.Core.Path.{◌≡◌, refl, ◌∙◌}
 use mathlib.Core.Bool.{Bool, true, false}
@@ -7,17 +8,13 @@ use mathlib.Core.List.{List, [], ◌∷◌}
 use native.Mathlib.Omega.{arith}
 use lib.Dec.{leb}
 use lib.ListN.{length}
+use Rattle.std.specs.Prelude.{⊤, Result}
 use Rattle.numbers.specs.Pick.{pick}
-use Rattle.numbers.specs.declared.clock.Trip.{Trip}
-use Rattle.numbers.specs.declared.clock.Trip.TheVariants.{PassedOver, Taken}
+use Rattle.numbers.specs.declared.refusals.Refusal.{Refusal}
 use Rattle.numbers.specs.declared.refusals.Refusal.TheVariants.{OutOfRange}
 use Rattle.record.specs.Lists.{outgoing, out_items}
 use Rattle.cells.specs.Runs.{first}
 use Rattle.cells.specs.Free.{lowest}
-use Rattle.cells.specs.declared.Free.{Free}
-use Rattle.cells.specs.declared.Free.TheVariants.{Lowest, Full}
-use Rattle.cells.specs.declared.First.{First}
-use Rattle.cells.specs.declared.First.TheVariants.{Slot, Empty}
 use Rattle.record.specs.Fresh.{no_lists}
 use Rattle.record.specs.Damage.{held, used_out}
 use Rattle.record.specs.declared.groups.Incoming.{Incoming}
@@ -33,7 +30,6 @@ use Rattle.peer.specs.declared.settings.Settings.{Settings}
 use Rattle.peer.specs.declared.Peer.{Peer}
 use Rattle.peer.specs.declared.defaults.Kept.{Kept}
 use Rattle.peer.specs.declared.gate.Lent.TheVariants as lent
-use Rattle.peer.specs.declared.gate.Gate.{Gate}
 use Rattle.peer.proofs.Gates.{behind_has}
 use Rattle.lifecycle.specs.Calls.{kept, begin_fits, begun, begins_sound, begins, stated, sets_state_sound, sets_state}
 use Rattle.outbox.specs.declared.pieces.Piece.{Piece}
@@ -68,7 +64,7 @@ use Rattle.promises.proofs.Fragments.{Blocked, Grows, fragment_pieced}
 abbrev Unmarked : Peer → Peer → Type 0
 Unmarked p q = q.marks ≡ p.marks
 
-behind_marks : (p : Peer) (g : Gate) (rest : Outcome Peer) → Unmarked p rest.after → Unmarked p (behind g p rest).after
+behind_marks : (p : Peer) (g : Result ⊤ Refusal) (rest : Outcome Peer) → Unmarked p rest.after → Unmarked p (behind g p rest).after
 behind_marks p g rest h = behind_has g p rest (λ (o : Outcome Peer). Unmarked p o.after) (λ why. refl) (λ e. h)
 
 on_marks : (s : Settings) (p : Peer) (rest : Outcome Peer) → Unmarked p rest.after → Unmarked p (on_record s p rest).after
@@ -89,23 +85,23 @@ queued_marks : (x : Piece) (p : Peer) → Unmarked p (queued x p)
 unfolding queued queued_at
 queued_marks x p = go (lowest outgoing (used_out p.lists))
   where
-    go : (f : Free) → Unmarked p (queued_in f x p)
-    go (Lowest n) = refl
-    go Full = refl
+    go : (f : Option ℕ) → Unmarked p (queued_in f x p)
+    go (Some n) = refl
+    go None = refl
 
 all_marks : (xs : List Piece) (p : Peer) → Unmarked p (queued_all xs p)
 unfolding queued_all
 all_marks [] p = refl
 all_marks (x ∷ xs) p = all_marks xs (queued x p) ∙ queued_marks x p
 
-step_marks : (f : First) (q : Queue) (time : ℕ) (p : Peer) → Unmarked p (steps_from f q time p).after
+step_marks : (f : Option ℕ) (q : Queue) (time : ℕ) (p : Peer) → Unmarked p (steps_from f q time p).after
 unfolding sent_as
-step_marks Empty q time p = refl
-step_marks (Slot n) q time p = refl
+step_marks None q time p = refl
+step_marks (Some n) q time p = refl
 
-by_marks : (t : Trip) (channel number clock : ℕ) (p : Peer) → Unmarked p (acknowledges_by t channel number clock p).after
-by_marks PassedOver channel number clock p = refl
-by_marks (Taken sample) channel number clock p = refl
+by_marks : (t : Option ℕ) (channel number clock : ℕ) (p : Peer) → Unmarked p (acknowledges_by t channel number clock p).after
+by_marks None channel number clock p = refl
+by_marks (Some sample) channel number clock p = refl
 
 outward_marks : (s : Settings) (c : Outward) (p : Peer) → Unmarked p (calls_out s c p).after
 outward_marks s out.Ping p =

@@ -1,19 +1,20 @@
 -- What is in transit is what the packets in sent carry, along every run from a reset (`in_transit`).
 -- The argument: laws Carrying has it for reset, begin, set state and the sending side's calls; both arrivals, dispatch and receive leave the number,
 -- the sent list and the outgoing slots.
+use Rattle.std.specs.Prelude.{None, Option, Some}
 use Prim.Native.Nat.{ℕ, ◌%◌, ◌^◌}
 use mathlib.Core.Path.{◌≡◌, refl, ap, sym, ◌∙◌}
 use mathlib.Core.Bool.{Bool, true, false}
 use mathlib.Core.List.{List, [], ◌∷◌}
 use lib.Dec.{eqb}
 use lib.ListN.{get_or, set}
+use Rattle.std.specs.Prelude.{⊤, Result}
 use Rattle.numbers.specs.Pick.{pick}
 use Rattle.numbers.specs.declared.counters.Group.{Group}
+use Rattle.numbers.specs.declared.refusals.Refusal.{Refusal}
 use Rattle.record.specs.Lists.{out_items, in_items}
 use Rattle.record.specs.declared.outgoing.OutList.{OutList}
 use Rattle.cells.specs.Runs.{first}
-use Rattle.cells.specs.declared.First.{First}
-use Rattle.cells.specs.declared.First.TheVariants.{Slot, Empty}
 use Rattle.record.specs.Fresh.{no_channel}
 use Rattle.record.specs.declared.groups.Channel.{Channel}
 use Rattle.record.specs.declared.groups.Unsequenced.{Unsequenced}
@@ -25,7 +26,6 @@ use Rattle.peer.specs.Outcome.{State, Outcome, finished}
 use Rattle.peer.specs.declared.settings.Settings.{Settings}
 use Rattle.peer.specs.declared.Peer.{Peer}
 use Rattle.peer.specs.declared.gate.Lent.TheVariants as lent
-use Rattle.peer.specs.declared.gate.Gate.{Gate}
 use Rattle.peer.proofs.Gates.{behind_has}
 use Rattle.dispatch.specs.Dispatching.{ready_count, ready_last, moved_on, dispatched_by}
 use Rattle.dispatch.specs.Dispatching.{Dispatched}
@@ -57,7 +57,7 @@ use Rattle.promises.specs.Standing.{ShortPiece, Short, AllShort, InTransit}
 abbrev Carried : Outcome Peer → Type 0
 Carried o = Carries o.after
 
-abbrev gate : Settings → Peer → Gate
+abbrev gate : Settings → Peer → Result ⊤ Refusal
 gate s p = gate_of (fits s lent.Nothing) (sound p)
 
 -- ---- dispatch, alone and behind a reliable arrival: of the lists it changes dispatched alone
@@ -87,9 +87,9 @@ dispatch_carries s channel p c =
 receive_carries : (s : Settings) (p : Peer) → Carries p → Carries (receives s p).after
 receive_carries s p c = behind_has (gate s p) p (receives_sound p) Carried (λ why. c) (λ e. go (first (in_items p.lists.dispatched)))
   where
-    go : (f : First) → Carries (receives_from f p).after
-    go Empty = c
-    go (Slot n) = record { low = c.low; is = c.is }
+    go : (f : Option ℕ) → Carries (receives_from f p).after
+    go None = c
+    go (Some n) = record { low = c.low; is = c.is }
 
 -- ---- the arrivals
 module _ (s : Settings) (a : Arrival) (datagram : List ℕ) (x : State) (c : Carries x.peer) where

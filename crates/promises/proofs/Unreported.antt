@@ -1,5 +1,6 @@
 -- Calls that report nothing on a channel: they leave its last number, what it holds, the count and the incoming slots. The argument: each call's own
 -- definition, in which these parts stand as they were; setting up counts a channel's outgoing numbers alone.
+use Rattle.std.specs.Prelude.{None, Option, Some}
 use Prim.Native.Nat.{ℕ}
 use mathlib.Core.Path.{◌≡◌, refl, ap, sym, ◌∙◌}
 use mathlib.Core.Bool.{Bool, true, false}
@@ -7,18 +8,14 @@ use mathlib.Core.List.{List, [], ◌∷◌}
 use lib.Dec.{leb}
 use lib.ListN.{length, get_or, set, get_or-map}
 use lib.Seq.{map-set_same}
+use Rattle.std.specs.Prelude.{⊤, Result}
 use Rattle.numbers.specs.Pick.{pick}
-use Rattle.numbers.specs.declared.clock.Trip.{Trip}
-use Rattle.numbers.specs.declared.clock.Trip.TheVariants.{PassedOver, Taken}
 use Rattle.numbers.specs.declared.counters.Reliable.{Reliable}
+use Rattle.numbers.specs.declared.refusals.Refusal.{Refusal}
 use Rattle.numbers.specs.declared.refusals.Refusal.TheVariants.{OutOfRange}
 use Rattle.record.specs.Lists.{outgoing, out_items, in_items}
 use Rattle.cells.specs.Runs.{first}
 use Rattle.cells.specs.Free.{lowest}
-use Rattle.cells.specs.declared.Free.{Free}
-use Rattle.cells.specs.declared.Free.TheVariants.{Lowest, Full}
-use Rattle.cells.specs.declared.First.{First}
-use Rattle.cells.specs.declared.First.TheVariants.{Slot, Empty}
 use Rattle.record.specs.Damage.{used_out}
 use Rattle.record.specs.Fresh.{no_channel}
 use Rattle.record.specs.declared.groups.Channel.{Channel}
@@ -29,7 +26,6 @@ use Rattle.peer.specs.Outcome.{Outcome, finished, unchanged}
 use Rattle.peer.specs.declared.settings.Settings.{Settings}
 use Rattle.peer.specs.declared.Peer.{Peer}
 use Rattle.peer.specs.declared.gate.Lent.TheVariants as lent
-use Rattle.peer.specs.declared.gate.Gate.{Gate}
 use Rattle.peer.proofs.Gates.{behind_has}
 use Rattle.lifecycle.specs.Calls.{stated, sets_state_sound, sets_state}
 use Rattle.outbox.specs.declared.pieces.Piece.{Piece}
@@ -49,7 +45,7 @@ use Rattle.link_out.specs.Steps.{calls_out}
 use Rattle.link_out.specs.declared.calls.Call.{Call as Outward}
 use Rattle.link_out.specs.declared.calls.Call.TheVariants as out
 
-abbrev gate : Settings → Peer → Gate
+abbrev gate : Settings → Peer → Result ⊤ Refusal
 gate s p = gate_of (fits s lent.Nothing) (sound p)
 
 -- ---- lists: a part of each element, where one is replaced by another with the same part
@@ -82,7 +78,7 @@ module _ (channel : ℕ) where
   unreported p = left_unreported p p refl refl refl
 
   -- ---- calls that report nothing and leave the channel's last number and the slots
-  behind_unreported : (p : Peer) (g : Gate) (rest : Outcome Peer) → Unreported p rest.after → Unreported p (behind g p rest).after
+  behind_unreported : (p : Peer) (g : Result ⊤ Refusal) (rest : Outcome Peer) → Unreported p rest.after → Unreported p (behind g p rest).after
   behind_unreported p g rest s = behind_has g p rest (λ (o : Outcome Peer). Unreported p o.after) (λ why. unreported p) (λ e. s)
 
   pub state_unreported : (s : Settings) (state : ℕ) (p : Peer) → Unreported p (sets_state s state p).after
@@ -97,15 +93,15 @@ module _ (channel : ℕ) where
   unfolding queued queued_at
   queued_unreported x p = go (lowest outgoing (used_out p.lists))
     where
-      go : (f : Free) → Unreported p (queued_in f x p)
-      go (Lowest n) =
+      go : (f : Option ℕ) → Unreported p (queued_in f x p)
+      go (Some n) =
           record {
             last = part_set number_on p.channels x.command.channel _ no_channel channel refl;
             held = part_set (λ (c : Channel). c.held) p.channels x.command.channel _ no_channel channel refl;
             count = refl;
             slots = refl;
           }
-      go Full = unreported p
+      go None = unreported p
 
   all_unreported : (xs : List Piece) (p : Peer) → Unreported p (queued_all xs p)
   unfolding queued_all
@@ -136,13 +132,13 @@ module _ (channel : ℕ) where
   unfolding sent_as
   step_unreported s q time p = behind_unreported p (gate s p) (steps_sound q time p) (go (first (out_items (list_of q p.lists))))
     where
-      go : (f : First) → Unreported p (steps_from f q time p).after
-      go Empty = unreported p
-      go (Slot n) = left_unreported p (steps_from (Slot n) q time p).after refl refl refl
+      go : (f : Option ℕ) → Unreported p (steps_from f q time p).after
+      go None = unreported p
+      go (Some n) = left_unreported p (steps_from (Some n) q time p).after refl refl refl
 
-  by_unreported : (t : Trip) (on number clock : ℕ) (p : Peer) → Unreported p (acknowledges_by t on number clock p).after
-  by_unreported PassedOver on number clock p = unreported p
-  by_unreported (Taken sample) on number clock p = left_unreported p (acknowledges_by (Taken sample) on number clock p).after refl refl refl
+  by_unreported : (t : Option ℕ) (on number clock : ℕ) (p : Peer) → Unreported p (acknowledges_by t on number clock p).after
+  by_unreported None on number clock p = unreported p
+  by_unreported (Some sample) on number clock p = left_unreported p (acknowledges_by (Some sample) on number clock p).after refl refl refl
 
   acknowledge_unreported : (s : Settings) (on number sent clock : ℕ) (p : Peer) → Unreported p (acknowledges s on number sent clock p).after
   acknowledge_unreported s on number sent clock p =
@@ -158,9 +154,9 @@ module _ (channel : ℕ) where
   pub receive_unreported : (s : Settings) (p : Peer) → Unreported p (receives s p).after
   receive_unreported s p = behind_unreported p (gate s p) (receives_sound p) (go (first (in_items p.lists.dispatched)))
     where
-      go : (f : First) → Unreported p (receives_from f p).after
-      go Empty = unreported p
-      go (Slot n) = left_unreported p (taken n p) refl refl refl
+      go : (f : Option ℕ) → Unreported p (receives_from f p).after
+      go None = unreported p
+      go (Some n) = left_unreported p (taken n p) refl refl refl
 
   pub outward_unreported : (s : Settings) (a : Outward) (p : Peer) → Unreported p (calls_out s a p).after
   outward_unreported s out.Ping p = ping_unreported s p

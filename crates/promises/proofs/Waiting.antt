@@ -1,6 +1,7 @@
 -- From a reset, the waiting total is the lengths stored less the lengths received.
 -- The argument: an arrival that is stored adds its length once, a receive takes off the length that it replies, a reset begins anew, and no other call
 -- changes the total.
+use Rattle.std.specs.Prelude.{None, Option, Some}
 use Prim.Native.Nat.{ℕ, ◌+◌}
 use mathlib.Core.Path.{◌≡◌, refl, ap, ◌∙◌}
 use mathlib.Core.Bool.{Bool, true, false}
@@ -26,8 +27,6 @@ use Rattle.laws.proofs.Stores.{unsequenced_stores, reliable_stores}
 use Rattle.laws.proofs.Fates.{first_piece, later_piece}
 use Rattle.laws.proofs.Fragments.{fragment_has}
 use Rattle.laws.proofs.FragmentStores.{finished_waiting, first_total}
-use Rattle.cells.specs.declared.First.{First}
-use Rattle.cells.specs.declared.First.TheVariants.{Slot, Empty}
 use Rattle.record.specs.declared.groups.Waiting.{Waiting}
 use Rattle.arrival.specs.Arrivals.{passed_over}
 use Rattle.arrive_fragment.specs.Pieces.{unfinished_on}
@@ -103,9 +102,9 @@ fragment_holds s a datagram x t w h =
     let total = ap (λ (y : Waiting). y.total) (finished_waiting n a (pieced_on n a x.peer)) in
     rw f.own (omega (arith, total, h)))
   where
-    same : (b : First) (v : Answer) → says_one v ≡ false → Holds x.peer (begun b a.fragment.total v t)
-    same Empty v e = rw e h
-    same (Slot n) v e = h
+    same : (b : Option ℕ) (v : Answer) → says_one v ≡ false → Holds x.peer (begun b a.fragment.total v t)
+    same None v e = rw e h
+    same (Some n) v e = h
 
 call_holds : (c : Call) (s : Settings) (datagram : List ℕ) (x : State) (t : Tally) → Whole x.peer → Holds x.peer t
     → let o = calls s c datagram x in Holds o.after.peer (counts c x o.answer t)

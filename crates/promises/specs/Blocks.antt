@@ -1,10 +1,8 @@
 -- C-11, blocks: whole exactly when all pieces are marked; a marked piece changes nothing; a later piece is never refused with 8; only a piece that is stored changes
 -- the second store; and what was cut comes together.
-use Rattle.std.specs.Prelude.{ℕ, ◌<◌, ◌≡◌, Bool, true, not, List, [], ◌∷◌, ◌⊎◌, eqb, length, get_or}
+use Rattle.std.specs.Prelude.{ℕ, ◌<◌, ◌≡◌, Bool, true, not, List, [], ◌∷◌, ◌⊎◌, eqb, length, get_or, None, Option, Some}
 use Rattle.numbers.specs.Pick.{both}
 use Rattle.cells.specs.Runs.{has}
-use Rattle.cells.specs.declared.First.{First}
-use Rattle.cells.specs.declared.First.TheVariants.{Slot, Empty}
 use Rattle.record.specs.Fresh.{no_incoming}
 use Rattle.record.specs.Marks.{piece_marked}
 use Rattle.record.specs.Blocks.{is_block}
@@ -46,13 +44,13 @@ BlockWhole =
 -- "A piece already marked is passed over": of the channel's unfinished block, it changes nothing at all, whatever it answers
 abbrev pub MarkedChangesNothing : Type 0
 MarkedChangesNothing =
-    (s : Settings) (a : Piece) (datagram : List ℕ) (x : State) (n : ℕ) → unfinished_on a x.peer ≡ Slot n
+    (s : Settings) (a : Piece) (datagram : List ℕ) (x : State) (n : ℕ) → unfinished_on a x.peer ≡ Some n
     → piece_marked x.peer.marks a.fragment.number ≡ true
     → (arrives_fragment s a datagram x).after ≡ x
 
 -- 8 of a piece: "a later piece never", and nothing changed
 pub record FirstAlone (a : Piece) (x : State) (o : Outcome State) : Type 0 where
-  pub first : unfinished_on a x.peer ≡ Empty
+  pub first : unfinished_on a x.peer ≡ None
   pub after : o.after ≡ x
 
 abbrev pub EightFirst : Type 0
@@ -61,9 +59,9 @@ EightFirst =
     o.answer.number ≡ 8 → FirstAlone a x o
 
 -- the second store after a stored piece: a first one "first sets that store to 0"
-abbrev pub piece_laid : First → Piece → List ℕ → List ℕ → List ℕ
-piece_laid Empty a datagram second = with_bytes a datagram (cleared second)
-piece_laid (Slot n) a datagram second = with_bytes a datagram second
+abbrev pub piece_laid : Option ℕ → Piece → List ℕ → List ℕ → List ℕ
+piece_laid None a datagram second = with_bytes a datagram (cleared second)
+piece_laid (Some n) a datagram second = with_bytes a datagram second
 
 -- a call leaves the second store as it was, or it is a piece that was stored
 pub record LaysPiece (k : Call) (datagram : List ℕ) (x : State) (o : Outcome State) : Type 0 where

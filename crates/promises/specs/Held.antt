@@ -1,11 +1,9 @@
 -- Nothing that is ready stays held: after any run from a reset in which each number is given once, on each channel below the count, nothing that is held is complete
 -- and next, and what is held stands in the order of its distance from the channel's last number, each behind the last number of the one before.
 -- C-11: a sender that uses a number twice can stall a channel, here and in the source; so "each number once" is asked.
-use Rattle.std.specs.Prelude.{ℕ, ◌+◌, ◌-◌, ◌<◌, ◌≡◌, Bool, true, not, List, [], ◌∷◌, eqb, leb, get_or}
+use Rattle.std.specs.Prelude.{ℕ, ◌+◌, ◌-◌, ◌<◌, ◌≡◌, Bool, true, not, List, [], ◌∷◌, eqb, leb, get_or, None, Option, Some}
 use Rattle.numbers.specs.Pick.{pick}
 use Rattle.numbers.specs.Answers.{Answer}
-use Rattle.cells.specs.declared.First.{First}
-use Rattle.cells.specs.declared.First.TheVariants.{Slot, Empty}
 use Rattle.record.specs.Lists.{in_items}
 use Rattle.record.specs.Fresh.{no_channel, no_incoming}
 use Rattle.record.specs.Damage.{all}
@@ -75,9 +73,9 @@ is_free x channel n k =
     all (λ (s : ℕ). is_apart (number_distance last n) k (number_distance last (number_at slots s)) (span_at slots s)) (held_in x channel)
 
 -- a piece that begins a block
-abbrev pub Begins : First → Type 0 → Type 0
-Begins Empty A = A
-Begins (Slot n) A = Unit {0}
+abbrev pub Begins : Option ℕ → Type 0 → Type 0
+Begins None A = A
+Begins (Some n) A = Unit {0}
 
 -- what is stored takes numbers that nothing held has taken
 abbrev pub GivesFree : Call → State → Answer → Type 0

@@ -1,9 +1,8 @@
 -- What is next is delivered. In state 5, with its length in bounds and room: a reliable arrival of the next number, which no unfinished block holds, is stored and
 -- joins dispatched at once, with all that was held behind it without a gap; an unsequenced arrival whose group is near and not marked is stored.
-use Rattle.std.specs.Prelude.{ℕ, suc, ◌<◌, ◌≡◌, true, false, List, ◌⊎◌, length}
+use Rattle.std.specs.Prelude.{ℕ, suc, ◌<◌, ◌≡◌, true, false, List, ◌⊎◌, length, None}
 use Rattle.numbers.specs.Counters.{step}
 use Rattle.numbers.specs.declared.counters.Group.{Group}
-use Rattle.cells.specs.declared.Free.TheVariants.{Full}
 use Rattle.record.specs.Sizes.{store_length}
 use Rattle.peer.specs.Damage.{sound}
 use Rattle.peer.specs.Settings.{fit_settings}
@@ -36,7 +35,7 @@ pub record Fits (command : ℕ) (s : Settings) (a : Arrival) (datagram : List �
   pub state : x.peer.standing.state ≡ connected
   pub whole : is_whole a s (length datagram) ≡ true
   pub below : x.peer.waiting.total < s.waiting
-  pub slot : free_slot x.peer.lists x.peer.channels x.peer.standing.channels ≡ Full → ⊥
+  pub slot : free_slot x.peer.lists x.peer.channels x.peer.standing.channels ≡ None → ⊥
 
 -- a reliable arrival with its settings and its datagram
 abbrev pub reliably : Settings → Arrival → List ℕ → Asked

@@ -1,14 +1,12 @@
 -- What comes out is what went in: a receive hands out the payload of an arrival that was stored, or a block put together from its pieces, each of them once, in the
 -- order in which they joined dispatched; on each channel the reliable ones take the numbers 1, 2, 3 and so on, and the others are unsequenced.
 -- C-11: "a block's bytes are its pieces' bytes, each at its offset, over zeros"; a block of k pieces takes k numbers.
-use Rattle.std.specs.Prelude.{ℕ, ◌+◌, ◌*◌, ◌≡◌, Bool, true, false, List, [], ◌∷◌, ◌++◌, map, eqb, length, get_or, take, drop, replicate}
+use Rattle.std.specs.Prelude.{ℕ, ◌+◌, ◌*◌, ◌≡◌, Bool, true, false, List, [], ◌∷◌, ◌++◌, map, eqb, length, get_or, take, drop, replicate, None, Option, Some}
 use Rattle.numbers.specs.Pick.{pick, both}
 use Rattle.numbers.specs.Answers.{Answer}
 use Rattle.record.specs.Lists.{in_items}
 use Rattle.record.specs.Sizes.{cell, second_length}
 use Rattle.record.specs.Blocks.{is_block}
-use Rattle.cells.specs.declared.First.{First}
-use Rattle.cells.specs.declared.First.TheVariants.{Slot, Empty}
 use Rattle.blocks.specs.Writing.{Write, all_written}
 use Rattle.record.specs.Fresh.{no_incoming}
 use Rattle.record.specs.Damage.{below, used_in}
@@ -67,9 +65,9 @@ abbrev pub piece_written : Piece → List ℕ → Write
 piece_written a datagram = record { place = a.fragment.offset; bytes = take a.fragment.length (drop a.place datagram) }
 
 -- a first piece begins a block, a later one of the unfinished block goes on with it
-abbrev pub with_write : First → ℕ → Write → Building → Building
-with_write Empty byte w b = record { byte = byte; writes = w ∷ [] }
-with_write (Slot n) byte w b = record { byte = b.byte; writes = b.writes ++ (w ∷ []) }
+abbrev pub with_write : Option ℕ → ℕ → Write → Building → Building
+with_write None byte w b = record { byte = byte; writes = w ∷ [] }
+with_write (Some n) byte w b = record { byte = b.byte; writes = b.writes ++ (w ∷ []) }
 
 abbrev pub builds : Call → List ℕ → State → Answer → Building → Building
 builds (call.Inward (inw.FragmentArrival a)) datagram x w b =

@@ -1,10 +1,9 @@
 -- Document 01's table, "What a call replies": which numbers but 0 a call may answer, and what record and stores then hold. Every call may answer 11,
 -- and every one but reset 13. That an arrival answers 9 where its byte names another command is our own reading (decision 81).
 -- C-11: "Refusals: 14, fields out of range or unlike the first piece's, nothing changed".
-use Rattle.std.specs.Prelude.{ℕ, ◌≡◌, Bool, true, List, [], ◌∷◌, eqb}
+use Rattle.std.specs.Prelude.{ℕ, ◌≡◌, Bool, true, List, [], ◌∷◌, eqb, Some}
 use Rattle.numbers.specs.Pick.{pick}
 use Rattle.numbers.specs.Clock.{trip_of}
-use Rattle.numbers.specs.declared.clock.Trip.TheVariants.{Taken}
 use Rattle.numbers.specs.declared.counters.Group.{Group}
 use Rattle.cells.specs.Runs.{has}
 use Rattle.window.specs.Window.{first, cleared}
@@ -82,7 +81,7 @@ EightMoves =
 -- 10: "all effects of the acknowledgement kept": those of its sample, and of the removal of the command that it names
 pub record Heard (channel number sent clock : ℕ) (p after : Peer) : Type 0 where
   pub sample : ℕ
-  pub trip : trip_of clock sent ≡ Taken sample
+  pub trip : trip_of clock sent ≡ Some sample
   pub is : after ≡ (heard_at (spot_of p.outgoing number channel p.lists) sample clock p).after
 
 abbrev pub TenKeeps : Type 0

@@ -1,8 +1,6 @@
 -- Reliable repeats leave no trace: inserting reliable arrivals whose number was taken by what joined dispatched on that channel since begin, at most 32,768 numbers
 -- ago, changes no answer, no packet and no record. C-11: nor does inserting pieces that are marked, or whose block's start was so taken.
-use Rattle.std.specs.Prelude.{ℕ, ◌≤◌, ◌≡◌, true, List, [], ◌∷◌, ◌++◌, length}
-use Rattle.cells.specs.declared.First.{First}
-use Rattle.cells.specs.declared.First.TheVariants.{Slot, Empty}
+use Rattle.std.specs.Prelude.{ℕ, ◌≤◌, ◌≡◌, true, List, [], ◌∷◌, ◌++◌, length, None, Option, Some}
 use Rattle.record.specs.Marks.{piece_marked}
 use Rattle.peer.specs.Outcome.{State}
 use Rattle.peer.specs.declared.settings.Settings.{Settings}
@@ -55,9 +53,9 @@ abbrev pub brings_piece : PieceReport → Asked
 brings_piece k = record { settings = k.settings; call = call.Inward (inw.FragmentArrival k.piece); datagram = k.datagram }
 
 -- a repeat: of the channel's unfinished block, and marked; or of a block that is not there unfinished, whose start is a number of the channel's log
-abbrev pub RepeatsPiece : First → Piece → Peer → List ℕ → Type 0
-RepeatsPiece (Slot n) a p log = piece_marked p.marks a.fragment.number ≡ true
-RepeatsPiece Empty a p log = Reported log a.start.0
+abbrev pub RepeatsPiece : Option ℕ → Piece → Peer → List ℕ → Type 0
+RepeatsPiece (Some n) a p log = piece_marked p.marks a.fragment.number ≡ true
+RepeatsPiece None a p log = Reported log a.start.0
 
 abbrev pub RepeatsPieces : List (Line PieceReport) → State → (ℕ → List ℕ) → Type 0
 RepeatsPieces [] x logs = Unit {0}

@@ -1,6 +1,6 @@
 -- What stands along a run from a reset: the record is sound, the waiting total is what was stored and not yet received, and what is in transit is what the
 -- packets in sent carry.
-use Rattle.std.specs.Prelude.{ℕ, ◌+◌, ◌%◌, ◌^◌, ◌<◌, ◌≡◌, Bool, true, List, [], ◌∷◌, eqb, get_or}
+use Rattle.std.specs.Prelude.{ℕ, ◌+◌, ◌%◌, ◌^◌, ◌<◌, ◌≡◌, Bool, true, List, [], ◌∷◌, eqb, get_or, None, Option, Some}
 use Rattle.numbers.specs.Pick.{pick}
 use Rattle.numbers.specs.Answers.{Answer, numbers_of}
 use Rattle.record.specs.Lists.{out_items}
@@ -10,8 +10,6 @@ use Rattle.peer.specs.Outcome.{State}
 use Rattle.peer.specs.declared.settings.Settings.{Settings}
 use Rattle.peer.specs.declared.defaults.Kept.{Kept}
 use Rattle.laws.specs.Transit.{limit, loads}
-use Rattle.cells.specs.declared.First.{First}
-use Rattle.cells.specs.declared.First.TheVariants.{Slot, Empty}
 use Rattle.arrive_fragment.specs.Pieces.{unfinished_on}
 use Rattle.link.specs.Runs.{Asked, comes_to, says_one, says_two, run, reset_state}
 use Rattle.link_out.specs.declared.calls.Call.{Call as Outward}
@@ -48,9 +46,9 @@ abbrev pub stores : ℕ → Answer → Tally → Tally
 stores length a t = pick (says_one a) (record { stored = t.stored + length; received = t.received }) t
 
 -- C-11: "its total counts as waiting from the first piece"; a later piece of an unfinished block adds nothing
-abbrev pub begins : First → ℕ → Answer → Tally → Tally
-begins Empty total a t = stores total a t
-begins (Slot n) total a t = t
+abbrev pub begins : Option ℕ → ℕ → Answer → Tally → Tally
+begins None total a t = stores total a t
+begins (Some n) total a t = t
 
 -- a packet or a block was handed out
 abbrev pub hands_out : Answer → Bool

@@ -8,52 +8,45 @@ ghost use Rattle.record.specs.Updates.{in_longer, in_shorter};
 ghost use Rattle.places.specs.Whole.{whole, record_length};
 ghost use Rattle.queues.specs.Queues.{put_dispatched};
 
-use cells::First;
-use places::DISPATCHED;
+use places::{DISPATCHED, RECORD};
 use record::INCOMING;
 
-pub fn count(words: &[u32]) -> usize
-    requires { length words.now ≡ record_length }
+pub fn count(words: &[u32; RECORD]) -> usize
     ensures { result ≡ length (in_items (whole words.now).lists.dispatched) }
 {
     lists::count(words, DISPATCHED, INCOMING)
 }
 
 // The slot at the head.
-pub fn head(words: &[u32]) -> First
-    requires { length words.now ≡ record_length }
+pub fn head(words: &[u32; RECORD]) -> Option<u16>
     ensures { result ≡ first (in_items (whole words.now).lists.dispatched) }
 {
     lists::head(words, DISPATCHED, INCOMING)
 }
 
 // s at the end.
-pub fn push(words: &mut [u32], s: u16)
-    requires { length words.old ≡ record_length }
+pub fn push(words: &mut [u32; RECORD], s: u16)
     ensures { whole words.new ≡ put_dispatched (whole words.old) (in_longer (whole words.old).lists.dispatched s) }
 {
     lists::push(words, DISPATCHED, INCOMING, s);
 }
 
 // Without its head.
-pub fn leave(words: &mut [u32])
-    requires { length words.old ≡ record_length }
+pub fn leave(words: &mut [u32; RECORD])
     ensures { whole words.new ≡ put_dispatched (whole words.old) (in_shorter (whole words.old).lists.dispatched) }
 {
     lists::remove(words, DISPATCHED, INCOMING, 0);
 }
 
 // The first k numbers of a run at the end.
-pub fn append(words: &mut [u32], run: &[u32], k: usize)
-    requires { length words.old ≡ record_length }
+pub fn append(words: &mut [u32; RECORD], run: &[u32], k: usize)
     ensures { whole words.new ≡ put_dispatched (whole words.old) (in_keep (whole words.old).lists.dispatched (moved_to incoming k (map low run.now) (in_items (whole words.old).lists.dispatched))) }
 {
     lists::append(words, DISPATCHED, INCOMING, run, k);
 }
 
 // Each slot that it names gets a mark.
-pub fn mark(words: &[u32], marks: &mut [u8])
-    requires { length words.now ≡ record_length }
+pub fn mark(words: &[u32; RECORD], marks: &mut [u8])
     ensures { marks.new ≡ marked_all marks.old (in_items (whole words.now).lists.dispatched) }
 {
     lists::mark(words, DISPATCHED, INCOMING, marks);

@@ -8,7 +8,7 @@ ghost use Rattle.record.specs.Sizes.{channels};
 ghost use Rattle.places.specs.Whole.{whole, record_length};
 ghost use Rattle.queues.specs.Queues.{held_of, held_place, put_held};
 
-use places::{CHANNEL_WIDTH, CHANNELS, HELD};
+use places::{CHANNEL_WIDTH, CHANNELS, HELD, RECORD};
 use record::INCOMING;
 
 fn place_of(i: usize) -> usize
@@ -19,45 +19,40 @@ fn place_of(i: usize) -> usize
 }
 
 // How many slots it names.
-pub fn count(words: &[u32], i: usize) -> usize
-    requires words_len { length words.now ≡ record_length }
-    requires i_lt_channels { i < channels }
+pub fn count(words: &[u32; RECORD], i: usize) -> usize
+    requires { i < channels }
     ensures { result ≡ length (in_items (held_of (whole words.now) i)) }
 {
     lists::count(words, place_of(i), INCOMING)
 }
 
 // The slot at place k; 0 where there is no such place.
-pub fn slot_at(words: &[u32], i: usize, k: usize) -> u16
-    requires words_len { length words.now ≡ record_length }
-    requires i_lt_channels { i < channels }
+pub fn slot_at(words: &[u32; RECORD], i: usize, k: usize) -> u16
+    requires { i < channels }
     ensures { result ≡ get_or (in_items (held_of (whole words.now) i)) k 0 }
 {
     lists::slot_at(words, place_of(i), INCOMING, k)
 }
 
 // s before place k, at the end where there is no place k.
-pub fn insert(words: &mut [u32], i: usize, k: usize, s: u16)
-    requires words_len { length words.old ≡ record_length }
-    requires i_lt_channels { i < channels }
+pub fn insert(words: &mut [u32; RECORD], i: usize, k: usize, s: u16)
+    requires { i < channels }
     ensures { whole words.new ≡ put_held (whole words.old) i (in_keep (held_of (whole words.old) i) (inserted incoming (in_items (held_of (whole words.old) i)) k s)) }
 {
     lists::insert(words, place_of(i), INCOMING, k, s);
 }
 
 // Without the first k.
-pub fn cut(words: &mut [u32], i: usize, k: usize)
-    requires words_len { length words.old ≡ record_length }
-    requires i_lt_channels { i < channels }
+pub fn cut(words: &mut [u32; RECORD], i: usize, k: usize)
+    requires { i < channels }
     ensures { whole words.new ≡ put_held (whole words.old) i (in_keep (held_of (whole words.old) i) (drop k (in_items (held_of (whole words.old) i)))) }
 {
     lists::cut(words, place_of(i), INCOMING, k);
 }
 
 // Its cells.
-pub fn cells(words: &[u32], i: usize) -> [u32; INCOMING]
-    requires words_len { length words.now ≡ record_length }
-    requires i_lt_channels { i < channels }
+pub fn cells(words: &[u32; RECORD], i: usize) -> [u32; INCOMING]
+    requires { i < channels }
     ensures { map low result ≡ (held_of (whole words.now) i).slots }
 {
     let mut all = [0u32; INCOMING];
@@ -66,9 +61,8 @@ pub fn cells(words: &[u32], i: usize) -> [u32; INCOMING]
 }
 
 // Each slot that it names gets a mark.
-pub fn mark(words: &[u32], i: usize, marks: &mut [u8])
-    requires words_len { length words.now ≡ record_length }
-    requires i_lt_channels { i < channels }
+pub fn mark(words: &[u32; RECORD], i: usize, marks: &mut [u8])
+    requires { i < channels }
     ensures { marks.new ≡ marked_all marks.old (in_items (held_of (whole words.now) i)) }
 {
     lists::mark(words, place_of(i), INCOMING, marks);

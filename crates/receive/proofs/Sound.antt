@@ -2,14 +2,13 @@
 -- The argument: dispatched without its head names no slot more often, and the total, the sum of the lengths held, is lower by the head's;
 -- it is below 2^32, so the difference modulo 2^32 is the plain one. Where the head is the block there is no other, so no marks are right, and the packets
 -- that stay fit whatever the marks; where it is a packet, marks and blocks are as before.
+use Rattle.std.specs.Prelude.{None, Option, Some}
 use Rattle.std.proofs.Common.{◌≡◌, ℕ, ◌+◌, ◌^◌, ◌<◌, ◌≤◌, Bool, true, false, eqb, ltb, leb, List, [], ◌∷◌, ◌++◌, length, get_or, sym, refl, ap, ◌∙◌, arith, length-take, ne_eqb, eqb-true, le-leb, leb-true}
 use Rattle.numbers.specs.Pick.{pick, both}
 use Rattle.numbers.specs.Modulo.{minus}
 use Rattle.numbers.proofs.BoolLaws.{both_left, both_right, both_true}
 use Rattle.record.specs.Lists.{outgoing, incoming, in_items}
 use Rattle.cells.specs.Runs.{first, without}
-use Rattle.cells.specs.declared.First.{First}
-use Rattle.cells.specs.declared.First.TheVariants.{Slot, Empty}
 use Rattle.record.specs.declared.incoming.InList.{InList}
 use Rattle.record.proofs.Keeps.{times}
 use Rattle.cells.proofs.Lengths.{without_fits}
@@ -162,9 +161,9 @@ receive_stays p l h = go (in_items p.lists.dispatched) refl
 receive_whole : (p : Peer) → Whole p → Whole (receives_sound p).after
 receive_whole p l = go (first (in_items p.lists.dispatched))
   where
-    go : (f : First) → Whole (receives_from f p).after
-    go Empty = l
-    go (Slot s) = record { channels = l.channels; outgoing = l.outgoing; incoming = l.incoming }
+    go : (f : Option ℕ) → Whole (receives_from f p).after
+    go None = l
+    go (Some s) = record { channels = l.channels; outgoing = l.outgoing; incoming = l.incoming }
 
 pub receive_sounds : (s : Settings) → Sounds (receives s)
 receive_sounds s = gated_sounds s receives_sound receive_stays receive_whole

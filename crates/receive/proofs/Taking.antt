@@ -1,14 +1,14 @@
 -- What receive takes and keeps: a packet or a block replied is dispatched's head, which leaves, a block with its marks; slots, channels, groups and
 -- outgoing pool stay. The argument: behind the gate the answer names the head by cases on the list, and no case changes another group.
+use Rattle.std.specs.Prelude.{⊤, Result, Ok, Some, Option, None}
 use Rattle.std.proofs.Common.{◌≡◌, ℕ, Bool, true, false, List, [], ◌∷◌, get_or, sym, refl, ap, ◌∙◌, arith}
 use lib.ListN as ln
 use Rattle.numbers.specs.Pick.{pick}
 use Rattle.numbers.specs.Answers.{Answer, numbers_of, done}
 use Rattle.numbers.proofs.Settled.{refused_not_done}
+use Rattle.numbers.specs.declared.refusals.Refusal.{Refusal}
 use Rattle.record.specs.Lists.{in_items}
 use Rattle.cells.specs.Runs.{first}
-use Rattle.cells.specs.declared.First.{First}
-use Rattle.cells.specs.declared.First.TheVariants.{Slot, Empty}
 use Rattle.record.specs.Fresh.{no_incoming}
 use Rattle.record.specs.Blocks.{is_block}
 use Rattle.record.specs.declared.groups.Incoming.{Incoming}
@@ -18,13 +18,12 @@ use Rattle.peer.specs.Gate.{fits, gate_of}
 use Rattle.peer.specs.declared.settings.Settings.{Settings}
 use Rattle.peer.specs.declared.Peer.{Peer}
 use Rattle.peer.specs.declared.gate.Lent.TheVariants as lent
-use Rattle.peer.specs.declared.gate.Gate.{Gate}
 use Rattle.peer.proofs.Gates.{behind_has}
 use Rattle.receive.specs.Calls.{answer_of, reply_of, cleared_by, receives_from, receives_sound, receives}
-use Rattle.receive.specs.declared.Reply.TheVariants as vr
+use Rattle.receive.specs.declared.Received.TheVariants as vr
 use Rattle.peer.proofs.InClauses.{shorter_items}
 
-abbrev gate : Settings → Peer → Gate
+abbrev gate : Settings → Peer → Result ⊤ Refusal
 gate s p = gate_of (fits s lent.Nothing) (sound p)
 
 -- the first number of a reply: 1 for a packet, 2 for a block
@@ -35,7 +34,7 @@ kind_of i = pick (is_block i) 2 1
 pub reply_numbers : (i : Incoming) (s : ℕ) → answer_of (reply_of i s) ≡ done (kind_of i ∷ i.channel ∷ s ∷ i.length ∷ [])
 reply_numbers i s = go (is_block i)
   where
-    go : (b : Bool) → answer_of (pick b (vr.Block i.channel s i.length) (vr.Packet i.channel s i.length))
+    go : (b : Bool) → answer_of (Ok (Some (pick b (vr.Block i.channel s i.length) (vr.Packet i.channel s i.length))))
         ≡ done (pick b 2 1 ∷ i.channel ∷ s ∷ i.length ∷ [])
     go true = refl
     go false = refl
@@ -65,7 +64,7 @@ module _ (s : Settings) (p : Peer) (kind channel cell length : ℕ) where
   takes (x ∷ rest) e b =
       let a = sym (reply_numbers (get_or p.incoming x no_incoming) x) ∙ b in
       let i : x ≡ cell = ap (value 2) a in
-      let after : in_items (receives_from (Slot x) p).after.lists.dispatched ≡ rest = shorter_items p.lists.dispatched x rest e in
+      let after : in_items (receives_from (Some x) p).after.lists.dispatched ≡ rest = shorter_items p.lists.dispatched x rest e in
       record {
         head = e ∙ ap (λ (k : ℕ). k ∷ rest) i ∙ ap (λ (ys : List ℕ). cell ∷ ys) (sym after);
         kind = sym (ap (value 0) a) ∙ ap (λ (k : ℕ). kind_of (get_or p.incoming k no_incoming)) i;
@@ -109,6 +108,6 @@ receive_keeps s p =
     same : Keeps p p
     same = record { incoming = refl; channels = refl; unsequenced = refl; outgoing = refl }
 
-    goes : (f : First) → Keeps p (receives_from f p).after
-    goes Empty = same
-    goes (Slot n) = record { incoming = refl; channels = refl; unsequenced = refl; outgoing = refl }
+    goes : (f : Option ℕ) → Keeps p (receives_from f p).after
+    goes None = same
+    goes (Some n) = record { incoming = refl; channels = refl; unsequenced = refl; outgoing = refl }

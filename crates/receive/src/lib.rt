@@ -2,13 +2,12 @@
 #![tactic(auto)]
 
 ghost use Rattle.std.specs.Prelude.{◌≡◌};
-ghost use Rattle.receive.specs.Calls.{lowered, cleared_by, reply_of, answer_of, receives};
+ghost use Rattle.receive.specs.Calls.{lowered, cleared_by, received_of, answer_of, receives};
 ghost use Rattle.peer.specs.Outcome.{Came};
 ghost use Rattle.places.specs.Whole.{whole};
 
-use cells::First;
 use numbers::refusals::Refusal;
-use peer::gate::{Gate, Lent};
+use peer::gate::Lent;
 use peer::settings::Settings;
 use places::{RECORD, groups, pools};
 use queues::dispatched;
@@ -16,11 +15,9 @@ use record::fresh::NO_MARKS;
 use record::groups::{Incoming, Marks, Waiting};
 
 #[derive(Clone, Copy)]
-pub enum Reply {
-    Nothing,
+pub enum Received {
     Packet { channel: u8, cell: u16, length: u32 },
     Block { channel: u8, cell: u16, length: u32 },
-    Refused(Refusal),
 }
 
 fn lowered(waiting: Waiting, length: u32) -> Waiting
@@ -42,17 +39,17 @@ fn cleared_by(slot: Incoming, marks: Marks) -> Marks
 }
 
 // A packet by its cell, or the block.
-fn reply_of(slot: Incoming, s: u16) -> Reply
-    ensures { result ≡ reply_of slot s }
+fn received_of(slot: Incoming, s: u16) -> Received
+    ensures { result ≡ received_of slot s }
 {
     if blocks::is_block(slot) {
-        return Reply::Block {
+        return Received::Block {
             channel: slot.channel,
             cell: s,
             length: slot.length,
         };
     }
-    Reply::Packet {
+    Received::Packet {
         channel: slot.channel,
         cell: s,
         length: slot.length,
@@ -60,16 +57,13 @@ fn reply_of(slot: Incoming, s: u16) -> Reply
 }
 
 // Refused by 11 and 13; nothing there, or the head's channel, cell and length.
-pub fn receive(words: &mut [u32; RECORD], settings: Settings) -> Reply
+pub fn receive(words: &mut [u32; RECORD], settings: Settings) -> Result<Option<Received>, Refusal>
     ensures { Came answer_of (receives settings (whole words.old)) result (whole words.new) }
 {
-    let asked = gate::ask(words, settings, Lent::Nothing);
-    if let Gate::Shut(why) = asked {
-        return Reply::Refused(why);
-    }
+    gate::ask(words, settings, Lent::Nothing)?;
     let first = dispatched::head(words);
-    let First::Slot(s) = first else {
-        return Reply::Nothing;
+    let Some(s) = first else {
+        return Ok(None);
     };
     let slot = pools::incoming_at(words, s as usize);
     dispatched::leave(words);
@@ -77,5 +71,5 @@ pub fn receive(words: &mut [u32; RECORD], settings: Settings) -> Reply
     groups::put_waiting(words, waiting);
     let marks = cleared_by(slot, groups::marks(words));
     groups::put_marks(words, marks);
-    reply_of(slot, s)
+    Ok(Some(received_of(slot, s)))
 }

@@ -4,7 +4,7 @@ ghost use Rattle.cells.specs.Runs.{has, find_from};
 ghost use Rattle.record.specs.Lists.{out_items};
 
 use crate::OUTGOING;
-use cells::{Found, narrow};
+use cells::narrow;
 
 #[derive(Clone, Copy)]
 pub struct OutList {
@@ -14,7 +14,7 @@ pub struct OutList {
 
 impl OutList {
     // The first place of s.
-    pub fn find(self, s: u16) -> Found
+    pub fn find(self, s: u16) -> Option<usize>
         ensures { result ≡ find_from 0 (out_items self) s }
     {
         let slots = self.slots;
@@ -25,10 +25,6 @@ impl OutList {
     pub fn contains(self, s: u16) -> bool
         ensures { result ≡ has (out_items self) s }
     {
-        if let Found::At(_) = self.find(s) {
-            true
-        } else {
-            false
-        }
+        self.find(s).is_some()
     }
 }

@@ -1,44 +1,36 @@
 // Ops 16 and 17: the hash of so many bytes of a store, and they themselves, cut at its end.
-use numbers::widths::wide8;
+use crate::bench::Bench;
 use script::frames::Frame;
 use script::{line, row};
 use std::io;
 use std::io::Write;
 
 // The third number names the store: 0 the first, 1 the second.
-pub(crate) fn told<W: Write>(out: &mut W, f: Frame, store: &[u8], second: &[u8]) -> io::Result<()> {
-    if f.n2 == 1 {
-        return of(out, f, second);
-    }
-    of(out, f, store)
-}
-
-fn of<W: Write>(out: &mut W, f: Frame, store: &[u8]) -> io::Result<()> {
+pub(crate) fn told<W: Write>(out: &mut W, f: Frame, bench: &Bench) -> io::Result<()> {
+    let [first, count, which, ..] = f.numbers;
+    let bytes = if which == 1 {
+        part(&bench.second, first, count)
+    } else {
+        part(&bench.store, first, count)
+    };
     if f.op == 16 {
-        return line::value(out, hash(store, f.n0, f.n1));
+        return line::value(out, hash(bytes));
     }
-    tell(out, store, f.n0, f.n1)
-}
-
-fn hash(store: &[u8], first: u32, count: u32) -> u32 {
-    let mut hash = 0;
-    let mut left = count;
-    let mut i = first as usize;
-    while 0 < left && i < store.len() {
-        hash = row::mixed(hash, wide8(store[i]));
-        left -= 1;
-        i += 1;
-    }
-    hash
-}
-
-fn tell<W: Write>(out: &mut W, store: &[u8], first: u32, count: u32) -> io::Result<()> {
-    let mut left = count;
-    let mut i = first as usize;
-    while 0 < left && i < store.len() {
-        line::value(out, wide8(store[i]))?;
-        left -= 1;
-        i += 1;
+    for byte in bytes {
+        line::value(out, u32::from(*byte))?;
     }
     Ok(())
+}
+
+// So many bytes from one on.
+fn part(store: &[u8], first: u32, count: u32) -> &[u8] {
+    let start = store.len().min(first as usize);
+    let end = store.len().min(start + count as usize);
+    &store[start..end]
+}
+
+fn hash(bytes: &[u8]) -> u32 {
+    bytes
+        .iter()
+        .fold(0, |hash, byte| row::mixed(hash, u32::from(*byte)))
 }

@@ -32,12 +32,8 @@ fn some<W: Write>(out: &mut W, rest: &[u8]) -> io::Result<usize>
     match out.write(rest) {
         Ok(0) => Err(io::Error::from(ErrorKind::WriteZero)),
         Ok(n) => Ok(n),
-        Err(e) => {
-            if e.kind() == ErrorKind::Interrupted {
-                return Ok(0);
-            }
-            Err(e)
-        }
+        Err(e) if e.kind() == ErrorKind::Interrupted => Ok(0),
+        Err(e) => Err(e),
     }
 }
 
@@ -76,12 +72,11 @@ fn byte<W: Write>(out: &mut W, b: u8) -> io::Result<()>
 fn mark<W: Write>(out: &mut W, op: u32, hash: u32) -> io::Result<()>
     ensures { OnOk result (Appends (W.contents out.old) (W.contents out.new) (marked op hash)) }
 {
-    if ((0 < op) & (op < 15)) | (op == 18) {
-        byte(out, b' ')?;
-        byte(out, b'#')?;
-        return value(out, hash);
+    if !matches!(op, 1..=14 | 18) {
+        return Ok(());
     }
-    Ok(())
+    word(out, b" #")?;
+    value(out, hash)
 }
 
 // A line ends, and is handed out.

@@ -24,7 +24,7 @@ pub fn put<W: Write>(out: &mut W, row: Row, x: u32) -> io::Result<Row>
     }
     Ok(Row {
         hash: mixed(row.hash, x),
-        is_shown: row.is_shown,
+        ..row
     })
 }
 
@@ -34,10 +34,8 @@ pub fn put_all<W: Write>(out: &mut W, row: Row, numbers: &[u32]) -> io::Result<R
     ensures front { Grows (W.contents out.old) (W.contents out.new) }
 {
     let mut after = row;
-    let mut i = 0;
-    while i < numbers.len() {
-        after = put(out, after, numbers[i])?;
-        i += 1;
+    for x in numbers {
+        after = put(out, after, *x)?;
     }
     Ok(after)
 }
@@ -49,10 +47,8 @@ pub fn put_slots<W: Write>(out: &mut W, row: Row, slots: &[u16], n: usize) -> io
     ensures front { Grows (W.contents out.old) (W.contents out.new) }
 {
     let mut after = row;
-    let mut i = 0;
-    while i < n && i < slots.len() {
-        after = put(out, after, slots[i] as u32)?;
-        i += 1;
+    for slot in &slots[..n.min(slots.len())] {
+        after = put(out, after, u32::from(*slot))?;
     }
     Ok(after)
 }
@@ -61,5 +57,5 @@ pub fn put_slots<W: Write>(out: &mut W, row: Row, slots: &[u16], n: usize) -> io
 pub fn mixed(hash: u32, x: u32) -> u32
     ensures { result ≡ mix hash x }
 {
-    (((hash as u64) * 65599 + (x as u64)) % 4294967291) as u32
+    ((u64::from(hash) * 65599 + u64::from(x)) % 4294967291) as u32
 }

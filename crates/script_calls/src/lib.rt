@@ -7,6 +7,8 @@ ghost use Rattle.script_calls.specs.Asking.{arrival_of, piece_of, fragment_of, q
 use arrival::Arrival;
 use command::fields::{Command, Fragment};
 use link::calls::Call;
+use link_in::calls::Call as Inward;
+use link_out::calls::Call as Outward;
 use numbers::counters::{Group, Reliable};
 use numbers::widths::{low8, low16};
 use outbox::pieces::Piece;
@@ -16,11 +18,10 @@ use send_step::heads::Queue;
 fn arrival_of(f: Frame, length: u32, place: u32) -> Arrival
     ensures { result ≡ arrival_of f length place }
 {
-    let number = Reliable(low16(f.n2));
     Arrival {
-        byte: low8(f.n0),
-        channel: low8(f.n1),
-        number,
+        byte: low8(f.numbers[0]),
+        channel: low8(f.numbers[1]),
+        number: Reliable(low16(f.numbers[2])),
         length,
         place,
     }
@@ -31,41 +32,50 @@ fn piece_of(f: Frame, command: Command) -> Piece
 {
     Piece {
         command,
-        packet: f.n4 == 1,
-        offset: f.n5,
-        length: low16(f.n6),
+        packet: f.numbers[4] == 1,
+        offset: f.numbers[5],
+        length: low16(f.numbers[6]),
     }
 }
 
 fn queue_of(list: u32) -> Queue
     ensures { result ≡ queue_of list }
 {
-    if list == 0 {
-        return Queue::Outgoing;
+    match list {
+        0 => Queue::Outgoing,
+        _ => Queue::Reliable,
     }
-    Queue::Reliable
 }
 
 // Op 18, the arrival of a fragment (C-11).
 fn fragment_of(f: Frame) -> arrive_fragment::Piece
     ensures { result ≡ fragment_of f }
 {
-    let number = Reliable(low16(f.n2));
-    let start = Reliable(low16(f.n3));
-    let fragment = Fragment {
-        length: low16(f.n4),
-        count: f.n5,
-        number: f.n6,
-        total: f.n7,
-        offset: f.n8,
-    };
-    arrive_fragment::Piece {
-        byte: low8(f.n0),
-        channel: low8(f.n1),
+    let [
+        byte,
+        channel,
         number,
         start,
-        fragment,
-        place: f.n9,
+        length,
+        count,
+        piece,
+        total,
+        offset,
+        place,
+    ] = f.numbers;
+    arrive_fragment::Piece {
+        byte: low8(byte),
+        channel: low8(channel),
+        number: Reliable(low16(number)),
+        start: Reliable(low16(start)),
+        fragment: Fragment {
+            length: low16(length),
+            count,
+            number: piece,
+            total,
+            offset,
+        },
+        place,
     }
 }
 
@@ -73,28 +83,20 @@ fn fragment_of(f: Frame) -> arrive_fragment::Piece
 fn arriving(f: Frame) -> Call
     ensures { result ≡ arriving f }
 {
-    let op = f.op;
-    match op {
-        10 => {
-            let group = Group(low16(f.n3));
-            let arrival = arrival_of(f, f.n4, f.n5);
-            let call = link_in::calls::Call::UnsequencedArrival { arrival, group };
-            Call::Inward(call)
-        }
-        11 => {
-            let arrival = arrival_of(f, f.n3, f.n4);
-            let call = link_in::calls::Call::ReliableArrival { arrival };
-            Call::Inward(call)
-        }
-        18 => {
-            let piece = fragment_of(f);
-            let call = link_in::calls::Call::FragmentArrival { piece };
-            Call::Inward(call)
-        }
-        _ => {
-            let call = link_out::calls::Call::Throttle { sample: f.n0 };
-            Call::Outward(call)
-        }
+    match f.op {
+        10 => Call::Inward(Inward::UnsequencedArrival {
+            arrival: arrival_of(f, f.numbers[4], f.numbers[5]),
+            group: Group(low16(f.numbers[3])),
+        }),
+        11 => Call::Inward(Inward::ReliableArrival {
+            arrival: arrival_of(f, f.numbers[3], f.numbers[4]),
+        }),
+        18 => Call::Inward(Inward::FragmentArrival {
+            piece: fragment_of(f),
+        }),
+        _ => Call::Outward(Outward::Throttle {
+            sample: f.numbers[0],
+        }),
     }
 }
 
@@ -102,32 +104,20 @@ fn arriving(f: Frame) -> Call
 fn second(f: Frame) -> Call
     ensures { result ≡ inward f }
 {
-    let op = f.op;
-    match op {
-        8 => {
-            let number = Reliable(low16(f.n1));
-            let call = link_out::calls::Call::Acknowledgement {
-                channel: low8(f.n0),
-                number,
-                sent: low16(f.n2),
-                clock: f.n3,
-            };
-            Call::Outward(call)
-        }
-        9 => {
-            let call = link_out::calls::Call::TimeoutCheck { clock: f.n0 };
-            Call::Outward(call)
-        }
-        12 => {
-            let call = link_in::calls::Call::Dispatch {
-                channel: low8(f.n0),
-            };
-            Call::Inward(call)
-        }
-        13 => {
-            let call = link_in::calls::Call::Receive;
-            Call::Inward(call)
-        }
+    match f.op {
+        8 => Call::Outward(Outward::Acknowledgement {
+            channel: low8(f.numbers[0]),
+            number: Reliable(low16(f.numbers[1])),
+            sent: low16(f.numbers[2]),
+            clock: f.numbers[3],
+        }),
+        9 => Call::Outward(Outward::TimeoutCheck {
+            clock: f.numbers[0],
+        }),
+        12 => Call::Inward(Inward::Dispatch {
+            channel: low8(f.numbers[0]),
+        }),
+        13 => Call::Inward(Inward::Receive),
         _ => arriving(f),
     }
 }
@@ -136,36 +126,28 @@ fn second(f: Frame) -> Call
 pub fn call_of(f: Frame, command: Command) -> Call
     ensures { result ≡ call_of f command }
 {
-    let op = f.op;
-    match op {
+    match f.op {
         1 => Call::Reset,
         2 => Call::Begin {
-            mtu: f.n0,
-            channels: f.n1,
+            mtu: f.numbers[0],
+            channels: f.numbers[1],
         },
-        3 => Call::SetState { state: f.n0 },
-        4 => {
-            let call = link_out::calls::Call::Ping;
-            Call::Outward(call)
-        }
-        5 => {
-            let call = link_out::calls::Call::Send {
-                channel: low8(f.n0),
-                length: f.n1,
-                flags: f.n2,
-            };
-            Call::Outward(call)
-        }
-        6 => {
-            let piece = piece_of(f, command);
-            let call = link_out::calls::Call::Setup { piece };
-            Call::Outward(call)
-        }
-        7 => {
-            let queue = queue_of(f.n0);
-            let call = link_out::calls::Call::SendStep { queue, time: f.n1 };
-            Call::Outward(call)
-        }
+        3 => Call::SetState {
+            state: f.numbers[0],
+        },
+        4 => Call::Outward(Outward::Ping),
+        5 => Call::Outward(Outward::Send {
+            channel: low8(f.numbers[0]),
+            length: f.numbers[1],
+            flags: f.numbers[2],
+        }),
+        6 => Call::Outward(Outward::Setup {
+            piece: piece_of(f, command),
+        }),
+        7 => Call::Outward(Outward::SendStep {
+            queue: queue_of(f.numbers[0]),
+            time: f.numbers[1],
+        }),
         _ => second(f),
     }
 }

@@ -1,41 +1,50 @@
--- The walk over the table of the record's places: a turn, and the end. The argument: a row told in parts; the row of the table is that of the places that are left.
+-- The walk over the table of the record's places: the row so far, and one place more. The argument: a row told in parts; the row of two tables one after the
+-- other.
 use Prim.Native.Nat.{ℕ, ◌+◌, ◌≤◌, ◌<◌}
-use mathlib.Core.Path.{◌≡◌, refl, ap}
-use mathlib.Core.List.{List, [], ◌∷◌}
+use mathlib.Core.Path.{◌≡◌, refl, ap, sym, ◌∙◌}
+use mathlib.Core.List.{List, [], ◌∷◌, ◌++◌, append-nil}
 use mathlib.Core.Bool.{Bool, true, false}
-use lib.ListN.{length, drop, get_or}
+use lib.ListN.{length, take, get_or}
+use lib.Seq.{take_all}
 use mir.Val.{bool_byte}
+use Rattle.std.proofs.lemmas.List.{take_more}
 use Rattle.numbers.specs.Pick.{pick}
-use Rattle.cells.proofs.Views.{rest_step, rest_end}
 use Rattle.order.specs.Table.{nowhere, shown}
 use Rattle.order.specs.declared.Place.{Place}
 use Rattle.script.specs.Row.{told}
 use Rattle.script.specs.declared.row.Row.{Row}
-use Rattle.script.proofs.Laws.{told_part, told_none}
+use Rattle.script.proofs.Laws.{told_then, told_none}
+
+-- one table after the other
+shown_append : (xs ys : List Place) → shown (xs ++ ys) ≡ shown xs ++ shown ys
+unfolding shown
+shown_append [] ys = refl
+shown_append (x ∷ xs) ys = go x.is_written (shown_append xs ys)
+  where
+    go : (b : Bool) → shown (xs ++ ys) ≡ shown xs ++ shown ys
+        → pick b (x.number ∷ shown (xs ++ ys)) (shown (xs ++ ys)) ≡ pick b (x.number ∷ shown xs) (shown xs) ++ shown ys
+    go true e = ap (λ (t : List ℕ). x.number ∷ t) e
+    go false e = e
+
+pub place_none : (row : Row) → row ≡ told row (shown [])
+unfolding shown
+place_none row = sym (told_none row)
 
 -- one place more: its number where it is written
-pub place_turn : (row after : Row) (es : List Place) (k : ℕ) → k < length es
-    → after ≡ pick (get_or es k nowhere).is_written (told row ((get_or es k nowhere).number ∷ [])) row
-    → told row (shown (drop k es)) ≡ told after (shown (drop (k + 1) es))
+pub place_more : (row mid after : Row) (es : List Place) (k : ℕ) → k < length es → mid ≡ told row (shown (take k es))
+    → after ≡ pick (get_or es k nowhere).is_written (told mid ((get_or es k nowhere).number ∷ [])) mid
+    → after ≡ told row (shown (take (k + 1) es))
 unfolding shown
-place_turn row after es k h e = rw (rest_step es k nowhere h) (go (get_or es k nowhere).is_written e)
+place_more row mid after es k h m e =
+    rw (take_more es k nowhere h, shown_append) (go (get_or es k nowhere).is_written e)
   where
-    go : (b : Bool) → after ≡ pick b (told row ((get_or es k nowhere).number ∷ [])) row
-        → told row (pick b ((get_or es k nowhere).number ∷ shown (drop (k + 1) es)) (shown (drop (k + 1) es))) ≡ told after (shown (drop (k + 1) es))
-    go true q = told_part row after ((get_or es k nowhere).number ∷ []) (shown (drop (k + 1) es)) q
-    go false q = rw q
+    go : (b : Bool) → after ≡ pick b (told mid ((get_or es k nowhere).number ∷ [])) mid
+        → after ≡ told row (shown (take k es) ++ pick b ((get_or es k nowhere).number ∷ []) [])
+    go true q = told_then row mid after (shown (take k es)) ((get_or es k nowhere).number ∷ []) m q
+    go false q = rw append-nil (q ∙ m)
 
--- whether the row is shown stays
-pub shown_placed : (row after : Row) (p : Place) → after ≡ pick p.is_written (told row (p.number ∷ [])) row → after.is_shown ≡ row.is_shown
-shown_placed row after p e = go p.is_written e
-  where
-    go : (b : Bool) → after ≡ pick b (told row (p.number ∷ [])) row → after.is_shown ≡ row.is_shown
-    go true q = ap (λ (r : Row). r.is_shown) q
-    go false q = ap (λ (r : Row). r.is_shown) q
-
-pub places_end : (row : Row) (es : List Place) (k : ℕ) → length es ≤ k → told row (shown (drop k es)) ≡ row
-unfolding shown
-places_end row es k h = rw (rest_end es k h) (told_none row)
+pub place_all : (row after : Row) (es : List Place) (k : ℕ) → length es ≤ k → after ≡ told row (shown (take k es)) → after ≡ told row (shown es)
+place_all row after es k h e = e ∙ ap (λ (t : List Place). told row (shown t)) (take_all k es h)
 
 -- a truth value as a number
 pub bit : (b : Bool) → bool_byte b ≡ pick b 1 0

@@ -22,17 +22,14 @@ use std::io;
 use std::io::Write;
 
 // Each number of the record that is written.
-pub fn record<W: Write>(out: &mut W, row: Row, words: &[u32]) -> io::Result<Row>
-    requires { length words.now ≡ record_length }
+pub fn record<W: Write>(out: &mut W, row: Row, words: &[u32; RECORD]) -> io::Result<Row>
     ensures value { IfOk result (λ after. after ≡ told row (row_of (whole words.now))) }
     ensures silent { IsFalse row.is_shown → IsOk result }
     ensures front { Grows (W.contents out.old) (W.contents out.new) }
 {
     let mut after = row;
-    let mut i: usize = 0;
-    while i < RECORD {
+    for i in 0..RECORD {
         after = number(out, after, order::place_at(words, i))?;
-        i = i + 1;
     }
     Ok(after)
 }
@@ -87,10 +84,11 @@ fn fitted<W: Write>(out: &mut W, row: Row, kind: u8, numbers: [u32; 16]) -> io::
     ensures front { Grows (W.contents out.old) (W.contents out.new) }
 {
     let mut after = row;
-    let mut j = 0;
-    while j < 16 && 0 < layout::width_of(kind, j) {
-        after = row::put(out, after, numbers[j])?;
-        j += 1;
+    for (j, x) in numbers.iter().enumerate() {
+        if layout::width_of(kind, j) == 0 {
+            return Ok(after);
+        }
+        after = row::put(out, after, *x)?;
     }
     Ok(after)
 }

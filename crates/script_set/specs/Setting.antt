@@ -1,5 +1,5 @@
--- Ops 20 to 24, the bench's own (SCRIPT.md): which places of the record they set, and what fits there. A place that does not exist is 1,236, past the last.
-use Rattle.std.specs.Prelude.{ℕ, zero, suc, ◌+◌, ◌*◌, ◌-◌, ◌^◌, Bool, true, List, [], ◌∷◌, ◌++◌, leb, ltb, get_or}
+-- Ops 20 to 24, the bench's own (SCRIPT.md): which places of the record they set, and what fits there. A place that does not exist is none.
+use Rattle.std.specs.Prelude.{ℕ, ◌+◌, ◌*◌, ◌-◌, ◌^◌, Bool, true, Option, Some, None, List, [], ◌∷◌, ◌++◌, leb, ltb, get_or}
 use Rattle.numbers.specs.Pick.{pick, both}
 use Rattle.command.specs.Bytes.{pad}
 use Rattle.command.specs.Rows.{row_of, kind_of}
@@ -7,43 +7,41 @@ use Rattle.command.specs.declared.fields.Command.{Command}
 use Rattle.record.specs.Lists.{outgoing, incoming}
 use Rattle.record.specs.Sizes.{channels}
 use Rattle.peer.specs.declared.Peer.{Peer}
-use Rattle.places.specs.Whole.{record_length}
 use Rattle.order.specs.Table.{table, nowhere}
 use Rattle.order.specs.declared.Place.{Place}
-use Rattle.script.specs.Frames.{number_at}
 
 -- op 20: "which (0 to 42 as above; 43 flags, 44 reserved, 45 incoming group, 46 outgoing group, 47 event data, 48 waiting total, 49 host count; 64 to 95
 -- the words, 96 and 97 the two words of marks)"
-abbrev pub number_place : ℕ → ℕ
+abbrev pub number_place : ℕ → Option ℕ
 number_place which =
-    pick (leb which 42) which
-    (pick (leb which 46) (155 + (which - 43))
-    (pick (leb which 49) (191 + (which - 47))
-    (pick (leb which 63) record_length
-    (pick (leb which 95) (159 + (which - 64))
-    (pick (leb which 97) (1234 + (which - 96)) record_length)))))
+    pick (leb which 42) (Some which)
+    (pick (leb which 46) (Some (155 + (which - 43)))
+    (pick (leb which 49) (Some (191 + (which - 47)))
+    (pick (leb which 63) None
+    (pick (leb which 95) (Some (159 + (which - 64)))
+    (pick (leb which 97) (Some (1234 + (which - 96))) None)))))
 
 -- op 21: "list (0 sent, 1 send-reliable, 2 outgoing, 3 dispatched, 8 to 15 the channels' lists), which (0 its length, then its slots)"
-abbrev pub cell_at : ℕ → ℕ → ℕ → ℕ
-cell_at at most which = pick (leb which most) (at + which) record_length
+abbrev pub cell_at : ℕ → ℕ → ℕ → Option ℕ
+cell_at at most which = pick (leb which most) (Some (at + which)) None
 
-abbrev pub cell_place : ℕ → ℕ → ℕ
+abbrev pub cell_place : ℕ → ℕ → Option ℕ
 cell_place list which =
     pick (leb list 2) (cell_at (43 + list * 33) outgoing which)
     (pick (leb list 3) (cell_at 142 incoming which)
-    (pick (leb list 7) record_length
-    (pick (leb list 15) (cell_at (194 + (list - 8) * 17 + 4) incoming which) record_length)))
+    (pick (leb list 7) None
+    (pick (leb list 15) (cell_at (194 + (list - 8) * 17 + 4) incoming which) None)))
 
 -- op 22: "channel, which (0 to 3)"
-abbrev pub channel_place : ℕ → ℕ → ℕ
-channel_place channel which = pick (ltb channel channels) (cell_at (194 + channel * 17) 3 which) record_length
+abbrev pub channel_place : ℕ → ℕ → Option ℕ
+channel_place channel which = pick (ltb channel channels) (cell_at (194 + channel * 17) 3 which) None
 
 -- ops 23 and 24: where a slot's numbers begin
-abbrev pub outgoing_place : ℕ → ℕ
-outgoing_place s = pick (ltb s outgoing) (330 + s * 26) record_length
+abbrev pub outgoing_place : ℕ → Option ℕ
+outgoing_place s = pick (ltb s outgoing) (Some (330 + s * 26)) None
 
-abbrev pub incoming_place : ℕ → ℕ
-incoming_place s = pick (ltb s incoming) (1162 + s * 6) record_length
+abbrev pub incoming_place : ℕ → Option ℕ
+incoming_place s = pick (ltb s incoming) (Some (1162 + s * 6)) None
 
 -- "A number that does not fit its parameter's type makes no call"; "A place or slot that does not exist there: `bad`": by the bits of its place
 abbrev pub fits : Place → ℕ → Bool
@@ -52,12 +50,7 @@ fits e x = both (ltb 0 e.bits) (ltb x (2 ^ e.bits))
 abbrev pub fits_at : Peer → ℕ → ℕ → Bool
 fits_at p i x = fits (get_or (table p) i nowhere) x
 
--- n numbers of the frame, from number k on
-unfoldable pub numbers_from : List ℕ → ℕ → ℕ → List ℕ
-numbers_from input k zero = []
-numbers_from input k (suc n) = number_at input k ∷ numbers_from input (k + 1) n
-
--- whether they fit the places from i on
+-- whether numbers fit the places from i on
 unfoldable pub all_fit : Peer → ℕ → List ℕ → Bool
 all_fit p i [] = true
 all_fit p i (x ∷ xs) = both (fits_at p i x) (all_fit p (i + 1) xs)

@@ -6,12 +6,12 @@ pub mod named;
 ghost use Rattle.std.specs.Prelude.{◌≡◌, ◌+◌, ◌≤◌, ◌<◌, length, set};
 ghost use Rattle.std.proofs.lemmas.List.Edits.{sets};
 ghost use Rattle.places.specs.Whole.{whole, record_length};
-ghost use Rattle.script_set.specs.Setting.{fits as fits_in, fits_at, all_fit, numbers_from, command_numbers};
+ghost use Rattle.script_set.specs.Setting.{fits as fits_in, fits_at, all_fit, command_numbers};
 
 use command::fields::Command;
 use command::rows;
 use order::Place;
-use script::frames;
+use places::RECORD;
 
 // Whether a number fits the bits of a place; none does where there is no place.
 fn fits(place: Place, x: u32) -> bool
@@ -27,25 +27,21 @@ fn fits(place: Place, x: u32) -> bool
     x >> bits == 0
 }
 
-pub fn fits_at(words: &[u32], i: usize, x: u32) -> bool
-    requires { length words.now ≡ record_length }
+pub fn fits_at(words: &[u32; RECORD], i: usize, x: u32) -> bool
     ensures { result ≡ fits_at (whole words.now) i x }
 {
     fits(order::place_at(words, i), x)
 }
 
-// Whether n numbers of the frame, from number k on, fit the places from i on.
-pub fn all_fit(words: &[u32], i: usize, input: &[u8], k: u8, n: u8) -> bool
-    requires words_len { length words.now ≡ record_length }
-    requires i_bound { (i ≤ 1236) × (k + n < 256) }
-    ensures { result ≡ all_fit (whole words.now) i (numbers_from input.now k n) }
+// Whether the numbers fit the places from i on.
+pub fn all_fit(words: &[u32; RECORD], i: usize, numbers: &[u32]) -> bool
+    requires { i ≤ 1236 }
+    ensures { result ≡ all_fit (whole words.now) i numbers.now }
 {
-    let mut j: u8 = 0;
-    while j < n {
-        if !fits_at(words, i + j as usize, frames::number(input, k, j)) {
+    for (j, x) in numbers.iter().enumerate() {
+        if !fits_at(words, i + j, *x) {
             return false;
         }
-        j = j + 1;
     }
     true
 }
@@ -59,16 +55,12 @@ pub fn put(words: &mut [u32], i: usize, x: u32)
     }
 }
 
-// n numbers of the frame, from number k on, in the places from i on.
-pub fn put_all(words: &mut [u32], i: usize, input: &[u8], k: u8, n: u8)
-    requires { (i + n ≤ length words.old) × (k + n < 256) }
-    ensures { words.new ≡ sets words.old i (numbers_from input.now k n) }
+// The numbers in the places from i on.
+pub fn put_all(words: &mut [u32], i: usize, numbers: &[u32])
+    requires { i + length numbers.now ≤ length words.old }
+    ensures { words.new ≡ sets words.old i numbers.now }
 {
-    let mut j: u8 = 0;
-    while j < n {
-        words[i + j as usize] = frames::number(input, k, j);
-        j = j + 1;
-    }
+    words[i..i + numbers.len()].copy_from_slice(numbers);
 }
 
 // A command's numbers from place i on, and its kind behind them.
@@ -78,7 +70,6 @@ pub fn put_command(words: &mut [u32], i: usize, c: Command)
 {
     let row = rows::of(c);
     let fields = c.fields;
-    let kind = rows::kind_of(fields) as u32;
-    pool::copy(words, i, &row, 0, 16);
-    words[i + 16] = kind;
+    put_all(words, i, &row);
+    words[i + 16] = u32::from(rows::kind_of(fields));
 }

@@ -1,10 +1,8 @@
-// Which place of the record's order an op of the bench names; RECORD, past the last, where there is none.
-ghost use Rattle.std.specs.Prelude.{◌≡◌, ◌+◌, ◌≤◌};
+// Which place of the record's order an op of the bench names.
+ghost use Rattle.std.specs.Prelude.{◌≡◌, ◌+◌, ◌≤◌, ◌<◌, IfSome};
 ghost use Rattle.script_set.specs.Setting.{number_place, cell_at, cell_place, channel_place, outgoing_place, incoming_place};
 
-use places::{
-    CHANNEL_WIDTH, CHANNELS, DISPATCHED, HELD, IN_POOL, MARKS, POOL, RECORD, SENT, WORDS,
-};
+use places::{CHANNEL_WIDTH, CHANNELS, DISPATCHED, HELD, IN_POOL, MARKS, POOL, SENT, WORDS};
 use pool::{IN_WIDTH, WIDTH};
 use record::groups::CHANNELS as ALL;
 use record::{INCOMING, OUTGOING};
@@ -15,92 +13,79 @@ const FLAGS: usize = 155;
 const EVENT: usize = 191;
 
 // Op 20: a number.
-pub fn number_place(which: u32) -> usize
-    ensures { result ≡ number_place which }
+pub fn number_place(which: u32) -> Option<usize>
+    ensures value { result ≡ number_place which }
+    ensures within { IfSome result (λ i. i < 1236) }
 {
     let i = which as usize;
-    if which <= 42 {
-        return i;
+    match which {
+        0..=42 => Some(i),
+        43..=46 => Some(FLAGS + (i - 43)),
+        47..=49 => Some(EVENT + (i - 47)),
+        64..=95 => Some(WORDS + (i - 64)),
+        96..=97 => Some(MARKS + (i - 96)),
+        _ => None,
     }
-    if which <= 46 {
-        return FLAGS + (i - 43);
-    }
-    if which <= 49 {
-        return EVENT + (i - 47);
-    }
-    if which <= 63 {
-        return RECORD;
-    }
-    if which <= 95 {
-        return WORDS + (i - 64);
-    }
-    if which <= 97 {
-        return MARKS + (i - 96);
-    }
-    RECORD
 }
 
 // Of the numbers from a place on, up to one.
-fn cell_at(at: usize, most: usize, which: u32) -> usize
+fn cell_at(at: usize, most: usize, which: u32) -> Option<usize>
     requires { at + most ≤ 1236 }
-    ensures { result ≡ cell_at at most which }
+    ensures value { result ≡ cell_at at most which }
+    ensures within { IfSome result (λ i. i ≤ at + most) }
 {
     let i = which as usize;
-    if i <= most {
-        return at + i;
-    }
-    RECORD
+    if i <= most { Some(at + i) } else { None }
 }
 
 // Op 21: a list's cell.
-pub fn cell_place(list: u32, which: u32) -> usize
-    ensures { result ≡ cell_place list which }
+pub fn cell_place(list: u32, which: u32) -> Option<usize>
+    ensures value { result ≡ cell_place list which }
+    ensures within { IfSome result (λ i. i < 1236) }
 {
     let k = list as usize;
-    if list <= 2 {
-        return cell_at(SENT + k * (OUTGOING + 1), OUTGOING, which);
+    match list {
+        0..=2 => cell_at(SENT + k * (OUTGOING + 1), OUTGOING, which),
+        3 => cell_at(DISPATCHED, INCOMING, which),
+        8..=15 => cell_at(CHANNELS + (k - 8) * CHANNEL_WIDTH + HELD, INCOMING, which),
+        _ => None,
     }
-    if list <= 3 {
-        return cell_at(DISPATCHED, INCOMING, which);
-    }
-    if list <= 7 {
-        return RECORD;
-    }
-    if list <= 15 {
-        return cell_at(CHANNELS + (k - 8) * CHANNEL_WIDTH + HELD, INCOMING, which);
-    }
-    RECORD
 }
 
 // Op 22: a channel's number.
-pub fn channel_place(channel: u32, which: u32) -> usize
-    ensures { result ≡ channel_place channel which }
+pub fn channel_place(channel: u32, which: u32) -> Option<usize>
+    ensures value { result ≡ channel_place channel which }
+    ensures within { IfSome result (λ i. i < 1236) }
 {
     let c = channel as usize;
-    if c < ALL {
-        return cell_at(CHANNELS + c * CHANNEL_WIDTH, 3, which);
+    if ALL <= c {
+        return None;
     }
-    RECORD
+    cell_at(CHANNELS + c * CHANNEL_WIDTH, 3, which)
 }
 
 // Op 23: an outgoing slot.
-pub fn outgoing_place(slot: u32) -> usize
-    ensures { result ≡ outgoing_place slot }
+pub fn outgoing_place(slot: u32) -> Option<usize>
+    ensures value { result ≡ outgoing_place slot }
+    ensures within { IfSome result (λ i. i + 26 ≤ 1236) }
 {
     let s = slot as usize;
     if s < OUTGOING {
-        return POOL + s * WIDTH;
+        Some(POOL + s * WIDTH)
+    } else {
+        None
     }
-    RECORD
 }
 
 // Op 24: an incoming one.
-pub fn incoming_place(slot: u32) -> usize
-    ensures { result ≡ incoming_place slot }
+pub fn incoming_place(slot: u32) -> Option<usize>
+    ensures value { result ≡ incoming_place slot }
+    ensures within { IfSome result (λ i. i + 6 ≤ 1236) }
 {
     let s = slot as usize;
     if s < INCOMING {
-        return IN_POOL + s * IN_WIDTH;
+        Some(IN_POOL + s * IN_WIDTH)
+    } else {
+        None
     }
-    RECORD
 }

@@ -8,6 +8,7 @@ use native.Mathlib.Omega.{arith}
 use lib.Dec.{leb}
 use lib.ListN.{length, set, replicate}
 use borrow.Author.Tests.{ltb-true, leb-true}
+use Rattle.std.specs.Prelude.{⊤, Result, Ok, Err}
 use Rattle.numbers.specs.Pick.{pick, both}
 use Rattle.numbers.specs.Limits.{most_fragments}
 use Rattle.numbers.specs.declared.counters.Reliable.{Reliable}
@@ -27,17 +28,14 @@ use Rattle.peer.specs.Calls.{answer_of}
 use Rattle.peer.specs.Updates.{renewed, with_outgoing}
 use Rattle.peer.specs.declared.settings.Settings.{Settings}
 use Rattle.peer.specs.declared.Peer.{Peer}
-use Rattle.peer.specs.declared.gate.Gate.{Gate}
-use Rattle.peer.specs.declared.gate.Gate.TheVariants.{Open, Shut}
 use Rattle.peer.specs.declared.gate.Lent.TheVariants.{Nothing}
-use Rattle.peer.specs.declared.calls.Reply.TheVariants.{Done, Refused}
 use Rattle.peer.proofs.Gates.{openness, open_sound, behind_shut, behind_open, then-behind, came_open, AtGate}
 use Rattle.outbox.specs.Counting.{channel_at}
 use Rattle.outbox.specs.CodeOutboxes.{queueing, outbox_of}
 use Rattle.outbox.specs.declared.pieces.Piece.{Piece}
 use Rattle.outbox.specs.CodeOutboxes.{Outbox}
 use Rattle.outbox.specs.CodeOutboxes.{Queued}
-use Rattle.setup.specs.Queueing.{room, queued, queued_all}
+use Rattle.setup.specs.Queueing.{room, queued_all}
 use Rattle.setup.specs.Taking.{Ready}
 use Rattle.setup.proofs.Stored.{stored, Says, says_first, stored_first, Turned, turn_on}
 use Rattle.packets.specs.Packets.{is_reliable, is_unsequenced, spent, blank, reliable_byte, unreliable_byte, unsequenced_byte, whole, start_of, cut_command, pieces}
@@ -153,19 +151,19 @@ packet_on_lem flags cs channel n fragment j offset = go (leb n fragment)
     go false = cut_channel (start_of flags r u) channel _
 
 -- a gate after another is open only where both are
-then_first : (g h : Gate) → then g h ≡ Open → g ≡ Open
-then_first Open h e = refl
-then_first (Shut why) h e = e
+then_first : (g h : Result ⊤ Refusal) → then g h ≡ Ok tt → g ≡ Ok tt
+then_first (Ok _) h e = refl
+then_first (Err why) h e = e
 
-then_second : (g h : Gate) → then g h ≡ Open → h ≡ Open
-then_second Open h e = e
-then_second (Shut why) h e = absurd (omega (arith, ap openness e))
+then_second : (g h : Result ⊤ Refusal) → then g h ≡ Ok tt → h ≡ Ok tt
+then_second (Ok _) h e = e
+then_second (Err why) h e = absurd (omega (arith, ap openness e))
 
 -- ---- the send: ws, g, o, size, x, count and k are what the code answered
 module _ (s : Settings) (channel n flags : ℕ) (p : Peer) (g : AtGate s Nothing p)
-    (passed : g.gate ≡ Open) (o : Outbox) (oe : o ≡ outbox_of p.totals p.waiting p.flow p.unsequenced p.channels channel p.lists) (size : ℕ)
+    (passed : g.gate ≡ Ok tt) (o : Outbox) (oe : o ≡ outbox_of p.totals p.waiting p.flow p.unsequenced p.channels channel p.lists) (size : ℕ)
     (se : size ≡ fragment s p) (x : Packet) (xe : x ≡ packet_of flags o.counters.reliable o.counters.unreliable channel n size) (count : ℕ)
-    (ce : count ≡ count_of x) (k : Gate) (ke : k ≡ then (send_gate s channel n p.standing) (queue_gate count (room p))) where
+    (ce : count ≡ count_of x) (k : Result ⊤ Refusal) (ke : k ≡ then (send_gate s channel n p.standing) (queue_gate count (room p))) where
   good : sound p ≡ true
   good = open_sound g passed
 
@@ -184,7 +182,7 @@ module _ (s : Settings) (channel n flags : ℕ) (p : Peer) (g : AtGate s Nothing
   count_is : count ≡ length xs
   count_is = ce ∙ sym (left-length x) ∙ ap length pieces_are
 
-  gates : Gate
+  gates : Result ⊤ Refusal
   gates = then (send_gate s channel n p.standing) (queue_gate (length xs) (room p))
 
   gates_are : k ≡ gates
@@ -197,16 +195,16 @@ module _ (s : Settings) (channel n flags : ℕ) (p : Peer) (g : AtGate s Nothing
   unfolding gates
   send_is = sym (then-behind (send_gate s channel n p.standing) (queue_gate (length xs) (room p)) p (finished (queued_all xs p)))
 
-  pub send_shut : (why : Refusal) → k ≡ Shut why → Came answer_of (sends s channel n flags p) (Refused why) p
+  pub send_shut : (why : Refusal) → k ≡ Err why → Came answer_of (sends s channel n flags p) (Err why) p
   send_shut why q =
-      came_open g p (sends_sound s channel n flags p) answer_of (Refused why) p passed
+      came_open g p (sends_sound s channel n flags p) answer_of (Err why) p passed
       (rw (send_is, behind_shut gates p (finished (queued_all xs p)) why (sym gates_are ∙ q)) (record { answer = refl; after = refl }))
 
-  module _ (w : Whole p) (q : k ≡ Open) where
-    opened : gates ≡ Open
+  module _ (w : Whole p) (q : k ≡ Ok tt) where
+    opened : gates ≡ Ok tt
     opened = sym gates_are ∙ q
 
-    first : send_gate s channel n p.standing ≡ Open
+    first : send_gate s channel n p.standing ≡ Ok tt
     unfolding gates
     first = then_first (send_gate s channel n p.standing) (queue_gate (length xs) (room p)) opened
 
@@ -249,11 +247,11 @@ module _ (s : Settings) (channel n flags : ℕ) (p : Peer) (g : AtGate s Nothing
     -- own is the channel as the code read it; c is what it made
     pub send_left : (r : Peer) (o' : Outbox) (j offset : ℕ) → Going x count channel p r o' j offset → count ≤ j
         → (own c : Channel) → own ≡ channel_at r.channels channel → c ≡ with_numbers own o'.counters.reliable o'.counters.unreliable
-        → Came answer_of (sends s channel n flags p) Done
+        → Came answer_of (sends s channel n flags p) (Ok tt)
         (renewed r r.standing (with_outgoing_total r.totals o'.total) r.times r.loss (with_reliable r.flow o'.counters.own) o'.lists
         (with_outgoing_group r.unsequenced o'.counters.group) (with_queued r.waiting o'.queued) (set r.channels channel c) r.outgoing)
     send_left r o' j offset t h own c oe' ke' =
-        came_open g p (sends_sound s channel n flags p) answer_of Done _ passed
+        came_open g p (sends_sound s channel n flags p) answer_of (Ok tt) _ passed
         (rw (send_is, behind_open gates p (finished (queued_all xs p)) opened)
         (record {
           answer = refl;

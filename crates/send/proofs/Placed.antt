@@ -4,6 +4,7 @@ use Prim.Native.Nat.{ℕ, ◌+◌, ◌≤◌, ◌<◌}
 use mathlib.Core.Path.{◌≡◌, refl, sym, subst}
 use mathlib.Core.List.{List}
 use lib.ListN.{set}
+use Rattle.std.specs.Prelude.{⊤, Result, Ok, Err}
 use Rattle.numbers.specs.declared.refusals.Refusal.{Refusal}
 use Rattle.record.specs.Updates.{with_numbers}
 use Rattle.record.specs.declared.groups.Lists.{Lists}
@@ -14,10 +15,7 @@ use Rattle.peer.specs.Calls.{answer_of}
 use Rattle.peer.specs.Updates.{with_lists, with_outgoing}
 use Rattle.peer.specs.declared.settings.Settings.{Settings}
 use Rattle.peer.specs.declared.Peer.{Peer}
-use Rattle.peer.specs.declared.gate.Gate.{Gate}
-use Rattle.peer.specs.declared.gate.Gate.TheVariants.{Open, Shut}
 use Rattle.peer.specs.declared.gate.Lent.TheVariants.{Nothing}
-use Rattle.peer.specs.declared.calls.Reply.TheVariants.{Done, Refused}
 use Rattle.peer.proofs.Gates.{AtGate}
 use Rattle.outbox.specs.Counting.{channel_at}
 use Rattle.outbox.specs.CodeOutboxes.{queueing, outbox_of}
@@ -52,24 +50,24 @@ module _ (x : Packet) (count channel : ℕ) (p₀ : Peer) where
       (other_lists (with_outgoing p (set p.outgoing q.at q.slot)) q.outbox.lists q.outbox (j + 1) next t))
 
 -- ---- the send: g, o with its marks, x, count and k are what the code answered
-module _ (s : Settings) (channel n flags : ℕ) (p : Peer) (g : AtGate s Nothing p) (passed : g.gate ≡ Open) (o : lent.Outbox) (marks : List ℕ)
+module _ (s : Settings) (channel n flags : ℕ) (p : Peer) (g : AtGate s Nothing p) (passed : g.gate ≡ Ok tt) (o : lent.Outbox) (marks : List ℕ)
     (oe : in_lists o marks p.lists ≡ outbox_of p.totals p.waiting p.flow p.unsequenced p.channels channel p.lists) (x : Packet)
-    (xe : x ≡ packet_of flags o.counters.reliable o.counters.unreliable channel n (fragment s p)) (count : ℕ) (ce : count ≡ count_of x) (k : Gate)
+    (xe : x ≡ packet_of flags o.counters.reliable o.counters.unreliable channel n (fragment s p)) (count : ℕ) (ce : count ≡ count_of x) (k : Result ⊤ Refusal)
     (ke : k ≡ then (send_gate s channel n p.standing) (queue_gate count (room p))) where
-  pub lent_shut : (why : Refusal) → k ≡ Shut why → Came answer_of (sends s channel n flags p) (Refused why) p
+  pub lent_shut : (why : Refusal) → k ≡ Err why → Came answer_of (sends s channel n flags p) (Err why) p
   lent_shut =
       send_shut s channel n flags p g passed (in_lists o marks p.lists) oe (fragment s p) refl x xe count ce k ke
 
-  module _ (w : Whole p) (opened : k ≡ Open) where
+  module _ (w : Whole p) (opened : k ≡ Ok tt) where
     pub goes_start : Goes x count channel p p o marks 0 0
     goes_start =
         going_start s channel n flags p g passed (in_lists o marks p.lists) oe (fragment s p) refl x xe count ce k ke w opened
 
     -- y is the record after the loop, z with the numbers back
     pub lent_left : (y : Peer) (r : lent.Outbox) (after : List ℕ) (j offset : ℕ) → Goes x count channel p y r after j offset → count ≤ j → (z : Peer) → z ≡ closed y channel r
-        → Came answer_of (sends s channel n flags p) Done z
+        → Came answer_of (sends s channel n flags p) (Ok tt) z
     lent_left y r after j offset t h z ze =
-        subst (λ (z : Peer). Came answer_of (sends s channel n flags p) Done z) (sym ze)
+        subst (λ (z : Peer). Came answer_of (sends s channel n flags p) (Ok tt) z) (sym ze)
         (send_left s channel n flags p g passed (in_lists o marks p.lists) oe (fragment s p) refl x xe count ce k ke w opened y
         (in_lists r after y.lists) j offset t h (channel_at y.channels channel)
         (with_numbers (channel_at y.channels channel) r.counters.reliable r.counters.unreliable) refl refl)

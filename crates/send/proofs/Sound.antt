@@ -9,6 +9,7 @@ use mathlib.Core.List.{List, [], ◌∷◌}
 use lib.Dec.{leb, ltb}
 use lib.ListN.{length}
 use lib.ListN.{length as length_of}
+use Rattle.std.specs.Prelude.{⊤, Result, Ok, Err}
 use Rattle.numbers.specs.Pick.{pick, both}
 use Rattle.numbers.specs.declared.counters.Unreliable.{Unreliable}
 use Rattle.numbers.proofs.BoolLaws.{both_true}
@@ -19,12 +20,11 @@ use Rattle.command.specs.declared.fields.Fields.TheVariants.{SendReliable, SendU
 use Rattle.peer.specs.Damage.{sound}
 use Rattle.peer.specs.Outcome.{Outcome, finished}
 use Rattle.peer.specs.Sounds.{Whole, Sounds}
-use Rattle.peer.specs.declared.gate.Gate.{Gate}
-use Rattle.peer.specs.declared.gate.Gate.TheVariants.{Open, Shut}
 use Rattle.peer.specs.Gate.{behind}
 use Rattle.peer.proofs.Gates.{openness, behind_has}
 use Rattle.peer.specs.declared.settings.Settings.{Settings}
 use Rattle.peer.specs.declared.Peer.{Peer}
+use Rattle.numbers.specs.declared.refusals.Refusal.{Refusal}
 use Rattle.numbers.specs.declared.refusals.Refusal.TheVariants.{NotConnected, InvalidChannel, PacketTooLarge, FragmentsExceeded, FailedToQueue}
 use Rattle.record.specs.Channels.{on_channel}
 use Rattle.record.specs.declared.groups.Standing.{Standing}
@@ -83,18 +83,18 @@ cut_ready x p pool h on few =
     record { whole = pool; good = h; fit = cut_fit x p.standing.channels on x.count 0 0; few = few }
 
 -- the gate of so many commands is open only where as many slots are free
-pub queue_room : (a b : Bool) → pick a (pick b Open (Shut FailedToQueue)) (Shut FragmentsExceeded) ≡ Open → b ≡ true
+pub queue_room : (a b : Bool) → pick {A = Result ⊤ Refusal} a (pick b (Ok tt) (Err FailedToQueue)) (Err FragmentsExceeded) ≡ Ok tt → b ≡ true
 queue_room true true e = refl
 queue_room true false e = absurd (omega (arith, ap openness e))
 queue_room false b e = absurd (omega (arith, ap openness e))
 
 -- a send's gate tells that the channel is there
-send_gate_lem : (a b c : Bool) → pick a (pick b (pick c Open (Shut PacketTooLarge)) (Shut InvalidChannel)) (Shut NotConnected) ≡ Open → b ≡ true
+send_gate_lem : (a b c : Bool) → pick {A = Result ⊤ Refusal} a (pick b (pick c (Ok tt) (Err PacketTooLarge)) (Err InvalidChannel)) (Err NotConnected) ≡ Ok tt → b ≡ true
 send_gate_lem true true c e = refl
 send_gate_lem true false c e = absurd (omega (arith, ap openness e))
 send_gate_lem false b c e = absurd (omega (arith, ap openness e))
 
-pub gate_channel : (s : Settings) (channel length : ℕ) (standing : Standing) → send_gate s channel length standing ≡ Open → ltb channel standing.channels ≡ true
+pub gate_channel : (s : Settings) (channel length : ℕ) (standing : Standing) → send_gate s channel length standing ≡ Ok tt → ltb channel standing.channels ≡ true
 gate_channel s channel length standing = send_gate_lem (is_connected standing) (ltb channel standing.channels) (leb length s.packet)
 
 pub commands_fit : (fragment channel length flags : ℕ) (p : Peer) → ltb channel p.standing.channels ≡ true
@@ -113,11 +113,11 @@ commands_fit fragment channel length flags p on = go (leb length fragment)
 
 -- setting all up or none keeps soundness and lengths
 module _ (xs : List Piece) (p : Peer) (w : Whole p) where
-  all_keeps : (g : Gate) → sound p ≡ true → all_fit p.standing.channels xs ≡ true → sound (behind g p (finished (queued_all xs p))).after ≡ true
+  all_keeps : (g : Result ⊤ Refusal) → sound p ≡ true → all_fit p.standing.channels xs ≡ true → sound (behind g p (finished (queued_all xs p))).after ≡ true
   all_keeps g h fit =
       behind_has g p (finished (queued_all xs p)) (λ (o : Outcome Peer). sound o.after ≡ true) (λ why. h) (λ e. queued_all-sound xs p w h fit)
 
-  all_whole : (g : Gate) → Whole (behind g p (finished (queued_all xs p))).after
+  all_whole : (g : Result ⊤ Refusal) → Whole (behind g p (finished (queued_all xs p))).after
   all_whole g = behind_has g p (finished (queued_all xs p)) (λ (o : Outcome Peer). Whole o.after) (λ why. w) (λ e. queued_all_whole xs p w)
 
 module _ (s : Settings) (channel length flags : ℕ) (p : Peer) (w : Whole p) where

@@ -16,26 +16,25 @@ ghost use Rattle.packets.specs.Refusals.{send_gate, queue_gate};
 ghost use Rattle.packets.specs.CodePlans.{packet_of, piece_at};
 ghost use Rattle.send.specs.Calls.{fragment, sends};
 
+use numbers::refusals::Refusal;
 use outbox::Outbox;
 use outbox::counting::Counters;
 use packets::plans::Packet;
-use peer::calls::Reply;
-use peer::gate::{Gate, Lent};
+use peer::gate::Lent;
 use peer::settings::Settings;
 use places::{RECORD, groups};
 use record::OUTGOING;
 
 // The packet as it goes out, by the record's MTU and the channel's two numbers.
 fn packet_of(
-    words: &[u32],
+    words: &[u32; RECORD],
     settings: Settings,
     k: Counters,
     channel: u8,
     size: u32,
     flags: u32,
 ) -> Packet
-    requires words_len { length words.now ≡ record_length }
-    requires words_bound { (whole words.now).flow.mtu ≤ most_mtu }
+    requires { (whole words.now).flow.mtu ≤ most_mtu }
     ensures { result ≡ packet_of flags k.reliable k.unreliable channel size (fragment settings (whole words.now)) }
 {
     let flow = groups::flow(words);
@@ -44,9 +43,14 @@ fn packet_of(
 }
 
 // 1, 2, 3, 4, 5 of so many commands, by the record's state, channel count and free slots.
-fn plan_gate(words: &[u32], settings: Settings, channel: u8, size: u32, count: u32) -> Gate
-    requires words_len { length words.now ≡ record_length }
-    requires words_value { sound (whole words.now) ≡ true }
+fn plan_gate(
+    words: &[u32; RECORD],
+    settings: Settings,
+    channel: u8,
+    size: u32,
+    count: u32,
+) -> Result<(), Refusal>
+    requires { sound (whole words.now) ≡ true }
     ensures { result ≡ then (send_gate settings channel size (whole words.now).standing) (queue_gate count (room_in (whole words.now).lists)) }
 {
     let standing = groups::standing(words);
@@ -56,15 +60,14 @@ fn plan_gate(words: &[u32], settings: Settings, channel: u8, size: u32, count: u
 
 // Command j of a packet, at its offset, in the lowest free slot.
 fn queue(
-    words: &mut [u32],
+    words: &mut [u32; RECORD],
     marks: &mut [u8],
     o: Outbox,
     packet: Packet,
     j: u32,
     offset: u32,
 ) -> Outbox
-    requires words_len { length words.old ≡ record_length }
-    requires marks_len { length marks.old ≡ outgoing }
+    requires { length marks.old ≡ outgoing }
     ensures out { in_lists result marks.new (queueing (in_lists o marks.old (whole words.old).lists) (piece_at packet j offset)).outbox.lists ≡ (queueing (in_lists o marks.old (whole words.old).lists) (piece_at packet j offset)).outbox }
     ensures kept { whole words.new ≡ queued_by (whole words.old) (queueing (in_lists o marks.old (whole words.old).lists) (piece_at packet j offset)) }
 {
@@ -78,28 +81,20 @@ pub fn send(
     channel: u8,
     length: u32,
     flags: u32,
-) -> Reply
+) -> Result<(), Refusal>
     ensures { Came answer_of (sends settings channel length flags (whole words.old)) result (whole words.new) }
 {
-    let gate = gate::ask(words, settings, Lent::Nothing);
-    if let Gate::Shut(why) = gate {
-        return Reply::Refused(why);
-    }
+    gate::ask(words, settings, Lent::Nothing)?;
     let mut marks = [0u8; OUTGOING];
     let mut o = outbox::open(words, channel, &mut marks);
     let packet = packet_of(words, settings, o.counters, channel, length, flags);
     let count = packets::plans::count_of(packet);
-    let room = plan_gate(words, settings, channel, length, count);
-    if let Gate::Shut(why) = room {
-        return Reply::Refused(why);
-    }
-    let mut j: u32 = 0;
+    plan_gate(words, settings, channel, length, count)?;
     let mut offset: u32 = 0;
-    while j < count {
+    for j in 0..count {
         o = queue(words, &mut marks, o, packet, j, offset);
         offset = packets::plans::next_at(packet, offset);
-        j = j + 1;
     }
     outbox::close(words, channel, o);
-    Reply::Done
+    Ok(())
 }

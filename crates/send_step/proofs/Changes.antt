@@ -1,10 +1,10 @@
 -- What a step on the lent record makes of it: each change is the rule's group, and the changes one after the other are the rule's record.
 -- The argument: what was read is the record's own and what was written its update, so each change is one equation; the rule's choices are settled by it.
+use Rattle.std.specs.Prelude.{Option}
 use Rattle.std.proofs.Common.{◌≡◌, ℕ, Bool, true, false, length, get_or, set, sym, refl, ap, ◌∙◌}
 use Rattle.numbers.specs.Pick.{pick}
 use Rattle.numbers.specs.Modulo.{sum}
 use Rattle.cells.specs.Runs.{first, is_empty, without}
-use Rattle.cells.specs.declared.First.{First}
 use Rattle.cells.proofs.Views.{empty_none, empty_some}
 use Rattle.record.specs.Lists.{out_items, out_keep}
 use Rattle.record.specs.declared.outgoing.OutList.{OutList}
@@ -33,7 +33,7 @@ list_is queue.Outgoing l = refl
 list_is queue.Reliable l = refl
 
 module _ (p : Peer) where
-  pub first_is : (q : Queue) (n : Out) (f : First) → n ≡ out_for q → f ≡ first (out_items (out_of n p.lists)) → f ≡ first (out_items (list_of q p.lists))
+  pub first_is : (q : Queue) (n : Out) (f : Option ℕ) → n ≡ out_for q → f ≡ first (out_items (out_of n p.lists)) → f ≡ first (out_items (list_of q p.lists))
   first_is q n f e z =
       z
       ∙ ap (λ (x : Out). first (out_items (out_of x p.lists))) e

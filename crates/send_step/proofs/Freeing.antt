@@ -1,13 +1,12 @@
 -- What a send step does to the slots: the head leaves its list, and joins sent at the end or is free; no other slot moves or changes.
 -- The argument: how often a slot stands, and how long lists are, both add up over the three lists, and a step takes the head off one of them.
+use Rattle.std.specs.Prelude.{Option, Some}
 use Rattle.std.proofs.Common.{◌≡◌, ℕ, ◌+◌, ◌<◌, ◌≤◌, Bool, true, false, ltb, List, [], ◌∷◌, ◌++◌, length, get_or, drop, set, sym, refl, ap, ◌∙◌, subst, arith, length-append, get_or-set_other, get_or-set_same, ltb-false, ltb-true, lt-ltb, eq-eqb}
 use lib.ListN.{get_or-eq_default}
 use Rattle.numbers.specs.Pick.{pick}
 use Rattle.record.specs.Lists.{outgoing, out_items}
 use Rattle.cells.specs.Runs.{first, without, pushed, has}
 use Rattle.cells.specs.Free.{exist, once}
-use Rattle.cells.specs.declared.First.{First}
-use Rattle.cells.specs.declared.First.TheVariants.{Slot}
 use Rattle.record.specs.declared.outgoing.OutList.{OutList}
 use Rattle.record.proofs.Keeps.{one, times, times_append, none_times, once_at_most, once_same, exist_same, once_less, exist_less}
 use Rattle.record.proofs.Views.{out_items_keep}
@@ -204,7 +203,7 @@ pub record Frees (q : Queue) (s : ℕ) (p after : Peer) : Type 0 where
   pub free : has (used_out after.lists) s ≡ false
   pub space : room_in after.lists ≡ room_in p.lists + 1
 
-module _ (q : Queue) (s time : ℕ) (p : Peer) (h : sound p ≡ true) (e : first (out_items (list_of q p.lists)) ≡ Slot s) where
+module _ (q : Queue) (s time : ℕ) (p : Peer) (h : sound p ≡ true) (e : first (out_items (list_of q p.lists)) ≡ Some s) where
   abbrev rest : List ℕ
   rest = drop 1 (out_items (list_of q p.lists))
 
@@ -213,7 +212,7 @@ module _ (q : Queue) (s time : ℕ) (p : Peer) (h : sound p ≡ true) (e : first
 
   goes : (b : Bool) → is_acknowledged (head p s time) ≡ b → (steps_sound q time p).after ≡ sent_by b q s (head p s time) p
   goes b a =
-      ap (λ (f : First). (steps_from f q time p).after) e
+      ap (λ (f : Option ℕ). (steps_from f q time p).after) e
       ∙ sent_by_lem q s (head p s time) p
       ∙ ap (λ (b : Bool). sent_by b q s (head p s time) p) a
 

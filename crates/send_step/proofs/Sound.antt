@@ -1,14 +1,13 @@
 -- Soundness through the send step: a sound record stays sound, whichever list is named, acknowledged or not.
 -- The argument: no list names a slot more often than before, the slot that changes keeps its command and has at least one attempt, and
 -- nothing of the incoming side changes.
+use Rattle.std.specs.Prelude.{None, Option, Some}
 use Rattle.std.proofs.Common.{◌≡◌, ℕ, ◌+◌, ◌<◌, ◌≤◌, min, Bool, true, false, eqb, ltb, leb, List, [], ◌∷◌, length, get_or, set, sym, refl, ap, ◌∙◌, subst, arith, length-set, length-take, get_or-set_other, get_or-set_same, ltb-false, ltb-true, eqb-true, le-leb, leb-true}
 use lib.Seq.{set_out}
 use borrow.Author.Tests.{eqb-false}
 use Rattle.numbers.proofs.BoolLaws.{both_true}
 use Rattle.record.specs.Lists.{outgoing, incoming, out_items}
 use Rattle.cells.specs.Runs.{first, without, pushed}
-use Rattle.cells.specs.declared.First.{First}
-use Rattle.cells.specs.declared.First.TheVariants.{Slot, Empty}
 use Rattle.record.specs.declared.outgoing.OutList.{OutList}
 use Rattle.record.proofs.Keeps.{times}
 use Rattle.cells.proofs.Lengths.{without_fits, pushed_fits}
@@ -146,9 +145,9 @@ sent_whole q s o p l =
 step_whole : (q : Queue) (time : ℕ) (p : Peer) → Whole p → Whole (steps_sound q time p).after
 step_whole q time p l = go (first (out_items (list_of q p.lists)))
   where
-    go : (f : First) → Whole (steps_from f q time p).after
-    go Empty = l
-    go (Slot s) = sent_whole q s (head p s time) p l
+    go : (f : Option ℕ) → Whole (steps_from f q time p).after
+    go None = l
+    go (Some s) = sent_whole q s (head p s time) p l
 
 pub step_sounds : (s : Settings) (q : Queue) (time : ℕ) → Sounds (steps s q time)
 step_sounds s q time = gated_sounds s (steps_sound q time) (step_keeps q time) (step_whole q time)

@@ -14,20 +14,12 @@ ghost use Rattle.send_step.specs.Calls.{answer_of, steps, Named};
 ghost use Rattle.send_step.specs.Names.{out_for};
 
 use crate::heads::Queue;
-use cells::First;
 use numbers::refusals::Refusal;
-use peer::gate::{Gate, Lent};
+use peer::gate::Lent;
 use peer::settings::Settings;
 use places::{RECORD, groups, pools};
 use queues::{Out, outgoing};
 use record::groups::Outgoing;
-
-#[derive(Clone, Copy)]
-pub enum Reply {
-    Nothing,
-    Head(Outgoing),
-    Refused(Refusal),
-}
 
 fn out_for(q: Queue) -> Out
     ensures { result ≡ out_for q }
@@ -39,8 +31,7 @@ fn out_for(q: Queue) -> Out
 }
 
 // The slot at the head of its list.
-fn first_of(words: &[u32], q: Queue) -> First
-    requires { length words.now ≡ record_length }
+fn first_of(words: &[u32; RECORD], q: Queue) -> Option<u16>
     ensures { result ≡ first (out_items (list_of q (whole words.now).lists)) }
 {
     let list = out_for(q);
@@ -48,8 +39,7 @@ fn first_of(words: &[u32], q: Queue) -> First
 }
 
 // One more attempt for slot s.
-fn attempt(words: &mut [u32], s: usize, time: u32) -> Outgoing
-    requires { length words.old ≡ record_length }
+fn attempt(words: &mut [u32; RECORD], s: usize, time: u32) -> Outgoing
     ensures out { result ≡ head (whole words.old) s time }
     ensures kept { whole words.new ≡ with_outgoing (whole words.old) (slice_set (whole words.old).outgoing s result) }
 {
@@ -61,8 +51,7 @@ fn attempt(words: &mut [u32], s: usize, time: u32) -> Outgoing
 }
 
 // Packets sent + 1.
-fn count(words: &mut [u32])
-    requires { length words.old ≡ record_length }
+fn count(words: &mut [u32; RECORD])
     ensures { whole words.new ≡ with_loss (whole words.old) (packet_sent (whole words.old).loss) }
 {
     let loss = groups::loss(words);
@@ -71,8 +60,7 @@ fn count(words: &mut [u32])
 }
 
 // If nothing was sent before, the next timeout is this acknowledged one's.
-fn time(words: &mut [u32], o: Outgoing)
-    requires { length words.old ≡ record_length }
+fn time(words: &mut [u32; RECORD], o: Outgoing)
     ensures { whole words.new ≡ with_times (whole words.old) (times_sent (whole words.old).times (out_items (whole words.old).lists.sent) o) }
 {
     if !heads::is_acknowledged(o) {
@@ -87,8 +75,7 @@ fn time(words: &mut [u32], o: Outgoing)
 }
 
 // In transit grows by an acknowledged packet's piece length.
-fn carry(words: &mut [u32], o: Outgoing)
-    requires { length words.old ≡ record_length }
+fn carry(words: &mut [u32; RECORD], o: Outgoing)
     ensures { whole words.new ≡ with_flow (whole words.old) (flow_sent (whole words.old).flow o) }
 {
     let flow = groups::flow(words);
@@ -97,8 +84,7 @@ fn carry(words: &mut [u32], o: Outgoing)
 }
 
 // The head leaves its list; acknowledged, it joins sent, and else its slot is free.
-fn move_on(words: &mut [u32], q: Queue, s: u16, o: Outgoing)
-    requires { length words.old ≡ record_length }
+fn move_on(words: &mut [u32; RECORD], q: Queue, s: u16, o: Outgoing)
     ensures { whole words.new ≡ with_lists (whole words.old) (lists_sent q (whole words.old).lists s o) }
 {
     let list = out_for(q);
@@ -109,22 +95,24 @@ fn move_on(words: &mut [u32], q: Queue, s: u16, o: Outgoing)
 }
 
 // Refused by 11 and 13; nothing to send, or the head after its changes.
-pub fn step(words: &mut [u32; RECORD], settings: Settings, q: Queue, time: u32) -> Reply
+pub fn step(
+    words: &mut [u32; RECORD],
+    settings: Settings,
+    q: Queue,
+    time: u32,
+) -> Result<Option<Outgoing>, Refusal>
     ensures came { Came answer_of (steps settings q time (whole words.old)) result (whole words.new) }
     ensures named { Named result }
 {
-    let gate = gate::ask(words, settings, Lent::Nothing);
-    if let Gate::Shut(why) = gate {
-        return Reply::Refused(why);
-    }
+    gate::ask(words, settings, Lent::Nothing)?;
     let first = first_of(words, q);
-    let First::Slot(s) = first else {
-        return Reply::Nothing;
+    let Some(s) = first else {
+        return Ok(None);
     };
     let o = attempt(words, s as usize, time);
     count(words);
     self::time(words, o);
     carry(words, o);
     move_on(words, q, s, o);
-    Reply::Head(o)
+    Ok(Some(o))
 }

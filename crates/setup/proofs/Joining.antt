@@ -1,5 +1,6 @@
 -- What the outgoing lists name once a piece has joined one of them: the slot taken, once, and what they named.
 -- The argument: `times` adds up over `++`; a pool with a free slot has no full list, so that the push goes through.
+use Rattle.std.specs.Prelude.{Some}
 use Prim.Native.Nat.{ℕ, ◌+◌, ◌<◌}
 use mathlib.Core.Path.{◌≡◌, refl, ap, ◌∙◌}
 use mathlib.Core.List.{List, [], ◌∷◌, ◌++◌}
@@ -13,7 +14,6 @@ use Rattle.numbers.proofs.BoolLaws.{both_true}
 use Rattle.record.specs.Lists.{outgoing, out_items}
 use Rattle.cells.specs.Runs.{has, pushed}
 use Rattle.cells.specs.Free.{lowest, exist, once}
-use Rattle.cells.specs.declared.Free.TheVariants.{Lowest}
 use Rattle.record.proofs.Keeps.{one, times, times_append, times-pushed, once_more, exist_more}
 use Rattle.record.proofs.Views.{out_items_keep}
 use Rattle.cells.proofs.Lowest.{lowest_exists, lowest_free, free_and_named}
@@ -134,7 +134,7 @@ module _ (l : Lists) (s : ℕ) where
             )
 
 -- the lowest free slot of a sound record, named by one list more
-module _ (x : Piece) (p : Peer) (s : ℕ) (low : lowest outgoing (used_out p.lists) ≡ Lowest s) (w : Clauses p) where
+module _ (x : Piece) (p : Peer) (s : ℕ) (low : lowest outgoing (used_out p.lists) ≡ Some s) (w : Clauses p) where
   abbrev used : List ℕ
   used = used_out p.lists
 

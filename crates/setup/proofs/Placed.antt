@@ -3,15 +3,14 @@
 use Prim.Native.Nat.{ℕ, ◌≤◌}
 use mathlib.Core.Path.{◌≡◌, refl, ap, sym, subst, ◌∙◌}
 use mathlib.Core.List.{List}
+use Rattle.std.specs.Prelude.{⊤, Result, Ok}
+use Rattle.numbers.specs.declared.refusals.Refusal.{Refusal}
 use Rattle.peer.specs.Outcome.{Came, finished}
 use Rattle.peer.specs.Gate.{behind, on_record}
 use Rattle.peer.specs.Calls.{answer_of}
 use Rattle.peer.specs.declared.settings.Settings.{Settings}
 use Rattle.peer.specs.declared.Peer.{Peer}
-use Rattle.peer.specs.declared.gate.Gate.{Gate}
-use Rattle.peer.specs.declared.gate.Gate.TheVariants.{Open}
 use Rattle.peer.specs.declared.gate.Lent.TheVariants.{Nothing}
-use Rattle.peer.specs.declared.calls.Reply.TheVariants.{Done}
 use Rattle.peer.proofs.Gates.{AtGate}
 use Rattle.outbox.specs.Counting.{numbered}
 use Rattle.outbox.specs.CodeOutboxes.{queueing, outbox_of}
@@ -34,14 +33,14 @@ left_is p y z channel r after q re ye ze =
 
 -- a call that queues one piece behind a gate of its own, which may answers: o with its marks is what the code opened, y the record with the piece,
 -- z with the numbers back
-pub lent_left : (s : Settings) (x : Piece) (p : Peer) (g : AtGate s Nothing p) → g.gate ≡ Open → (rule may : Gate) → may ≡ rule → (rule ≡ Open → 1 ≤ room p)
-    → may ≡ Open → (o : lent.Outbox) (marks : List ℕ)
+pub lent_left : (s : Settings) (x : Piece) (p : Peer) (g : AtGate s Nothing p) → g.gate ≡ Ok tt → (rule may : Result ⊤ Refusal) → may ≡ rule → (rule ≡ Ok tt → 1 ≤ room p)
+    → may ≡ Ok tt → (o : lent.Outbox) (marks : List ℕ)
     → in_lists o marks p.lists ≡ outbox_of p.totals p.waiting p.flow p.unsequenced p.channels x.command.channel p.lists
     → (r : lent.Outbox) (after : List ℕ) (y z : Peer) → Sets p o marks x r after y → z ≡ closed y x.command.channel r
-    → Came answer_of (on_record s p (behind rule p (finished (queued x p)))) Done z
+    → Came answer_of (on_record s p (behind rule p (finished (queued x p)))) (Ok tt) z
 lent_left s x p g passed rule may me some opened o marks oe r after y z made ze =
     let q = queueing (in_lists o marks p.lists) x in
-    subst (λ (z : Peer). Came answer_of (on_record s p (behind rule p (finished (queued x p)))) Done z)
+    subst (λ (z : Peer). Came answer_of (on_record s p (behind rule p (finished (queued x p)))) (Ok tt) z)
     (sym (left_is p y z x.command.channel r after q made.0 made.1 ze))
     (one_left s x p g passed rule may me some opened (in_lists o marks p.lists) oe q refl
     (numbered p.channels x.command.channel q.outbox.counters) refl)

@@ -1,6 +1,7 @@
 -- Setting up keeps a record sound, one piece or many, and so does the call.
 -- The argument: the slot taken is free and exists, so that every slot named before holds what it held; the new one holds the piece's
 -- command, with its byte and its channel; of a channel two numbers change, which soundness does not read.
+use Rattle.std.specs.Prelude.{None, Option, Some}
 use Prim.Native.Nat.{ℕ, zero, suc, ◌+◌, ◌%◌, ◌<◌}
 use mathlib.Core.Path.{◌≡◌, refl, ap, sym, ◌∙◌}
 use mathlib.Core.List.{List, [], ◌∷◌, ◌++◌}
@@ -10,6 +11,7 @@ use lib.Dec.{leb, ltb, eqb}
 use lib.ListN.{length, get_or, take, set, length-set}
 use lib.Seq.{get_or-set_same, get_or-set_other}
 use borrow.Author.Tests.{eqb-true, eqb-false, le-leb}
+use Rattle.std.specs.Prelude.{⊤, Result, Ok, Err}
 use Rattle.numbers.specs.Pick.{pick, both}
 use Rattle.numbers.specs.declared.counters.Unreliable.{Unreliable}
 use Rattle.numbers.specs.declared.counters.Group.{Group}
@@ -20,8 +22,6 @@ use Rattle.command.specs.declared.fields.Fields.TheVariants as vr
 use Rattle.record.specs.Channels.{on_channel}
 use Rattle.record.specs.Lists.{outgoing, incoming, out_items, in_items}
 use Rattle.cells.specs.Free.{lowest, exist, once}
-use Rattle.cells.specs.declared.Free.{Free}
-use Rattle.cells.specs.declared.Free.TheVariants.{Lowest, Full}
 use Rattle.record.specs.declared.outgoing.OutList.{OutList}
 use Rattle.record.specs.declared.incoming.InList.{InList}
 use Rattle.record.proofs.Keeps.{times, times_append, times_none}
@@ -29,6 +29,7 @@ use Rattle.cells.proofs.Lengths.{pushed_fits}
 use Rattle.record.specs.Fresh.{no_channel, no_outgoing, no_incoming}
 use Rattle.record.specs.Damage.{lists_fit, held_fit, held, below, all, own, lengths, blocks, one_block, out_fit, tried, in_fit, in_sound, used_out, used_in}
 use Rattle.peer.specs.Damage.{sound}
+use Rattle.numbers.specs.declared.refusals.Refusal.{Refusal}
 use Rattle.numbers.specs.declared.refusals.Refusal.TheVariants.{InvalidChannel, FailedToQueue, BadCommand}
 use Rattle.peer.specs.Outcome.{Outcome, finished}
 use Rattle.peer.specs.Sounds.{Whole, Sounds}
@@ -40,8 +41,6 @@ use Rattle.record.specs.declared.groups.Channel.{Channel}
 use Rattle.record.specs.declared.groups.Outgoing.{Outgoing}
 use Rattle.record.specs.declared.groups.Incoming.{Incoming}
 use Rattle.record.specs.declared.groups.Marks.{Marks}
-use Rattle.peer.specs.declared.gate.Gate.{Gate}
-use Rattle.peer.specs.declared.gate.Gate.TheVariants.{Open, Shut}
 use Rattle.peer.proofs.Gates.{openness, behind_has}
 use Rattle.peer.proofs.Sound.{gated_sounds}
 use Rattle.peer.proofs.Clauses.{Clauses, sound_clauses, clauses_sound, all_at, at_all}
@@ -150,7 +149,7 @@ command_fit count o =
 abbrev attempts : Outgoing → Bool
 attempts o = leb 1 o.attempts
 
-module _ (x : Piece) (p : Peer) (s : ℕ) (low : lowest outgoing (used_out p.lists) ≡ Lowest s) (w : Clauses p) (whole : Whole p)
+module _ (x : Piece) (p : Peer) (s : ℕ) (low : lowest outgoing (used_out p.lists) ≡ Some s) (w : Clauses p) (whole : Whole p)
     (on : on_channel x.command.channel p.standing.channels ≡ true) (names : names_fields x.command ≡ true) where
   abbrev used : List ℕ
   used = used_out p.lists
@@ -224,31 +223,31 @@ pub queued-sound : (x : Piece) (p : Peer) → Whole p → sound p ≡ true → o
 unfolding queued
 queued-sound x p whole h on names = go (lowest outgoing (used_out p.lists)) refl
   where
-    go : (f : Free) → lowest outgoing (used_out p.lists) ≡ f → sound (queued_in f x p) ≡ true
-    go (Lowest s) e = at_sound x p s e (sound_clauses p h) whole on names
-    go Full e = h
+    go : (f : Option ℕ) → lowest outgoing (used_out p.lists) ≡ f → sound (queued_in f x p) ≡ true
+    go (Some s) e = at_sound x p s e (sound_clauses p h) whole on names
+    go None e = h
 
 -- the lengths and the count stay
 pub queued_whole : (x : Piece) (p : Peer) → Whole p → Whole (queued x p)
 unfolding queued queued_at
 queued_whole x p w = go (lowest outgoing (used_out p.lists))
   where
-    go : (f : Free) → Whole (queued_in f x p)
-    go (Lowest s) =
+    go : (f : Option ℕ) → Whole (queued_in f x p)
+    go (Some s) =
         record {
           channels = length-set p.channels x.command.channel _ ∙ w.channels;
           outgoing = length-set p.outgoing s (made x p) ∙ w.outgoing;
           incoming = w.incoming;
         }
-    go Full = w
+    go None = w
 
 pub queued-standing : (x : Piece) (p : Peer) → (queued x p).standing ≡ p.standing
 unfolding queued queued_at
 queued-standing x p = go (lowest outgoing (used_out p.lists))
   where
-    go : (f : Free) → (queued_in f x p).standing ≡ p.standing
-    go (Lowest s) = refl
-    go Full = refl
+    go : (f : Option ℕ) → (queued_in f x p).standing ≡ p.standing
+    go (Some s) = refl
+    go None = refl
 
 -- pieces one after another
 module _ (x : Piece) (xs : List Piece) (p : Peer) (fit : all_fit p.standing.channels (x ∷ xs) ≡ true) where
@@ -293,16 +292,16 @@ queued_all-sound (x ∷ xs) p whole h fit =
 
 -- the gate of a setup tells that its command is fit
 module _ (x : Piece) (p : Peer) where
-  abbrev gate : Bool → Bool → Bool → Gate
-  gate on free named = pick on (pick free (pick named Open (Shut BadCommand)) (Shut FailedToQueue)) (Shut InvalidChannel)
+  abbrev gate : Bool → Bool → Bool → Result ⊤ Refusal
+  gate on free named = pick on (pick free (pick named (Ok tt) (Err BadCommand)) (Err FailedToQueue)) (Err InvalidChannel)
 
-  gate_fit : (a b c : Bool) → gate a b c ≡ Open → (a ≡ true) × (b ≡ true) × (c ≡ true)
+  gate_fit : (a b c : Bool) → gate a b c ≡ Ok tt → (a ≡ true) × (b ≡ true) × (c ≡ true)
   gate_fit true true true e = (refl, refl, refl)
   gate_fit true true false e = absurd (omega (arith, ap openness e))
   gate_fit true false c e = absurd (omega (arith, ap openness e))
   gate_fit false b c e = absurd (omega (arith, ap openness e))
 
-  pub setup_open : setup_gate x p.standing.channels (room p) ≡ Open
+  pub setup_open : setup_gate x p.standing.channels (room p) ≡ Ok tt
       → (on_channel x.command.channel p.standing.channels ≡ true) × (leb 1 (room p) ≡ true) × (names_fields x.command ≡ true)
   setup_open = gate_fit (on_channel x.command.channel p.standing.channels) (leb 1 (room p)) (names_fields x.command)
 

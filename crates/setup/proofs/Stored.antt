@@ -1,6 +1,7 @@
 -- Setting up on an outbox and storing what it then holds is setting up on the record: for one piece, and for one more of several.
 -- The argument: the definitions say the same of each group; the marks tell the lowest free slot; a channel that is there gives back the
 -- numbers that it was given, so that groups stored once at the end are those stored after each piece.
+use Rattle.std.specs.Prelude.{None, Option, Some}
 use Prim.Native.Nat.{ℕ, zero, suc, ◌≤◌, ◌<◌}
 use mathlib.Core.Path.{◌≡◌, refl, ap, sym, subst, ◌∙◌}
 use mathlib.Core.Bool.{true}
@@ -13,8 +14,6 @@ use Rattle.numbers.specs.Pick.{pick}
 use Rattle.record.specs.Lists.{outgoing}
 use Rattle.cells.specs.Runs.{has}
 use Rattle.cells.specs.Free.{is_marked, marked_all, first_from, lowest}
-use Rattle.cells.specs.declared.Free.{Free}
-use Rattle.cells.specs.declared.Free.TheVariants.{Lowest, Full}
 use Rattle.cells.proofs.Lowest.{lowest_exists}
 use Rattle.cells.proofs.Scans.{first_same, set_mark_past}
 use Rattle.cells.proofs.Marked.{marked_length, marked_says}
@@ -70,23 +69,23 @@ says_first xs =
 -- where there is room, a slot is free
 pub record Slot (xs : List ℕ) : Type 0 where
   pub slot : ℕ
-  pub low : lowest outgoing xs ≡ Lowest slot
+  pub low : lowest outgoing xs ≡ Some slot
 
 pub room_slot : (p : Peer) → 1 ≤ room p → Slot (used_out p.lists)
 room_slot p h = go (lowest outgoing (used_out p.lists)) refl
   where
-    go : (f : Free) → lowest outgoing (used_out p.lists) ≡ f → Slot (used_out p.lists)
-    go (Lowest s) e = record { slot = s; low = e }
-    go Full e = absurd (omega (arith, h, none_left (has (used_out p.lists)) outgoing 0 e))
+    go : (f : Option ℕ) → lowest outgoing (used_out p.lists) ≡ f → Slot (used_out p.lists)
+    go (Some s) e = record { slot = s; low = e }
+    go None e = absurd (omega (arith, h, none_left (has (used_out p.lists)) outgoing 0 e))
 
 -- ---- one piece
 module _ (x : Piece) (p : Peer) (marks : List ℕ) (says : Says marks (used_out p.lists)) (s : ℕ)
-    (low : lowest outgoing (used_out p.lists) ≡ Lowest s) (q : Queued) (e : q ≡ queueing (opened p x.command.channel marks) x) where
+    (low : lowest outgoing (used_out p.lists) ≡ Some s) (q : Queued) (e : q ≡ queueing (opened p x.command.channel marks) x) where
   abbrev o : Outbox
   o = opened p x.command.channel marks
 
   queue_is : q ≡ record { outbox = placed_in o x s (stamp_in o x).counters; at = s; slot = slot_in o x }
-  queue_is = e ∙ ap (λ (f : Free). queueing_in f o x) (says_lowest marks (used_out p.lists) says ∙ low)
+  queue_is = e ∙ ap (λ (f : Option ℕ). queueing_in f o x) (says_lowest marks (used_out p.lists) says ∙ low)
 
   pub queue_at : q.at ≡ s
   queue_at = ap (λ (q : Queued). q.at) queue_is
@@ -168,7 +167,7 @@ module _ (x : Piece) (xs : List Piece) (p : Peer) (here : x.command.channel < le
         ready = rw n at t.next;
       }
     where
-      says_on : (s : ℕ) (low : lowest outgoing (used_out o.lists) ≡ Lowest s) (q : Queued)
+      says_on : (s : ℕ) (low : lowest outgoing (used_out o.lists) ≡ Some s) (q : Queued)
           → queued x r ≡ stored p channel q.outbox (set p.outgoing q.at q.slot) → q ≡ queueing (opened r channel o.marks) x
           → Says q.outbox.marks (used_out q.outbox.lists)
       says_on s low q n e =

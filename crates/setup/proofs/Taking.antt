@@ -1,6 +1,7 @@
 -- The slots that setting up takes: pieces set up one after another take the lowest free slots in rising order, each a slot of its own,
 -- and leave every other slot as it was; and the public setups do the same, all answering done.
 -- The argument: a setup makes the lowest free slot a named one and changes no other, so that the free slots lose their first.
+use Rattle.std.specs.Prelude.{None, Option, Some}
 use Prim.Native.Nat.{ℕ, zero, suc, ◌+◌, ◌<◌}
 use mathlib.Core.Path.{◌≡◌, refl, ap, sym, ◌∙◌}
 use mathlib.Core.List.{List, [], ◌∷◌}
@@ -10,25 +11,24 @@ use lib.Dec.{leb, ltb, eqb}
 use lib.ListN.{length, get_or, take, set, replicate}
 use lib.Seq.{get_or-set_same, get_or-set_other, get_or-take}
 use borrow.Author.Tests.{eqb-true, eqb-false, eq-eqb, ne_eqb, le-leb}
+use Rattle.std.specs.Prelude.{Result, ⊤, Ok, Err}
 use Rattle.numbers.specs.Pick.{pick}
 use Rattle.command.specs.Rows.{names_fields}
 use Rattle.record.specs.Channels.{on_channel}
 use Rattle.record.specs.Lists.{outgoing}
 use Rattle.cells.specs.Runs.{has}
 use Rattle.cells.specs.Free.{first_from, count_from, lowest}
-use Rattle.cells.specs.declared.Free.{Free}
-use Rattle.cells.specs.declared.Free.TheVariants.{Lowest, Full}
 use Rattle.record.proofs.Keeps.{has-times}
 use Rattle.cells.proofs.Lowest.{lowest_exists, lowest_free, free_and_named}
 use Rattle.peer.specs.Settings.{fit_settings}
 use Rattle.record.specs.Fresh.{no_outgoing}
 use Rattle.record.specs.Damage.{used_out}
 use Rattle.peer.specs.Damage.{sound}
+use Rattle.numbers.specs.declared.refusals.Refusal.{Refusal}
 use Rattle.numbers.specs.declared.refusals.Refusal.TheVariants.{InvalidChannel, FailedToQueue, BadCommand}
 use Rattle.peer.specs.Outcome.{Outcome, finished}
 use Rattle.peer.specs.Gate.{gate_of}
 use Rattle.peer.specs.Sounds.{Whole}
-use Rattle.peer.specs.declared.gate.Gate.TheVariants.{Open, Shut}
 use Rattle.peer.proofs.Gates.{behind_open}
 use Rattle.peer.specs.declared.settings.Settings.{Settings}
 use Rattle.peer.specs.declared.Peer.{Peer}
@@ -51,14 +51,14 @@ module _ (f g : ℕ → Bool) (x : ℕ) (eq : (j : ℕ) → g j ≡ pick (eqb x 
   free_after zero k h = refl
   free_after (suc left) k h = rw (eq k, ne_eqb x k (λ e. omega arith), free_after left (k + 1) (omega arith))
 
-  free_first : (left k : ℕ) → first_from f left k ≡ Lowest x → free_from f left k ≡ x ∷ free_from g left k
+  free_first : (left k : ℕ) → first_from f left k ≡ Some x → free_from f left k ≡ x ∷ free_from g left k
   unfolding free_from first_from
   free_first zero k e = let z : ◌≡◌ {A = ℕ} 0 1 = cc in absurd (omega arith)
   free_first (suc left) k e = go (free_first left (k + 1)) (free_after left (k + 1)) (f k) (g k) refl (eq k) e
     where
-      go : (first_from f left (k + 1) ≡ Lowest x → free_from f left (k + 1) ≡ x ∷ free_from g left (k + 1))
+      go : (first_from f left (k + 1) ≡ Some x → free_from f left (k + 1) ≡ x ∷ free_from g left (k + 1))
           → (x < k + 1 → free_from g left (k + 1) ≡ free_from f left (k + 1))
-          → (a b : Bool) → f k ≡ a → b ≡ pick (eqb x k) true (f k) → pick a (first_from f left (k + 1)) (Lowest k) ≡ Lowest x
+          → (a b : Bool) → f k ≡ a → b ≡ pick (eqb x k) true (f k) → pick a (first_from f left (k + 1)) (Some k) ≡ Some x
           → pick a (free_from f left (k + 1)) (k ∷ free_from f left (k + 1)) ≡ x ∷ pick b (free_from g left (k + 1)) (k ∷ free_from g left (k + 1))
       go rest after true b t u e = rw (u, t, either (eqb x k)) (rest e)
         where
@@ -70,13 +70,13 @@ module _ (f g : ℕ → Bool) (x : ℕ) (eq : (j : ℕ) → g j ≡ pick (eqb x 
           rw (u, eq-eqb x k z, after (omega arith), z)
 
 -- none is answered only where none is left
-pub none_left : (f : ℕ → Bool) (left k : ℕ) → first_from f left k ≡ Full → count_from f left k ≡ 0
+pub none_left : (f : ℕ → Bool) (left k : ℕ) → first_from f left k ≡ None → count_from f left k ≡ 0
 unfolding first_from count_from
 none_left f zero k e = refl
 none_left f (suc left) k e = go (none_left f left (k + 1)) (f k) e
   where
-    go : (first_from f left (k + 1) ≡ Full → count_from f left (k + 1) ≡ 0) → (b : Bool)
-        → pick b (first_from f left (k + 1)) (Lowest k) ≡ Full → pick b 0 1 + count_from f left (k + 1) ≡ 0
+    go : (first_from f left (k + 1) ≡ None → count_from f left (k + 1) ≡ 0) → (b : Bool)
+        → pick b (first_from f left (k + 1)) (Some k) ≡ None → pick b 0 1 + count_from f left (k + 1) ≡ 0
     go rest true e = omega (arith, rest e)
     go rest false e = let z : ◌≡◌ {A = ℕ} 0 1 = cc in absurd (omega arith)
 
@@ -95,13 +95,13 @@ pub frees-room : (p : Peer) → length (frees outgoing (used_out p.lists)) ≡ r
 frees-room p = frees_count (has (used_out p.lists)) outgoing 0
 
 -- one piece
-module _ (x : Piece) (p : Peer) (s : ℕ) (low : lowest outgoing (used_out p.lists) ≡ Lowest s) where
+module _ (x : Piece) (p : Peer) (s : ℕ) (low : lowest outgoing (used_out p.lists) ≡ Some s) where
   abbrev used : List ℕ
   used = used_out p.lists
 
   pub queued_at_lem : queued x p ≡ queued_at s x p
   unfolding queued
-  queued_at_lem = ap (λ (f : Free). queued_in f x p) low
+  queued_at_lem = ap (λ (f : Option ℕ). queued_in f x p) low
 
   pub queued_slots : (queued x p).outgoing ≡ set p.outgoing s (made x p)
   unfolding queued_at
@@ -148,21 +148,21 @@ module _ (x : Piece) (p : Peer) (s : ℕ) (low : lowest outgoing (used_out p.lis
     queued-frees = free_first (has used) (has (used_out (queued x p).lists)) s queued_names outgoing 0 low
 
 -- with none free, nothing is set up
-queued_full : (x : Piece) (p : Peer) → lowest outgoing (used_out p.lists) ≡ Full → queued x p ≡ p
+queued_full : (x : Piece) (p : Peer) → lowest outgoing (used_out p.lists) ≡ None → queued x p ≡ p
 unfolding queued
-queued_full x p e = ap (λ (f : Free). queued_in f x p) e
+queued_full x p e = ap (λ (f : Option ℕ). queued_in f x p) e
 
 -- one step of many: there is a free slot, and the rest can follow
 pub record Stepped (x : Piece) (xs : List Piece) (p : Peer) : Type 0 where
   pub slot : ℕ
-  pub low : lowest outgoing (used_out p.lists) ≡ Lowest slot
+  pub low : lowest outgoing (used_out p.lists) ≡ Some slot
   pub next : Ready xs (queued x p)
 
 pub step : (x : Piece) (xs : List Piece) (p : Peer) → Ready (x ∷ xs) p → Stepped x xs p
 step x xs p r = go (lowest outgoing (used_out p.lists)) refl
   where
-    go : (f : Free) → lowest outgoing (used_out p.lists) ≡ f → Stepped x xs p
-    go (Lowest s) e =
+    go : (f : Option ℕ) → lowest outgoing (used_out p.lists) ≡ f → Stepped x xs p
+    go (Some s) e =
         record {
           slot = s;
           low = e;
@@ -174,13 +174,13 @@ step x xs p r = go (lowest outgoing (used_out p.lists)) refl
                 few = omega (arith, r.few, queued-room x p s e r.good);
               };
         }
-    go Full e = absurd (omega (arith, r.few, none_left (has (used_out p.lists)) outgoing 0 e))
+    go None e = absurd (omega (arith, r.few, none_left (has (used_out p.lists)) outgoing 0 e))
 
 -- many
-pub taken_step : (x : Piece) (xs : List Piece) (p : Peer) (s : ℕ) → lowest outgoing (used_out p.lists) ≡ Lowest s
+pub taken_step : (x : Piece) (xs : List Piece) (p : Peer) (s : ℕ) → lowest outgoing (used_out p.lists) ≡ Some s
     → taken (x ∷ xs) p ≡ s ∷ taken xs (queued x p)
 unfolding taken
-taken_step x xs p s e = ap (λ (f : Free). taken_in f (taken xs (queued x p))) e
+taken_step x xs p s e = ap (λ (f : Option ℕ). taken_in f (taken xs (queued x p))) e
 
 pub taken-frees : (xs : List Piece) (p : Peer) → Ready xs p → taken xs p ≡ take (length xs) (frees outgoing (used_out p.lists))
 unfolding taken
@@ -243,12 +243,12 @@ taken_others [] p i e = refl
 taken_others (x ∷ xs) p i e = go (taken_others xs (queued x p) i) (lowest outgoing (used_out p.lists)) refl e
   where
     go : (has (taken xs (queued x p)) i ≡ false → get_or (queued_all xs (queued x p)).outgoing i no_outgoing ≡ get_or (queued x p).outgoing i no_outgoing)
-        → (f : Free) → lowest outgoing (used_out p.lists) ≡ f → has (taken_in f (taken xs (queued x p))) i ≡ false
+        → (f : Option ℕ) → lowest outgoing (used_out p.lists) ≡ f → has (taken_in f (taken xs (queued x p))) i ≡ false
         → get_or (queued_all xs (queued x p)).outgoing i no_outgoing ≡ get_or p.outgoing i no_outgoing
-    go rest (Lowest s) t e =
+    go rest (Some s) t e =
         rest (has_tail s (taken xs (queued x p)) i e)
         ∙ queued_other x p s t i (λ z. eqb-false s i (has_head s (taken xs (queued x p)) i e) (sym z))
-    go rest Full t e = rest e ∙ ap (λ (q : Peer). get_or q.outgoing i no_outgoing) (queued_full x p t)
+    go rest None t e = rest e ∙ ap (λ (q : Peer). get_or q.outgoing i no_outgoing) (queued_full x p t)
 
 -- a slot that a list names is not taken
 taken_free : (xs : List Piece) (p : Peer) (k : ℕ) → Ready xs p → has (used_out p.lists) k ≡ true → has (taken xs p) k ≡ false
@@ -260,7 +260,7 @@ taken_free (x ∷ xs) p k r e =
     ap (λ (l : List ℕ). has l k) (taken_step x xs p s t.low)
     ∙ go s t.low (taken_free xs (queued x p) k t.next) (eqb s k) refl
   where
-    go : (s : ℕ) → lowest outgoing (used_out p.lists) ≡ Lowest s
+    go : (s : ℕ) → lowest outgoing (used_out p.lists) ≡ Some s
         → (has (used_out (queued x p).lists) k ≡ true → has (taken xs (queued x p)) k ≡ false)
         → (b : Bool) → eqb s k ≡ b → pick b true (has (taken xs (queued x p)) k) ≡ false
     go s low rest true t =
@@ -287,7 +287,7 @@ taken-filled (x ∷ xs) p (suc i) r h =
 
 -- the public setup, where nothing refuses it
 gate_past : (a b c : Bool) → a ≡ true → b ≡ true → c ≡ true
-    → pick a (pick b (pick c Open (Shut BadCommand)) (Shut FailedToQueue)) (Shut InvalidChannel) ≡ Open
+    → pick {A = Result ⊤ Refusal} a (pick b (pick c (Ok tt) (Err BadCommand)) (Err FailedToQueue)) (Err InvalidChannel) ≡ Ok tt
 gate_past a b c p q r = rw (p, q, r)
 
 module _ (s : Settings) (fit : fit_settings s ≡ true) where

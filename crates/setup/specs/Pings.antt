@@ -1,6 +1,7 @@
 -- "Ping queues command 5 with the acknowledge flag, channel 255, no packet."
-use Rattle.std.specs.Prelude.{ℕ, ◌+◌, false, leb}
+use Rattle.std.specs.Prelude.{ℕ, ◌+◌, false, leb, ⊤, Result, Ok, Err}
 use Rattle.numbers.specs.Pick.{pick}
+use Rattle.numbers.specs.declared.refusals.Refusal.{Refusal}
 use Rattle.numbers.specs.declared.refusals.Refusal.TheVariants.{NotConnected, FailedToQueue}
 use Rattle.command.specs.declared.fields.Fields.TheVariants.{Ping}
 use Rattle.record.specs.Sizes.{itself}
@@ -10,8 +11,6 @@ use Rattle.peer.specs.Outcome.{Outcome, finished}
 use Rattle.peer.specs.Gate.{behind, on_record}
 use Rattle.peer.specs.declared.settings.Settings.{Settings}
 use Rattle.peer.specs.declared.Peer.{Peer}
-use Rattle.peer.specs.declared.gate.Gate.{Gate}
-use Rattle.peer.specs.declared.gate.Gate.TheVariants.{Open, Shut}
 use Rattle.outbox.specs.declared.pieces.Piece.{Piece}
 use Rattle.setup.specs.Queueing.{room, queued}
 
@@ -25,8 +24,8 @@ ping_piece =
     }
 
 -- the table's order downward: 1, 5
-abbrev pub ping_gate : Standing → ℕ → Gate
-ping_gate standing free = pick (is_connected standing) (pick (leb 1 free) Open (Shut FailedToQueue)) (Shut NotConnected)
+abbrev pub ping_gate : Standing → ℕ → Result ⊤ Refusal
+ping_gate standing free = pick (is_connected standing) (pick (leb 1 free) (Ok tt) (Err FailedToQueue)) (Err NotConnected)
 
 abbrev pub pings_sound : Peer → Outcome Peer
 pings_sound p = behind (ping_gate p.standing (room p)) p (finished (queued ping_piece p))

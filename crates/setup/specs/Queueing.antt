@@ -1,10 +1,8 @@
 -- "Setting up follows the source": what a piece changes in the record, and pieces one after another.
-use Rattle.std.specs.Prelude.{ℕ, List, [], ◌∷◌, set}
+use Rattle.std.specs.Prelude.{ℕ, List, [], ◌∷◌, set, None, Option, Some}
 use Rattle.numbers.specs.Modulo.{sum}
 use Rattle.record.specs.Lists.{outgoing}
 use Rattle.cells.specs.Free.{lowest}
-use Rattle.cells.specs.declared.Free.{Free}
-use Rattle.cells.specs.declared.Free.TheVariants.{Lowest, Full}
 use Rattle.record.specs.Damage.{used_out}
 use Rattle.record.specs.Updates.{with_outgoing_total, with_reliable, with_outgoing_group, with_queued}
 use Rattle.record.specs.declared.groups.Outgoing.{Outgoing}
@@ -51,9 +49,9 @@ queued_at s x p =
     (set p.outgoing s (made x p))
 
 -- "the lowest free one is taken"; with none free, nothing is set up
-abbrev pub queued_in : Free → Piece → Peer → Peer
-queued_in (Lowest s) x p = queued_at s x p
-queued_in Full x p = p
+abbrev pub queued_in : Option ℕ → Piece → Peer → Peer
+queued_in (Some s) x p = queued_at s x p
+queued_in None x p = p
 
 unfoldable pub queued : Piece → Peer → Peer
 queued x p = queued_in (lowest outgoing (used_out p.lists)) x p

@@ -1,13 +1,11 @@
 -- The slots that setting up takes: the free ones of a pool in rising order, one for each piece in turn, and what each setup made.
-use Rattle.std.specs.Prelude.{ℕ, zero, suc, ◌+◌, ◌≤◌, ◌≡◌, Bool, true, List, [], ◌∷◌, length}
+use Rattle.std.specs.Prelude.{ℕ, zero, suc, ◌+◌, ◌≤◌, ◌≡◌, Bool, true, List, [], ◌∷◌, length, None, Option, Some}
 use Rattle.numbers.specs.Pick.{pick, both}
 use Rattle.command.specs.Rows.{names_fields}
 use Rattle.record.specs.Channels.{on_channel}
 use Rattle.record.specs.Lists.{outgoing}
 use Rattle.cells.specs.Runs.{has}
 use Rattle.cells.specs.Free.{lowest}
-use Rattle.cells.specs.declared.Free.{Free}
-use Rattle.cells.specs.declared.Free.TheVariants.{Lowest, Full}
 use Rattle.record.specs.Damage.{used_out}
 use Rattle.peer.specs.Damage.{sound}
 use Rattle.peer.specs.Sounds.{Whole}
@@ -28,9 +26,9 @@ abbrev pub frees : ℕ → List ℕ → List ℕ
 frees n xs = free_from (has xs) n 0
 
 -- the slots taken by pieces that are set up one after another
-abbrev pub taken_in : Free → List ℕ → List ℕ
-taken_in (Lowest s) rest = s ∷ rest
-taken_in Full rest = rest
+abbrev pub taken_in : Option ℕ → List ℕ → List ℕ
+taken_in (Some s) rest = s ∷ rest
+taken_in None rest = rest
 
 unfoldable pub taken : List Piece → Peer → List ℕ
 taken [] p = []

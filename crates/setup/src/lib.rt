@@ -14,49 +14,42 @@ use numbers::counters::Reliable;
 use numbers::refusals::Refusal;
 use outbox::pieces::Piece;
 use peer::Peer;
-use peer::calls::Reply;
-use peer::gate::{Gate, Lent};
+use peer::gate::Lent;
 use peer::settings::Settings;
 use places::{RECORD, groups};
 use record::OUTGOING;
 use record::channels::on_channel;
 use record::groups::{ITSELF, Standing};
 
-pub(crate) fn setup_gate(x: Piece, count: u32, free: usize) -> Gate
+pub(crate) fn setup_gate(x: Piece, count: u32, free: usize) -> Result<(), Refusal>
     ensures { result ≡ setup_gate x count free }
 {
     let c = x.command;
     if !on_channel(c.channel, count) {
-        return Gate::Shut(Refusal::InvalidChannel);
+        return Err(Refusal::InvalidChannel);
     }
     if free < 1 {
-        return Gate::Shut(Refusal::FailedToQueue);
+        return Err(Refusal::FailedToQueue);
     }
     if !rows::names_fields(c) {
-        return Gate::Shut(Refusal::BadCommand);
+        return Err(Refusal::BadCommand);
     }
-    Gate::Open
+    Ok(())
 }
 
 // Refused by 11, 13, 2, 5 and 9, in this order.
-pub fn setup(words: &mut [u32; RECORD], settings: Settings, x: Piece) -> Reply
+pub fn setup(words: &mut [u32; RECORD], settings: Settings, x: Piece) -> Result<(), Refusal>
     ensures { Came answer_of (sets_up settings x (whole words.old)) result (whole words.new) }
 {
-    let gate = gate::ask(words, settings, Lent::Nothing);
-    if let Gate::Shut(why) = gate {
-        return Reply::Refused(why);
-    }
+    gate::ask(words, settings, Lent::Nothing)?;
     let c = x.command;
     let standing = groups::standing(words);
-    let may = setup_gate(x, standing.channels, outbox::room_in(words));
-    if let Gate::Shut(why) = may {
-        return Reply::Refused(why);
-    }
+    setup_gate(x, standing.channels, outbox::room_in(words))?;
     let mut marks = [0u8; OUTGOING];
     let o = outbox::open(words, c.channel, &mut marks);
     let after = outbox::queue(words, &mut marks, o, x);
     outbox::close(words, c.channel, after);
-    Reply::Done
+    Ok(())
 }
 
 // Command 5 with the acknowledge flag, channel 255, no packet.
@@ -72,33 +65,27 @@ pub(crate) const PING: Piece = Piece {
     length: 0,
 };
 
-pub(crate) fn ping_gate(standing: Standing, free: usize) -> Gate
+pub(crate) fn ping_gate(standing: Standing, free: usize) -> Result<(), Refusal>
     ensures { result ≡ ping_gate standing free }
 {
     if standing.state != Peer::CONNECTED {
-        return Gate::Shut(Refusal::NotConnected);
+        return Err(Refusal::NotConnected);
     }
     if free < 1 {
-        return Gate::Shut(Refusal::FailedToQueue);
+        return Err(Refusal::FailedToQueue);
     }
-    Gate::Open
+    Ok(())
 }
 
 // Refused by 11, 13, 1 and 5, in this order.
-pub fn ping(words: &mut [u32; RECORD], settings: Settings) -> Reply
+pub fn ping(words: &mut [u32; RECORD], settings: Settings) -> Result<(), Refusal>
     ensures { Came answer_of (pings settings (whole words.old)) result (whole words.new) }
 {
-    let gate = gate::ask(words, settings, Lent::Nothing);
-    if let Gate::Shut(why) = gate {
-        return Reply::Refused(why);
-    }
-    let may = ping_gate(groups::standing(words), outbox::room_in(words));
-    if let Gate::Shut(why) = may {
-        return Reply::Refused(why);
-    }
+    gate::ask(words, settings, Lent::Nothing)?;
+    ping_gate(groups::standing(words), outbox::room_in(words))?;
     let mut marks = [0u8; OUTGOING];
     let o = outbox::open(words, ITSELF, &mut marks);
     let after = outbox::queue(words, &mut marks, o, PING);
     outbox::close(words, ITSELF, after);
-    Reply::Done
+    Ok(())
 }

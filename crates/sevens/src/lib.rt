@@ -1,15 +1,15 @@
 // C-12: a number in groups of seven bits, low group first; a group below 128 is the last.
 #![tactic(auto)]
 
-ghost use Rattle.std.specs.Prelude.{◌≡◌, ◌+◌, ◌^◌, ◌≤◌, ◌<◌, length, drop};
+ghost use Rattle.std.specs.Prelude.{◌≡◌, ◌+◌, ◌^◌, ◌≤◌, ◌<◌, length, drop, Some};
 ghost use Rattle.std.proofs.lemmas.List.Edits.{sets};
-ghost use Rattle.sevens.specs.Groups.{written, below, number_in, read, value_of, groups_of};
+ghost use Rattle.sevens.specs.Groups.{written, below, number_in, read};
 
-// A number and in how many groups it was read; or the bytes are short, or its form is over-long.
+// A number, and in how many groups it was read.
 #[derive(Clone, Copy)]
-pub enum Grouped {
-    Number { value: u64, groups: usize },
-    Unread,
+pub struct Grouped {
+    pub value: u64,
+    pub groups: usize,
 }
 
 // The most groups that a number has.
@@ -21,49 +21,44 @@ fn wide(x: u8) -> u64
     x as u64
 }
 
-// A group with what the rest gives.
-fn joined(b: u64, rest: Grouped) -> Grouped
-    requires { (128 ≤ b) × (b < 256) × (value_of rest < 2 ^ 28) × (groups_of rest ≤ 4) }
-    ensures { result ≡ below b rest }
+// A group with what the rest gives; none where that is 0, for the form is over-long.
+fn joined(b: u64, rest: Grouped) -> Option<Grouped>
+    requires { (128 ≤ b) × (b < 256) × (rest.value < 2 ^ 28) × (rest.groups ≤ 4) }
+    ensures { result ≡ below b (Some rest) }
 {
-    match rest {
-        Grouped::Number { value, groups } => {
-            if value == 0 {
-                return Grouped::Unread;
-            }
-            Grouped::Number {
-                value: b - 128 + 128 * value,
-                groups: groups + 1,
-            }
-        }
-        Grouped::Unread => Grouped::Unread,
+    if rest.value == 0 {
+        return None;
     }
+    Some(Grouped {
+        value: b - 128 + 128 * rest.value,
+        groups: rest.groups + 1,
+    })
 }
 
-// What stands at a place, in at most so many groups: the first, and what the rest gives.
-fn number(bytes: &[u8], at: usize, left: u32) -> Grouped
+// What stands at a place, in at most so many groups: the first, and what the rest gives; none where the bytes are short.
+fn number(bytes: &[u8], at: usize, left: u32) -> Option<Grouped>
     requires { left ≤ 5 }
     ensures { result ≡ number_in left (drop at bytes.now) }
 {
     if left == 0 {
-        return Grouped::Unread;
+        return None;
     }
     if bytes.len() <= at {
-        return Grouped::Unread;
+        return None;
     }
     let b = wide(bytes[at]);
     if b < 128 {
-        return Grouped::Number {
+        return Some(Grouped {
             value: b,
             groups: 1,
-        };
+        });
     }
-    let rest = number(bytes, at + 1, left - 1);
+    let rest = number(bytes, at + 1, left - 1)?;
     joined(b, rest)
 }
 
 // The number that stands at a place.
-pub fn read(bytes: &[u8], at: usize) -> Grouped
+pub fn read(bytes: &[u8], at: usize) -> Option<Grouped>
     ensures { result ≡ read (drop at bytes.now) }
 {
     number(bytes, at, GROUPS)

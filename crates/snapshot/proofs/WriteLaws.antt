@@ -1,5 +1,6 @@
 -- What `put` and `write` lean on: a snapshot is its edition's byte, its numbers and its stored bytes, one behind the other; how long it is; and the call by its cases.
 -- The argument: the edition is one group; bytes that are set one behind the other are set together; the gate is open only for stores of their lengths.
+use Rattle.std.specs.Prelude.{Ok, Err}
 use Prim.Native.Nat.{ℕ, ◌+◌, ◌≤◌, ◌<◌}
 use mathlib.Core.Path.{◌≡◌, refl, ap, sym, ◌∙◌}
 use mathlib.Core.Bool.{Bool, true, false}
@@ -8,9 +9,8 @@ use native.Mathlib.Omega.{arith}
 use lib.Dec.{eqb}
 use lib.ListN.{length, length-append}
 use lib.Seq.{sets}
-use borrow.Author.Tests.{eqb-true, eq-eqb, ne_eqb, le-leb, lt-leb}
+use borrow.Author.Tests.{eqb-true, eq-eqb, le-leb, lt-leb}
 use Rattle.numbers.specs.Pick.{pick}
-use Rattle.numbers.specs.declared.refusals.Refusal.{Refusal}
 use Rattle.numbers.specs.declared.refusals.Refusal.TheVariants.{NoRoom, Unreadable}
 use Rattle.numbers.proofs.BoolLaws.{both_left, both_right}
 use Rattle.command.proofs.ByteLaws.{sets_append}
@@ -20,8 +20,7 @@ use Rattle.peer.specs.Gate.{fits, gate_of}
 use Rattle.peer.specs.Settings.{fit_settings}
 use Rattle.peer.specs.Outcome.{State, Outcome, Came, unchanged}
 use Rattle.peer.specs.declared.settings.Settings.{Settings}
-use Rattle.peer.specs.declared.gate.Gate.TheVariants.{Open, Shut}
-use Rattle.peer.proofs.Gates.{AtGate, came_shut, came_open, openness}
+use Rattle.peer.proofs.Gates.{AtGate, came_open, openness}
 use Rattle.places.specs.Whole.{whole}
 use Rattle.places.proofs.Sized.{sized}
 use Rattle.order.specs.Table.{table, row_of, used_incoming}
@@ -31,7 +30,6 @@ use Rattle.snapshot_parts.specs.Stored.{stored_total, stored_from}
 use Rattle.snapshot_parts.proofs.RowLaws.{row_few}
 use Rattle.snapshot_parts.proofs.StoredLaws.{stored_length_lem, total_few}
 use Rattle.snapshot.specs.Calls.{snapshot_of, lent_both, written_into, writes_snapshot, answer_of}
-use Rattle.snapshot.specs.declared.Written.TheVariants as vr
 
 -- ---- the bytes
 -- the edition is one group
@@ -68,6 +66,10 @@ module _ (x : State) where
       ∙ ap (λ (n : ℕ). n + length bytes) head_length
       ∙ ap (λ (n : ℕ). 1 + length numbers + n) (stored_length_lem x.store x.second s t (used_incoming x.peer) 0 x.peer.incoming (omega arith))
 
+  -- where it fits, its parts do
+  pub parts_fit : length x.peer.incoming ≡ 12 → length x.store ≡ 49152 → length x.second ≡ 32768 → (n : ℕ) → length (snapshot_of x) ≤ n → 1 + length numbers + total ≤ n
+  parts_fit l s t n h = omega (arith, h, snapshot_length l s t)
+
   -- set one behind the other
   pub put_is : (b b₁ b₂ b₃ : List ℕ) (end : ℕ) → b₁ ≡ sets b 0 (written 1) → b₂ ≡ sets b₁ 1 numbers → end ≡ 1 + length numbers → b₃ ≡ sets b₂ end bytes
       → b₃ ≡ sets b 0 (snapshot_of x)
@@ -100,7 +102,7 @@ lengths_fit s x f =
       eqb-true (length x.second) 32768 (both_right (eqb (length x.store) 49152) _ both_are),
     )
 
-fit_open : (f w : Bool) → gate_of f w ≡ Open → f ≡ true
+fit_open : (f w : Bool) → gate_of f w ≡ Ok tt → f ≡ true
 fit_open true w e = refl
 fit_open false w e = absurd (omega (arith, ap openness e))
 
@@ -109,17 +111,9 @@ module _ (s : Settings) (e : ℕ) (x : State) (b : List ℕ) (g : AtGate s (lent
   abbrev behind_gate : Outcome (List ℕ)
   behind_gate = pick (eqb e 1) (written_into (snapshot_of x) b) (unchanged Unreadable b)
 
-  pub write_shut : (why : Refusal) → g.gate ≡ Shut why → Came answer_of (writes_snapshot s e x b) (vr.Refused why) b
-  write_shut why q = came_shut g b behind_gate answer_of (vr.Refused why) why refl q
-
-  module _ (o : g.gate ≡ Open) where
-    pub stores_fit : (length x.store ≡ 49152) × (length x.second ≡ 32768)
+  module _ (o : g.gate ≡ Ok tt) where
+    stores_fit : (length x.store ≡ 49152) × (length x.second ≡ 32768)
     stores_fit = lengths_fit s x (fit_open (fits s (lent_both x)) (sound x.peer) (sym g.is ∙ o))
-
-    pub write_unknown : (e ≡ 1 → ⊥) → Came answer_of (writes_snapshot s e x b) (vr.Refused Unreadable) b
-    write_unknown n =
-        came_open g b behind_gate answer_of (vr.Refused Unreadable) b o
-        (rw (ne_eqb e 1 n) (record { answer = refl; after = refl }))
 
     module _ (is : e ≡ 1) (l : length x.peer.incoming ≡ 12) (n : ℕ) (size : n ≡ 1 + length (numbers x) + total x) where
       long : n ≡ length (snapshot_of x)
@@ -128,12 +122,12 @@ module _ (s : Settings) (e : ℕ) (x : State) (b : List ℕ) (g : AtGate s (lent
       pub write_room : n ≤ length b → length (snapshot_of x) ≤ length b
       write_room h = omega (arith, long)
 
-      pub write_none : length b < n → Came answer_of (writes_snapshot s e x b) (vr.Refused NoRoom) b
+      pub write_none : length b < n → Came answer_of (writes_snapshot s e x b) (Err NoRoom) b
       write_none h =
-          came_open g b behind_gate answer_of (vr.Refused NoRoom) b o
+          came_open g b behind_gate answer_of (Err NoRoom) b o
           (rw (eq-eqb e 1 is, lt-leb (length (snapshot_of x)) (length b) (omega (arith, long))) (record { answer = refl; after = refl }))
 
-      pub write_done : n ≤ length b → (c : List ℕ) → c ≡ sets b 0 (snapshot_of x) → Came answer_of (writes_snapshot s e x b) (vr.Done n) c
+      pub write_done : n ≤ length b → (c : List ℕ) → c ≡ sets b 0 (snapshot_of x) → Came answer_of (writes_snapshot s e x b) (Ok n) c
       write_done h c q =
-          came_open g b behind_gate answer_of (vr.Done n) c o
-          (rw (eq-eqb e 1 is, le-leb (length (snapshot_of x)) (length b) (write_room h)) (record { answer = ap (λ (k : ℕ). answer_of (vr.Done k)) long; after = q }))
+          came_open g b behind_gate answer_of (Ok n) c o
+          (rw (eq-eqb e 1 is, le-leb (length (snapshot_of x)) (length b) (write_room h)) (record { answer = ap (λ (k : ℕ). answer_of (Ok k)) long; after = q }))

@@ -1,12 +1,12 @@
 -- C-12: a snapshot of the record and its stores, written and restored.
-use Rattle.std.specs.Prelude.{ℕ, List, [], ◌∷◌, ◌++◌, leb, eqb, length, drop, replicate}
+use Rattle.std.specs.Prelude.{ℕ, List, [], ◌∷◌, ◌++◌, leb, eqb, length, drop, replicate, Option, Some, None, Result, Ok, Err}
 use Rattle.std.proofs.lemmas.List.Edits.{sets}
 use Rattle.numbers.specs.Pick.{pick}
 use Rattle.numbers.specs.Answers.{Answer, done, refused}
+use Rattle.numbers.specs.declared.refusals.Refusal.{Refusal}
 use Rattle.numbers.specs.declared.refusals.Refusal.TheVariants.{OutOfRange, NoRoom, Damaged, Unreadable}
 use Rattle.sevens.specs.Groups.{read}
 use Rattle.sevens.specs.declared.Grouped.{Grouped}
-use Rattle.sevens.specs.declared.Grouped.TheVariants.{Number, Unread}
 use Rattle.record.specs.Sizes.{store_length, second_length}
 use Rattle.peer.specs.Damage.{sound}
 use Rattle.peer.specs.Gate.{fits, gated}
@@ -18,8 +18,6 @@ use Rattle.places.specs.Whole.{whole, record_length}
 use Rattle.order.specs.Table.{row_of, used_incoming}
 use Rattle.snapshot_parts.specs.Row.{grouped, Parsed, parsed, unread, numbers_from}
 use Rattle.snapshot_parts.specs.Stored.{stored_total, stored_from, stores, laid_from}
-use Rattle.snapshot.specs.declared.Written.{Written}
-use Rattle.snapshot.specs.declared.Written.TheVariants as vr
 
 -- "First the edition number 1"
 abbrev pub edition : ℕ
@@ -47,9 +45,9 @@ writes_snapshot s e x buffer =
     gated s (lent_both x) x.peer buffer
     (pick (eqb e edition) (written_into (snapshot_of x) buffer) (unchanged Unreadable buffer))
 
-abbrev pub answer_of : Written → Answer
-answer_of (vr.Done length) = done (length ∷ [])
-answer_of (vr.Refused why) = refused why
+abbrev pub answer_of : Result ℕ Refusal → Answer
+answer_of (Ok length) = done (length ∷ [])
+answer_of (Err why) = refused why
 
 -- ---- restoring: "settings and both stores (11), then 15, then 13"
 
@@ -60,10 +58,10 @@ complete (parsed ws bs) =
 complete unread = unread
 
 -- "or unknown edition"; "what is not written is as made new"
-abbrev pub with_edition : List ℕ → Grouped → Parsed
-with_edition bs (Number e k) =
-    pick (eqb e edition) (complete (numbers_from record_length 0 (replicate record_length 0) (drop k bs))) unread
-with_edition bs Unread = unread
+abbrev pub with_edition : List ℕ → Option Grouped → Parsed
+with_edition bs (Some g) =
+    pick (eqb g.value edition) (complete (numbers_from record_length 0 (replicate record_length 0) (drop g.groups bs))) unread
+with_edition bs None = unread
 
 -- the numbers of a snapshot and its stored bytes; or it cannot be read
 unfoldable pub read_snapshot : List ℕ → Parsed

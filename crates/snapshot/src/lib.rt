@@ -1,7 +1,7 @@
 // C-12, a snapshot for the bench: the record and its stores written into a buffer, and restored from bytes.
 #![tactic(auto)]
 
-ghost use Rattle.std.specs.Prelude.{◌≡◌, ◌+◌, ◌≤◌, length, drop, replicate};
+ghost use Rattle.std.specs.Prelude.{◌≡◌, ◌+◌, ◌≤◌, length, drop, replicate, IfSome};
 ghost use Rattle.peer.specs.Outcome.{Came};
 ghost use Rattle.peer.specs.Calls as plain;
 ghost use Rattle.std.proofs.lemmas.List.Edits.{sets};
@@ -10,33 +10,21 @@ ghost use Rattle.places.specs.Whole.{whole, record_length};
 ghost use Rattle.order.specs.Table.{used_incoming};
 ghost use Rattle.sevens.specs.Groups.{read};
 ghost use Rattle.snapshot_parts.specs.Row.{result_of};
-ghost use Rattle.snapshot_parts.specs.CodeRow.{end_of};
 ghost use Rattle.snapshot_parts.specs.Stored.{stored_total};
 ghost use Rattle.snapshot.specs.CodeEdition.{begun};
 ghost use Rattle.snapshot.specs.Calls.{answer_of, snapshot_of, writes_snapshot, read_snapshot, state_from, restores};
 
 use numbers::refusals::Refusal;
-use peer::calls::Reply;
-use peer::gate::{Gate, Lent};
+use peer::gate::Lent;
 use peer::settings::Settings;
 use places::RECORD;
-use sevens::Grouped;
-use snapshot_parts::row::Parsing;
 use snapshot_parts::{row, stored};
 
 // "the edition number 1"
 const EDITION: u32 = 1;
 
-// How many bytes were written.
-#[derive(Clone, Copy)]
-pub enum Written {
-    Done { length: usize },
-    Refused(Refusal),
-}
-
 // Edition, numbers, stored bytes.
-fn put(words: &[u32], store: &[u8], second: &[u8], buffer: &mut [u8])
-    requires words_len { length words.now ≡ record_length }
+fn put(words: &[u32; RECORD], store: &[u8], second: &[u8], buffer: &mut [u8])
     requires store_len { (length store.now ≡ store_length) × (length second.now ≡ second_length) }
     requires second_in_bounds { length (snapshot_of (record { peer = whole words.now; store = store.now; second = second.now })) ≤ length buffer.old }
     ensures { buffer.new ≡ sets buffer.old 0 (snapshot_of (record { peer = whole words.now; store = store.now; second = second.now })) }
@@ -46,7 +34,7 @@ fn put(words: &[u32], store: &[u8], second: &[u8], buffer: &mut [u8])
     stored::put(words, store, second, buffer, end);
 }
 
-// Refused by 11, 13, 15 and 12, in this order. Record and stores stay as they are; only a snapshot that is written changes the buffer, its first bytes.
+// How many bytes were written. Refused by 11, 13, 15 and 12, in this order. Record and stores stay as they are; only a snapshot that is written changes the buffer, its first bytes.
 pub fn write(
     words: &[u32; RECORD],
     settings: Settings,
@@ -54,75 +42,60 @@ pub fn write(
     store: &[u8],
     second: &[u8],
     buffer: &mut [u8],
-) -> Written
+) -> Result<usize, Refusal>
     ensures { Came answer_of (writes_snapshot settings edition (record { peer = whole words.now; store = store.now; second = second.now }) buffer.old) result buffer.new }
 {
     let lent = Lent::Both {
         store: store.len(),
         second: second.len(),
     };
-    let gate = gate::ask(words, settings, lent);
-    if let Gate::Shut(why) = gate {
-        return Written::Refused(why);
-    }
+    gate::ask(words, settings, lent)?;
     if edition != EDITION {
-        return Written::Refused(Refusal::Unreadable);
+        return Err(Refusal::Unreadable);
     }
     let length = 1 + row::size(words) + stored::size(words);
     if buffer.len() < length {
-        return Written::Refused(Refusal::NoRoom);
+        return Err(Refusal::NoRoom);
     }
     put(words, store, second, buffer);
-    Written::Done { length }
+    Ok(length)
 }
 
 // Where the edition ends, if it is there.
-fn begin(bytes: &[u8]) -> Parsing
+fn begin(bytes: &[u8]) -> Option<usize>
     ensures edition { result ≡ begun (read bytes.now) }
-    ensures inside { end_of result ≤ length bytes.now }
+    ensures inside { IfSome result (λ end. end ≤ length bytes.now) }
 {
-    match sevens::read(bytes, 0) {
-        Grouped::Number { value, groups } => {
-            if value != EDITION as u64 {
-                return Parsing::Unread;
-            }
-            Parsing::Read { end: groups }
-        }
-        Grouped::Unread => Parsing::Unread,
+    let number = sevens::read(bytes, 0)?;
+    if number.value != EDITION as u64 {
+        return None;
     }
+    Some(number.groups)
 }
 
-// The numbers of a snapshot, into zeros; where its stored bytes begin.
-fn parse(bytes: &[u8], words: &mut [u32]) -> Parsing
-    requires words_len { length words.old ≡ record_length }
-    requires words_value { words.old ≡ replicate record_length 0 }
+// The numbers of a snapshot, into zeros; where its stored bytes begin, if it can be read.
+fn parse(bytes: &[u8], words: &mut [u32; RECORD]) -> Option<usize>
+    requires { words.old ≡ replicate record_length 0 }
     ensures snapshot { result_of result words.new bytes.now ≡ read_snapshot bytes.now }
-    ensures inside { end_of result ≤ length bytes.now }
+    ensures inside { IfSome result (λ end. end ≤ length bytes.now) }
 {
-    let at = match begin(bytes) {
-        Parsing::Read { end } => end,
-        Parsing::Unread => return Parsing::Unread,
-    };
-    let end = match row::read(bytes, at, words) {
-        Parsing::Read { end } => end,
-        Parsing::Unread => return Parsing::Unread,
-    };
+    let at = begin(bytes)?;
+    let end = row::read(bytes, at, words)?;
     if bytes.len() - end != stored::size(words) {
-        return Parsing::Unread;
+        return None;
     }
-    Parsing::Read { end }
+    Some(end)
 }
 
 // The record becomes the one of these numbers, and both stores hold its stored bytes and 0 elsewhere.
 fn replace(
-    words: &mut [u32],
-    fresh: &[u32],
+    words: &mut [u32; RECORD],
+    fresh: &[u32; RECORD],
     store: &mut [u8],
     second: &mut [u8],
     bytes: &[u8],
     at: usize,
 )
-    requires words_len { (length words.old ≡ record_length) × (length fresh.now ≡ record_length) }
     requires store_len { (length store.old ≡ store_length) × (length second.old ≡ second_length) }
     requires fresh_in_bounds { at + stored_total (used_incoming (whole fresh.now)) 0 (whole fresh.now).incoming ≤ length bytes.now }
     ensures { record { peer = whole words.new; store = store.new; second = second.new } ≡ state_from fresh.now (drop at bytes.now) }
@@ -130,7 +103,7 @@ fn replace(
     pool::clear(store);
     pool::clear(second);
     stored::lay(fresh, bytes, at, store, second);
-    pool::copy(words, 0, fresh, 0, RECORD);
+    *words = *fresh;
 }
 
 // Refused by 11, 15 and 13, in this order; needs no sound record. The numbers read stand in a record of the call's own until it is seen to be sound.
@@ -140,7 +113,7 @@ pub fn restore(
     store: &mut [u8],
     second: &mut [u8],
     bytes: &[u8],
-) -> Reply
+) -> Result<(), Refusal>
     ensures { Came plain.answer_of (restores settings bytes.now (record { peer = whole words.old; store = store.old; second = second.old })) result (record { peer = whole words.new; store = store.new; second = second.new }) }
 {
     let lent = Lent::Both {
@@ -148,16 +121,13 @@ pub fn restore(
         second: second.len(),
     };
     if !gate::is_fit(settings, lent) {
-        return Reply::Refused(Refusal::OutOfRange);
+        return Err(Refusal::OutOfRange);
     }
     let mut fresh = [0u32; RECORD];
-    let end = match parse(bytes, &mut fresh) {
-        Parsing::Read { end } => end,
-        Parsing::Unread => return Reply::Refused(Refusal::Unreadable),
-    };
+    let end = parse(bytes, &mut fresh).ok_or(Refusal::Unreadable)?;
     if !gate::sound(&fresh) {
-        return Reply::Refused(Refusal::Damaged);
+        return Err(Refusal::Damaged);
     }
     replace(words, &fresh, store, second, bytes, end);
-    Reply::Done
+    Ok(())
 }

@@ -9,10 +9,10 @@ use native.Mathlib.Omega.{arith}
 use lib.ListN.{length, get_or, drop, replicate, take-append-drop, length-replicate}
 use lib.Seq.{get_or-drop}
 use Rattle.numbers.specs.Pick.{pick}
-use Rattle.sevens.specs.Groups.{written, read}
+use Rattle.std.specs.Prelude.{Option, Some, None}
+use Rattle.sevens.specs.Groups.{written, read, grouped as read_as}
 use Rattle.sevens.specs.Form.{Form}
 use Rattle.sevens.specs.declared.Grouped.{Grouped}
-use Rattle.sevens.specs.declared.Grouped.TheVariants.{Number, Unread}
 use Rattle.sevens.proofs.GroupLaws.{written_read}
 use Rattle.places.specs.Whole.{whole}
 use Rattle.order.specs.Table.{table, row_of}
@@ -99,7 +99,7 @@ module _ (ws rest : List ℕ) where
         (ap (λ (g : List ℕ). g ++ bs) (sym (part_none e w)))
 
     module _ (w : e.is_written ≡ true) where
-      told_put : (x j : ℕ) → read bs ≡ Number x j → fits e x ≡ true → next (put_at e i x vs) (drop j bs) ≡ parsed ws rest → Told ws rest vs bs i
+      told_put : (x j : ℕ) → read bs ≡ read_as x j → fits e x ≡ true → next (put_at e i x vs) (drop j bs) ≡ parsed ws rest → Told ws rest vs bs i
       told_put x j is f r =
           let form : Form 5 bs x j = written_read 5 bs x j all is in
           let us = put_at e i x vs in
@@ -110,13 +110,13 @@ module _ (ws rest : List ℕ) where
           (sym (take-append-drop j bs)
           ∙ ap (λ (g : List ℕ). g ++ drop j bs) (form.begins ∙ sym (part_of_lem (entry_at us i) x (put_written vs l i h w x k) (put_number vs l i h w x k f))))
 
-      told_fit : (x j : ℕ) → read bs ≡ Number x j → (t : Bool) → fits e x ≡ t → pick t (next (put_at e i x vs) (drop j bs)) unread ≡ parsed ws rest → Told ws rest vs bs i
+      told_fit : (x j : ℕ) → read bs ≡ read_as x j → (t : Bool) → fits e x ≡ t → pick t (next (put_at e i x vs) (drop j bs)) unread ≡ parsed ws rest → Told ws rest vs bs i
       told_fit x j is true f r = told_put x j is f r
       told_fit x j is false f r = absurd (let u : ◌≡◌ {A = ℕ} 0 1 = cc in omega arith)
 
-      told_number : (g : Grouped) → read bs ≡ g → with_number e i vs bs g next ≡ parsed ws rest → Told ws rest vs bs i
-      told_number (Number x j) is r = told_fit x j is (fits e x) refl r
-      told_number Unread is r = absurd (let u : ◌≡◌ {A = ℕ} 0 1 = cc in omega arith)
+      told_number : (g : Option Grouped) → read bs ≡ g → with_number e i vs bs g next ≡ parsed ws rest → Told ws rest vs bs i
+      told_number (Some g) is r = told_fit g.value g.groups is (fits e g.value) refl r
+      told_number None is r = absurd (let u : ◌≡◌ {A = ℕ} 0 1 = cc in omega arith)
 
     told_turn : (t : Bool) → e.is_written ≡ t → pick t (with_number e i vs bs (read bs) next) (next vs bs) ≡ parsed ws rest → Told ws rest vs bs i
     told_turn true w r = told_number w (read bs) refl r

@@ -11,9 +11,9 @@ use lib.Seq.{drop-drop}
 use borrow.Author.Tests.{leb-true, ltb-true, ltb-false}
 use Rattle.numbers.specs.Pick.{pick}
 use Rattle.numbers.proofs.BoolLaws.{both_left}
+use Rattle.std.specs.Prelude.{Option, Some, None}
 use Rattle.sevens.specs.Groups.{read, groups_of}
 use Rattle.sevens.specs.declared.Grouped.{Grouped}
-use Rattle.sevens.specs.declared.Grouped.TheVariants.{Number, Unread}
 use Rattle.sevens.proofs.Reading.{number_there}
 use Rattle.record.specs.Fresh.{no_incoming}
 use Rattle.places.specs.Whole.{whole}
@@ -22,8 +22,6 @@ use Rattle.order.specs.declared.Place.{Place}
 use Rattle.order.proofs.TableLaws.{shown_if, first_at}
 use Rattle.order.proofs.WholeLaws.{table-things, incoming_place, marks_place}
 use Rattle.snapshot_parts.specs.Row.{fits, put_at, Parsed, parsed, unread, with_number, numbers_from, result_of}
-use Rattle.snapshot_parts.specs.declared.row.Parsing.{Parsing}
-use Rattle.snapshot_parts.specs.declared.row.Parsing.TheVariants as vr
 
 -- ---- where a command's byte stands
 never : {A : Type 0} → false ≡ true → A
@@ -81,35 +79,32 @@ module _ (ws bs : List ℕ) (at i : ℕ) (e : Place) (is : e ≡ get_or (table (
   pub unwritten_is : e.is_written ≡ false → parsed ws (drop at bs) ≡ numbers_from 1 i ws (drop at bs)
   unwritten_is w = sym (ap (λ (t : Bool). pick t (with_number e i ws (drop at bs) (read (drop at bs)) parsed) (parsed ws (drop at bs))) w) ∙ one_is
 
-  module _ (w : e.is_written ≡ true) (g : Grouped) (r : g ≡ read (drop at bs)) where
-    written_is : with_number e i ws (drop at bs) g parsed ≡ numbers_from 1 i ws (drop at bs)
-    written_is =
-        ap (λ (h : Grouped). with_number e i ws (drop at bs) h parsed) r
+  module _ (w : e.is_written ≡ true) where
+    written_is : (g : Option Grouped) → g ≡ read (drop at bs) → with_number e i ws (drop at bs) g parsed ≡ numbers_from 1 i ws (drop at bs)
+    written_is g r =
+        ap (λ (h : Option Grouped). with_number e i ws (drop at bs) h parsed) r
         ∙ sym (ap (λ (t : Bool). pick t (with_number e i ws (drop at bs) (read (drop at bs)) parsed) (parsed ws (drop at bs))) w)
         ∙ one_is
 
-    pub none_is : g ≡ Unread → unread ≡ numbers_from 1 i ws (drop at bs)
-    none_is n = sym (ap (λ (h : Grouped). with_number e i ws (drop at bs) h parsed) n) ∙ written_is
+    pub none_is : None ≡ read (drop at bs) → unread ≡ numbers_from 1 i ws (drop at bs)
+    none_is r = written_is None r
 
-    module _ (x k : ℕ) (n : g ≡ Number x k) where
+    module _ (g : Grouped) (r : Some g ≡ read (drop at bs)) where
       -- its groups lie inside the bytes
-      pub groups_inside : at ≤ length bs → at + k ≤ length bs
+      pub groups_inside : at ≤ length bs → at + g.groups ≤ length bs
       groups_inside h =
-          let s : k ≤ length (drop at bs) = rw (← ap groups_of (sym r ∙ n)) (number_there 5 (drop at bs)) in
+          let s : g.groups ≤ length (drop at bs) = rw (← ap groups_of (sym r)) (number_there 5 (drop at bs)) in
           omega (arith, rw length-drop at s)
 
-      number_is : pick (fits e x) (parsed (put_at e i x ws) (drop k (drop at bs))) unread ≡ numbers_from 1 i ws (drop at bs)
-      number_is = sym (ap (λ (h : Grouped). with_number e i ws (drop at bs) h parsed) n) ∙ written_is
+      pub unfit_is : fits e g.value ≡ false → unread ≡ numbers_from 1 i ws (drop at bs)
+      unfit_is f = sym (ap (λ (t : Bool). pick t (parsed (put_at e i g.value ws) (drop g.groups (drop at bs))) unread) f) ∙ written_is (Some g) r
 
-      pub unfit_is : fits e x ≡ false → unread ≡ numbers_from 1 i ws (drop at bs)
-      unfit_is f = sym (ap (λ (t : Bool). pick t (parsed (put_at e i x ws) (drop k (drop at bs))) unread) f) ∙ number_is
-
-      pub fit_is : fits e x ≡ true → (vs : List ℕ) → vs ≡ put_at e i x ws → parsed vs (drop (at + k) bs) ≡ numbers_from 1 i ws (drop at bs)
+      pub fit_is : fits e g.value ≡ true → (vs : List ℕ) → vs ≡ put_at e i g.value ws → parsed vs (drop (at + g.groups) bs) ≡ numbers_from 1 i ws (drop at bs)
       fit_is f vs v =
-          ap (λ (us : List ℕ). parsed us (drop (at + k) bs)) v
-          ∙ ap (parsed (put_at e i x ws)) (sym (drop-drop k at bs))
-          ∙ sym (ap (λ (t : Bool). pick t (parsed (put_at e i x ws) (drop k (drop at bs))) unread) f)
-          ∙ number_is
+          ap (λ (us : List ℕ). parsed us (drop (at + g.groups) bs)) v
+          ∙ ap (parsed (put_at e i g.value ws)) (sym (drop-drop g.groups at bs))
+          ∙ sym (ap (λ (t : Bool). pick t (parsed (put_at e i g.value ws) (drop g.groups (drop at bs))) unread) f)
+          ∙ written_is (Some g) r
 
 -- ---- one place after the other
 abbrev and_then : Parsed → (List ℕ → List ℕ → Parsed) → Parsed
@@ -127,12 +122,12 @@ module _ (n i : ℕ) (ws bs : List ℕ) where
   fit true x k = refl
   fit false x k = refl
 
-  by_cases : (b : Bool) (g : Grouped)
+  by_cases : (b : Bool) (g : Option Grouped)
       → pick b (with_number entry i ws bs g rest) (rest ws bs)
       ≡ and_then (pick b (with_number entry i ws bs g parsed) (parsed ws bs)) rest
   by_cases false g = refl
-  by_cases true Unread = refl
-  by_cases true (Number x k) = fit (fits entry x) x k
+  by_cases true None = refl
+  by_cases true (Some g) = fit (fits entry g.value) g.value g.groups
 
   then_is : numbers_from (suc n) i ws bs ≡ and_then (numbers_from 1 i ws bs) rest
   unfolding numbers_from
@@ -148,29 +143,23 @@ pub record Reading (bs : List ℕ) (at : ℕ) (ws₀ ws : List ℕ) (end k : ℕ
   pub inside : end ≤ length bs
   pub same : numbers_from 1236 0 ws₀ (drop at bs) ≡ numbers_from (1236 - k) k ws (drop end bs)
 
-pub read_begun : (bs ws : List ℕ) (at : ℕ) → at ≤ length bs → Reading bs at ws ws at 0
-read_begun bs ws at h = record { size = refl; inside = h; same = refl }
-
 module _ (bs : List ℕ) (at : ℕ) (ws₀ ws : List ℕ) (end k : ℕ) (g : Reading bs at ws₀ ws end k) where
   pub read_end : 1236 ≤ k → parsed ws (drop end bs) ≡ numbers_from 1236 0 ws₀ (drop at bs)
   read_end h = sym (g.same ∙ none_left (1236 - k) k ws (drop end bs) (omega arith))
 
-  module _ (h : k < 1236) (r : Parsing) (vs : List ℕ) (is : result_of r vs bs ≡ numbers_from 1 k ws (drop end bs)) where
-    rest_is : numbers_from 1236 0 ws₀ (drop at bs) ≡ and_then (result_of r vs bs) (λ (us : List ℕ) (cs : List ℕ). numbers_from (1236 - (k + 1)) (k + 1) us cs)
-    rest_is =
+  module _ (h : k < 1236) where
+    rest_is : (r : Option ℕ) (vs : List ℕ) → result_of r vs bs ≡ numbers_from 1 k ws (drop end bs)
+        → numbers_from 1236 0 ws₀ (drop at bs) ≡ and_then (result_of r vs bs) (λ (us : List ℕ) (cs : List ℕ). numbers_from (1236 - (k + 1)) (k + 1) us cs)
+    rest_is r vs is =
         let n : 1236 - k ≡ suc (1236 - (k + 1)) = omega arith in
         g.same
         ∙ ap (λ (m : ℕ). numbers_from m k ws (drop end bs)) n
         ∙ then_is (1236 - (k + 1)) k ws (drop end bs)
         ∙ ap (λ (p : Parsed). and_then p (λ (us : List ℕ) (cs : List ℕ). numbers_from (1236 - (k + 1)) (k + 1) us cs)) (sym is)
 
-    pub read_none : r ≡ vr.Unread → unread ≡ numbers_from 1236 0 ws₀ (drop at bs)
-    read_none e = sym (rest_is ∙ ap (λ (q : Parsing). and_then (result_of q vs bs) (λ (us : List ℕ) (cs : List ℕ). numbers_from (1236 - (k + 1)) (k + 1) us cs)) e)
+    pub read_none : unread ≡ numbers_from 1 k ws (drop end bs) → unread ≡ numbers_from 1236 0 ws₀ (drop at bs)
+    read_none is = sym (rest_is None ws is)
 
-    pub read_turn : (next : ℕ) → r ≡ vr.Read next → next ≤ length bs → length vs ≡ length ws → Reading bs at ws₀ vs next (k + 1)
-    read_turn next e b l =
-        record {
-          size = l ∙ g.size;
-          inside = b;
-          same = rest_is ∙ ap (λ (q : Parsing). and_then (result_of q vs bs) (λ (us : List ℕ) (cs : List ℕ). numbers_from (1236 - (k + 1)) (k + 1) us cs)) e;
-        }
+    pub read_turn : (next : ℕ) (vs : List ℕ) → parsed vs (drop next bs) ≡ numbers_from 1 k ws (drop end bs) → next ≤ length bs → length vs ≡ length ws
+        → Reading bs at ws₀ vs next (k + 1)
+    read_turn next vs is b l = record { size = l ∙ g.size; inside = b; same = rest_is (Some next) vs is }

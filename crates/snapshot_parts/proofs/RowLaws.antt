@@ -4,7 +4,6 @@ use Prim.Native.Nat.{ℕ, ◌+◌, ◌*◌, ◌≤◌, ◌<◌, suc}
 use mathlib.Core.Path.{◌≡◌, refl, ap, sym, ◌∙◌}
 use mathlib.Core.Bool.{Bool, true, false}
 use mathlib.Core.List.{List, [], ◌∷◌, ◌++◌}
-use native.Mathlib.Nat.{zero-add}
 use native.Mathlib.Omega.{arith}
 use lib.ListN.{length, drop, get_or, length-append}
 use lib.Seq.{sets}
@@ -71,9 +70,6 @@ pub record Sizing (es : List Place) (total k : ℕ) : Type 0 where
   pub few : total ≤ 5 * k
   pub all : total + length (left es k) ≡ length (grouped (shown es))
 
-pub size_begun : (es : List Place) → Sizing es 0 0
-size_begun es = record { few = omega arith; all = zero-add _ }
-
 module _ (es : List Place) (total k : ℕ) (s : Sizing es total k) where
   pub size_end : length es ≤ k → total ≡ length (grouped (shown es))
   size_end h = omega (arith, s.all, ap length (left_end es k h))
@@ -93,9 +89,6 @@ pub record Writing (es : List Place) (b₀ : List ℕ) (at : ℕ) (b : List ℕ)
   pub size : length b ≡ length b₀
   pub all : end + length (left es k) ≡ at + length (grouped (shown es))
   pub same : sets b₀ at (grouped (shown es)) ≡ sets b end (left es k)
-
-pub write_begun : (es : List Place) (b : List ℕ) (at : ℕ) → Writing es b at b at 0
-write_begun es b at = record { size = refl; all = refl; same = refl }
 
 module _ (es : List Place) (b₀ : List ℕ) (at : ℕ) (b : List ℕ) (end k : ℕ) (w : Writing es b₀ at b end k) where
   pub write_end : length es ≤ k → end ≡ at + length (grouped (shown es))

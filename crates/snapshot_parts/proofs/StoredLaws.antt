@@ -4,13 +4,11 @@ use Prim.Native.Nat.{ℕ, ◌+◌, ◌*◌, ◌≤◌, ◌<◌, min}
 use mathlib.Core.Path.{◌≡◌, refl, ap, sym, ◌∙◌}
 use mathlib.Core.Bool.{Bool, true, false}
 use mathlib.Core.List.{List, [], ◌∷◌, ◌++◌}
-use native.Mathlib.Nat.{zero-add}
 use native.Mathlib.Omega.{arith}
-use lib.ListN.{length, take, drop, get_or, set, length-drop, length-append}
-use lib.Seq.{sets, drop-drop, get_or-drop, length-take-le}
+use lib.ListN.{length, take, drop, get_or, length-drop, length-append}
+use lib.Seq.{paste, sets, sets-eq, drop-drop, length-take-le}
 use Rattle.numbers.specs.Pick.{pick}
 use Rattle.command.proofs.ByteLaws.{sets_append}
-use Rattle.cells.proofs.CellLaws.{lay_turn as cell-turn}
 use Rattle.cells.proofs.Views.{rest_step, rest_end}
 use Rattle.record.specs.Blocks.{is_block}
 use Rattle.record.specs.Fresh.{no_incoming}
@@ -20,12 +18,11 @@ use Rattle.order.specs.Table.{used_incoming}
 use Rattle.snapshot_parts.specs.Stored.{stored_length, stored_bytes, stored_total, stored_from, Stores, stores, laid_one, laid_from}
 use Rattle.snapshot_parts.specs.CodeStored.{used_at}
 
--- ---- a copy, a byte a turn
-pub copy_turn : (d e s : List ℕ) (at from j : ℕ) → from + j < length s → e ≡ sets d at (take j (drop from s))
-    → set e (at + j) (get_or s (from + j) 0) ≡ sets d at (take (j + 1) (drop from s))
-copy_turn d e s at from j h q =
-    let l : j < length (drop from s) = rw (length-drop from s) (omega arith) in
-    ap (set e (at + j)) (sym (get_or-drop from s j 0)) ∙ cell-turn d (drop from s) e at j l q
+-- ---- a copy sets the bytes that it takes
+pub paste_sets : (d s : List ℕ) (at n : ℕ) → at + n ≤ length d → n ≤ length s → paste d at s n ≡ sets d at (take n s)
+paste_sets d s at n h k =
+    let l : length (take n s) ≡ n = length-take-le n s k in
+    ap (λ (m : ℕ). take at d ++ take n s ++ drop (at + m) d) (sym l) ∙ sym (sets-eq (take n s) d at (rw l h))
 
 -- ---- one slot
 pub length_most : (i : Incoming) → stored_length i ≤ 32768
@@ -78,31 +75,33 @@ total_few used s (i ∷ is) = omega (arith, go (used s), total_few used (s + 1) 
 
 -- the cases of the code: a block, or a cell
 module _ (i : Incoming) (n s at : ℕ) (is : n ≡ stored_length i) where
-  pub put_block : (store second b c : List ℕ) → is_block i ≡ true → c ≡ sets b at (take n (drop 0 second)) → c ≡ sets b at (stored_bytes store second s i)
-  put_block store second b c e q =
+  pub put_block : (store second b c : List ℕ) → is_block i ≡ true → at + n ≤ length b → n ≤ length second → c ≡ paste b at (drop 0 second) n → c ≡ sets b at (stored_bytes store second s i)
+  put_block store second b c e h k q =
       q
+      ∙ paste_sets b second at n h k
       ∙ ap (λ (m : ℕ). sets b at (take m second)) is
       ∙ ap (λ (t : Bool). sets b at (take (stored_length i) (pick t second (drop (s * 4096) store)))) (sym e)
 
-  pub put_cell : (store second b c : List ℕ) → is_block i ≡ false → c ≡ sets b at (take n (drop (s * 4096) store)) → c ≡ sets b at (stored_bytes store second s i)
-  put_cell store second b c e q =
+  pub put_cell : (store second b c : List ℕ) → is_block i ≡ false → at + n ≤ length b → s * 4096 + n ≤ length store → c ≡ paste b at (drop (s * 4096) store) n → c ≡ sets b at (stored_bytes store second s i)
+  put_cell store second b c e h k q =
       q
+      ∙ paste_sets b (drop (s * 4096) store) at n h (rw (length-drop (s * 4096) store) (omega arith))
       ∙ ap (λ (m : ℕ). sets b at (take m (drop (s * 4096) store))) is
       ∙ ap (λ (t : Bool). sets b at (take (stored_length i) (pick t second (drop (s * 4096) store)))) (sym e)
 
   abbrev chosen : Bool → List ℕ → List ℕ → List ℕ → Stores
   chosen b store second bs = pick b (stores store (sets second 0 bs)) (stores (sets store (s * 4096) bs) second)
 
-  pub lay_block : (store second bytes t : List ℕ) → is_block i ≡ true → t ≡ sets second 0 (take n (drop at bytes))
+  pub lay_block : (store second bytes t : List ℕ) → is_block i ≡ true → n ≤ length second → at + n ≤ length bytes → t ≡ paste second 0 (drop at bytes) n
       → stores store t ≡ laid_one s i (take (stored_length i) (drop at bytes)) (stores store second)
-  lay_block store second bytes t e q =
-      ap (stores store) (q ∙ ap (λ (m : ℕ). sets second 0 (take m (drop at bytes))) is)
+  lay_block store second bytes t e h k q =
+      ap (stores store) (q ∙ paste_sets second (drop at bytes) 0 n (omega arith) (rw (length-drop at bytes) (omega arith)) ∙ ap (λ (m : ℕ). sets second 0 (take m (drop at bytes))) is)
       ∙ ap (λ (b : Bool). chosen b store second (take (stored_length i) (drop at bytes))) (sym e)
 
-  pub lay_cell : (store second bytes t : List ℕ) → is_block i ≡ false → t ≡ sets store (s * 4096) (take n (drop at bytes))
+  pub lay_cell : (store second bytes t : List ℕ) → is_block i ≡ false → s * 4096 + n ≤ length store → at + n ≤ length bytes → t ≡ paste store (s * 4096) (drop at bytes) n
       → stores t second ≡ laid_one s i (take (stored_length i) (drop at bytes)) (stores store second)
-  lay_cell store second bytes t e q =
-      ap (λ (u : List ℕ). stores u second) (q ∙ ap (λ (m : ℕ). sets store (s * 4096) (take m (drop at bytes))) is)
+  lay_cell store second bytes t e h k q =
+      ap (λ (u : List ℕ). stores u second) (q ∙ paste_sets store (drop at bytes) (s * 4096) n h (rw (length-drop at bytes) (omega arith)) ∙ ap (λ (m : ℕ). sets store (s * 4096) (take m (drop at bytes))) is)
       ∙ ap (λ (b : Bool). chosen b store second (take (stored_length i) (drop at bytes))) (sym e)
 
 -- ---- the slots from slot k on
@@ -177,15 +176,12 @@ pub record Sizing (p : Peer) (total k : ℕ) : Type 0 where
   pub few : total ≤ 32768 * k
   pub all : total + total_left p k ≡ total_left p 0
 
-pub size_begun : (p : Peer) → Sizing p 0 0
-size_begun p = record { few = omega arith; all = zero-add _ }
-
 module _ (p : Peer) (l : length p.incoming ≡ 12) (total k : ℕ) (s : Sizing p total k) where
   pub size_end : 12 ≤ k → total ≡ total_left p 0
   size_end h = omega (arith, s.all, total_end p k (omega arith))
 
   module _ (i : Incoming) (here : i ≡ used_at p k) (n : ℕ) (is : n ≡ stored_length i) where
-    pub size_few : n ≤ 32768
+    size_few : n ≤ 32768
     size_few = omega (arith, is, length_most i)
 
     pub size_turn : k < 12 → Sizing p (total + n) (k + 1)
@@ -200,9 +196,6 @@ pub record Putting (p : Peer) (store second b₀ : List ℕ) (at : ℕ) (b : Lis
   pub size : length b ≡ length b₀
   pub all : end + total_left p k ≡ at + total_left p 0
   pub same : sets b₀ at (bytes_left p store second 0) ≡ sets b end (bytes_left p store second k)
-
-pub put_begun : (p : Peer) (store second b : List ℕ) (at : ℕ) → Putting p store second b at b at 0
-put_begun p store second b at = record { size = refl; all = refl; same = refl }
 
 module _ (p : Peer) (l : length p.incoming ≡ 12) (store second b₀ : List ℕ) (at : ℕ) (b : List ℕ) (end k : ℕ)
     (w : Putting p store second b₀ at b end k) where
@@ -240,9 +233,6 @@ pub record Laying (p : Peer) (bytes : List ℕ) (at : ℕ) (y₀ : Stores) (y : 
   pub second_size : length y.second ≡ length y₀.second
   pub all : end + total_left p k ≡ at + total_left p 0
   pub same : laid_left p 0 (drop at bytes) y₀ ≡ laid_left p k (drop end bytes) y
-
-pub lay_begun : (p : Peer) (bytes : List ℕ) (at : ℕ) (y : Stores) → Laying p bytes at y y at 0
-lay_begun p bytes at y = record { store_size = refl; second_size = refl; all = refl; same = refl }
 
 module _ (p : Peer) (l : length p.incoming ≡ 12) (bytes : List ℕ) (at : ℕ) (y₀ y : Stores) (end k : ℕ) (w : Laying p bytes at y₀ y end k) where
   pub lay_end : 12 ≤ k → y ≡ laid_left p 0 (drop at bytes) y₀

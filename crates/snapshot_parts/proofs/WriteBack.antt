@@ -10,9 +10,9 @@ use native.Mathlib.Omega.{arith}
 use lib.ListN.{length, get_or, take, drop, replicate, length-append, length-map, length-replicate, get_or-map}
 use lib.Seq.{ext_get_or, drop-append_seam, take-append-le, take-append-add}
 use Rattle.numbers.specs.Pick.{pick}
-use Rattle.sevens.specs.Groups.{written, read}
+use Rattle.std.specs.Prelude.{Option, None}
+use Rattle.sevens.specs.Groups.{written, read, grouped as read_as}
 use Rattle.sevens.specs.declared.Grouped.{Grouped}
-use Rattle.sevens.specs.declared.Grouped.TheVariants.{Number, Unread}
 use Rattle.sevens.proofs.GroupLaws.{read_back, read_cut}
 use Rattle.peer.specs.Damage.{sound}
 use Rattle.places.specs.Whole.{whole}
@@ -44,16 +44,16 @@ module _ (n i : ℕ) (vs bs : List ℕ) where
   unfolding numbers_from
   turn_pass w = ap (λ (t : Bool). pick t (with_number here i vs bs (read bs) next) (next vs bs)) w
 
-  turn_number : here.is_written ≡ true → (g : Grouped) → read bs ≡ g → numbers_from (suc n) i vs bs ≡ with_number here i vs bs g next
+  turn_number : here.is_written ≡ true → (g : Option Grouped) → read bs ≡ g → numbers_from (suc n) i vs bs ≡ with_number here i vs bs g next
   unfolding numbers_from
   turn_number w g r =
-      ap (λ (t : Bool). pick t (with_number here i vs bs (read bs) next) (next vs bs)) w ∙ ap (λ (h : Grouped). with_number here i vs bs h next) r
+      ap (λ (t : Bool). pick t (with_number here i vs bs (read bs) next) (next vs bs)) w ∙ ap (λ (h : Option Grouped). with_number here i vs bs h next) r
 
-  turn_put : here.is_written ≡ true → (x k : ℕ) → read bs ≡ Number x k → fits here x ≡ true → numbers_from (suc n) i vs bs ≡ next (put_at here i x vs) (drop k bs)
-  turn_put w x k r f = turn_number w (Number x k) r ∙ ap (λ (t : Bool). pick t (next (put_at here i x vs) (drop k bs)) unread) f
+  turn_put : here.is_written ≡ true → (x k : ℕ) → read bs ≡ read_as x k → fits here x ≡ true → numbers_from (suc n) i vs bs ≡ next (put_at here i x vs) (drop k bs)
+  turn_put w x k r f = turn_number w (read_as x k) r ∙ ap (λ (t : Bool). pick t (next (put_at here i x vs) (drop k bs)) unread) f
 
-  turn_unread : here.is_written ≡ true → read bs ≡ Unread → numbers_from (suc n) i vs bs ≡ unread
-  turn_unread w r = turn_number w Unread r
+  turn_unread : here.is_written ≡ true → read bs ≡ None → numbers_from (suc n) i vs bs ≡ unread
+  turn_unread w r = turn_number w None r
 
 -- ---- the groups of a place, and those behind it
 module _ (es : List Place) (i : ℕ) (h : i < length es) where
@@ -136,7 +136,7 @@ module _ (ws : List ℕ) (l : length ws ≡ 1236) (e : sound (whole ws) ≡ true
                 (sym (put_number vs a.long i h sees x a.kinded fit_here)))));
           }
 
-      reads : (cs : List ℕ) → read (written x ++ cs) ≡ Number x (length (written x))
+      reads : (cs : List ℕ) → read (written x ++ cs) ≡ read_as x (length (written x))
       reads cs = read_back x cs (good_at ws l e small i h).small
 
       turned : (n : ℕ) (cs : List ℕ) → numbers_from (suc n) i vs (written x ++ cs) ≡ numbers_from n (i + 1) us cs

@@ -3,14 +3,7 @@ use Rattle.std.specs.Prelude.{ℕ, List, []}
 use Rattle.numbers.specs.Pick.{pick}
 use Rattle.sevens.specs.Groups.{written}
 use Rattle.order.specs.declared.Place.{Place}
-use Rattle.snapshot_parts.specs.declared.row.Parsing.{Parsing}
-use Rattle.snapshot_parts.specs.declared.row.Parsing.TheVariants as vr
 
 -- the groups of a place
 abbrev pub part_of : Place → List ℕ
 part_of e = pick e.is_written (written e.number) []
-
--- where a reader stopped, or 0
-abbrev pub end_of : Parsing → ℕ
-end_of (vr.Read end) = end
-end_of vr.Unread = 0

@@ -1,15 +1,12 @@
 -- C-12: the record's numbers as a snapshot has them, each in its groups, and read back place by place, by the table of the record's places.
-use Rattle.std.specs.Prelude.{ℕ, zero, suc, ◌+◌, ◌%◌, Bool, true, List, [], ◌∷◌, ◌++◌, leb, get_or, set, drop}
+use Rattle.std.specs.Prelude.{ℕ, zero, suc, ◌+◌, ◌%◌, Bool, true, List, [], ◌∷◌, ◌++◌, leb, get_or, set, drop, Option, Some, None}
 use Rattle.numbers.specs.Pick.{pick, both}
 use Rattle.command.specs.Layout.{known}
 use Rattle.sevens.specs.Groups.{written, read}
 use Rattle.sevens.specs.declared.Grouped.{Grouped}
-use Rattle.sevens.specs.declared.Grouped.TheVariants.{Number, Unread}
 use Rattle.places.specs.Whole.{whole}
 use Rattle.order.specs.Table.{table, nowhere}
 use Rattle.order.specs.declared.Place.{Place}
-use Rattle.snapshot_parts.specs.declared.row.Parsing.{Parsing}
-use Rattle.snapshot_parts.specs.declared.row.Parsing.TheVariants as vr
 
 -- numbers, each in its groups
 unfoldable pub grouped : List ℕ → List ℕ
@@ -30,9 +27,9 @@ pub data Parsed : Type 0 where
   unread : Parsed
 
 -- what comes of a number in its groups that begins these bytes: it is fit, and the rest is read with it
-abbrev pub with_number : Place → ℕ → List ℕ → List ℕ → Grouped → (List ℕ → List ℕ → Parsed) → Parsed
-with_number e i ws bs (Number x k) rest = pick (fits e x) (rest (put_at e i x ws) (drop k bs)) unread
-with_number e i ws bs Unread rest = unread
+abbrev pub with_number : Place → ℕ → List ℕ → List ℕ → Option Grouped → (List ℕ → List ℕ → Parsed) → Parsed
+with_number e i ws bs (Some g) rest = pick (fits e g.value) (rest (put_at e i g.value ws) (drop g.groups bs)) unread
+with_number e i ws bs None rest = unread
 
 -- n places from place i on: one that is written has its number at the head of the bytes; which are written, the numbers before it say
 unfoldable pub numbers_from : ℕ → ℕ → List ℕ → List ℕ → Parsed
@@ -44,6 +41,6 @@ numbers_from (suc n) i ws bs =
     (numbers_from n (i + 1) ws bs)
 
 -- what a reader of these bytes that left these numbers says: where it stopped, or that they cannot be read
-abbrev pub result_of : Parsing → List ℕ → List ℕ → Parsed
-result_of (vr.Read end) ws bs = parsed ws (drop end bs)
-result_of vr.Unread ws bs = unread
+abbrev pub result_of : Option ℕ → List ℕ → List ℕ → Parsed
+result_of (Some end) ws bs = parsed ws (drop end bs)
+result_of None ws bs = unread

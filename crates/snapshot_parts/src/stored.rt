@@ -9,9 +9,9 @@ ghost use Rattle.snapshot_parts.specs.Stored.{stored_length, stored_bytes, store
 ghost use Rattle.snapshot_parts.specs.CodeStored.{used_at};
 
 use blocks::BYTES;
-use cells::least;
 use order::used;
-use places::pools;
+use places::{RECORD, pools};
+use pool::copy;
 use record::INCOMING;
 use record::fresh::NO_INCOMING;
 use record::groups::Incoming;
@@ -19,32 +19,18 @@ use record::groups::Incoming;
 // A cell of the store.
 const CELL: usize = 4096;
 
-// So many bytes, from a place on, to another.
-fn copy(to: &mut [u8], at: usize, from: &[u8], place: usize, count: usize)
-    requires count_in_bounds { at + count ≤ length to.old }
-    requires count_in_bounds_2 { place + count ≤ length from.now }
-    ensures { to.new ≡ sets to.old at (take count (drop place from.now)) }
-{
-    let mut i: usize = 0;
-    while i < count {
-        to[at + i] = from[place + i];
-        i = i + 1;
-    }
-}
-
 // How many bytes an incoming slot has; where its length is above its limit, the limit's.
 fn stored_length(slot: Incoming) -> usize
     ensures { result ≡ stored_length slot }
 {
     if blocks::is_block(slot) {
-        return least(slot.length as usize, BYTES as usize);
+        return (slot.length as usize).min(BYTES as usize);
     }
-    least(slot.length as usize, CELL)
+    (slot.length as usize).min(CELL)
 }
 
 // Slot s, where it is used; else an empty one, which has no bytes.
-fn used_slot(words: &[u32], s: usize) -> Incoming
-    requires { length words.now ≡ record_length }
+fn used_slot(words: &[u32; RECORD], s: usize) -> Incoming
     ensures { result ≡ used_at (whole words.now) s }
 {
     if used::incoming(words, s) {
@@ -54,15 +40,12 @@ fn used_slot(words: &[u32], s: usize) -> Incoming
 }
 
 // How many bytes all slots have.
-pub fn size(words: &[u32]) -> usize
-    requires { length words.now ≡ record_length }
+pub fn size(words: &[u32; RECORD]) -> usize
     ensures { result ≡ stored_total (used_incoming (whole words.now)) 0 (whole words.now).incoming }
 {
     let mut total: usize = 0;
-    let mut s: usize = 0;
-    while s < INCOMING {
+    for s in 0..INCOMING {
         total = total + stored_length(used_slot(words, s));
-        s = s + 1;
     }
     total
 }
@@ -82,20 +65,23 @@ fn put_slot(slot: Incoming, s: usize, store: &[u8], second: &[u8], buffer: &mut 
 }
 
 // All slots' bytes, from a place of the buffer on; where they end.
-pub fn put(words: &[u32], store: &[u8], second: &[u8], buffer: &mut [u8], at: usize) -> usize
-    requires words_len { length words.now ≡ record_length }
+pub fn put(
+    words: &[u32; RECORD],
+    store: &[u8],
+    second: &[u8],
+    buffer: &mut [u8],
+    at: usize,
+) -> usize
     requires store_len { (length store.now ≡ store_length) × (length second.now ≡ second_length) }
     requires words_in_bounds { at + stored_total (used_incoming (whole words.now)) 0 (whole words.now).incoming ≤ length buffer.old }
     ensures bytes { buffer.new ≡ sets buffer.old at (stored_from (used_incoming (whole words.now)) store.now second.now 0 (whole words.now).incoming) }
     ensures end { result ≡ at + stored_total (used_incoming (whole words.now)) 0 (whole words.now).incoming }
 {
     let mut end = at;
-    let mut s: usize = 0;
-    while s < INCOMING {
+    for s in 0..INCOMING {
         let slot = used_slot(words, s);
         put_slot(slot, s, store, second, buffer, end);
         end = end + stored_length(slot);
-        s = s + 1;
     }
     end
 }
@@ -115,18 +101,15 @@ fn lay_slot(slot: Incoming, s: usize, bytes: &[u8], at: usize, store: &mut [u8],
 }
 
 // All slots' bytes, from a place on, into both stores.
-pub fn lay(words: &[u32], bytes: &[u8], at: usize, store: &mut [u8], second: &mut [u8])
-    requires words_len { length words.now ≡ record_length }
+pub fn lay(words: &[u32; RECORD], bytes: &[u8], at: usize, store: &mut [u8], second: &mut [u8])
     requires store_len { (length store.old ≡ store_length) × (length second.old ≡ second_length) }
     requires words_in_bounds { at + stored_total (used_incoming (whole words.now)) 0 (whole words.now).incoming ≤ length bytes.now }
     ensures { stores store.new second.new ≡ laid_from (used_incoming (whole words.now)) 0 (whole words.now).incoming (drop at bytes.now) (stores store.old second.old) }
 {
     let mut end = at;
-    let mut s: usize = 0;
-    while s < INCOMING {
+    for s in 0..INCOMING {
         let slot = used_slot(words, s);
         lay_slot(slot, s, bytes, end, store, second);
         end = end + stored_length(slot);
-        s = s + 1;
     }
 }

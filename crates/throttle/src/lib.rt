@@ -3,6 +3,8 @@
 
 ghost use Rattle.throttle.specs.Throttling.{Rolls};
 
+use numbers::wrapping::double;
+
 // The numbers that `enet_peer_throttle` reads and the one, `value`, that it alters.
 #[repr(C)]
 #[derive(Clone, Copy)]
@@ -33,42 +35,20 @@ impl Throttle {
     pub fn roll(self, sample: u32) -> Rolled
         ensures { Rolls self sample result }
     {
-        let mut next = self;
-        if self.last <= self.variance {
-            next.value = self.limit;
-            return Rolled {
-                throttle: next,
-                turn: Turn::Held,
-            };
-        }
-        if sample <= self.last {
-            let raised = std::num::wrapping_add_u32(self.value, self.acceleration);
-            if raised > self.limit {
-                next.value = self.limit;
-            } else {
-                next.value = raised;
-            }
-            return Rolled {
-                throttle: next,
-                turn: Turn::Raised,
-            };
-        }
-        let twice = numbers::wrapping::double(self.variance);
-        let high = std::num::wrapping_add_u32(self.last, twice);
-        if sample > high {
-            if self.value > self.deceleration {
-                next.value = self.value - self.deceleration;
-            } else {
-                next.value = 0;
-            }
-            return Rolled {
-                throttle: next,
-                turn: Turn::Lowered,
-            };
-        }
+        let high = self.last.wrapping_add(double(self.variance));
+        let (value, turn) = if self.last <= self.variance {
+            (self.limit, Turn::Held)
+        } else if sample <= self.last {
+            let raised = self.value.wrapping_add(self.acceleration);
+            (raised.min(self.limit), Turn::Raised)
+        } else if sample > high {
+            (self.value.saturating_sub(self.deceleration), Turn::Lowered)
+        } else {
+            (self.value, Turn::Held)
+        };
         Rolled {
-            throttle: next,
-            turn: Turn::Held,
+            throttle: Throttle { value, ..self },
+            turn,
         }
     }
 

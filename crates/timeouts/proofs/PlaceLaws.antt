@@ -10,9 +10,10 @@ use lib.Dec.{leb}
 use lib.ListN.{length, take, drop, get_or, set, length-take, length-drop, length-map, drop_of_length-le}
 use lib.Seq.{drop-cons}
 use borrow.Author.Tests.{leb-true}
+use Rattle.std.specs.Prelude.{Ok, Err}
 use Rattle.numbers.specs.Pick.{pick, both}
-use Rattle.numbers.specs.declared.refusals.Refusal.{Refusal}
 use Rattle.numbers.proofs.BoolLaws.{both_left, both_right}
+use Rattle.numbers.specs.declared.refusals.Refusal.{Refusal}
 use Rattle.record.specs.Lists.{outgoing, incoming, out_items}
 use Rattle.record.specs.Fresh.{no_outgoing}
 use Rattle.record.specs.Updates.{with_timeouts, with_packets_lost, with_transit}
@@ -26,7 +27,6 @@ use Rattle.peer.specs.Outcome.{Came}
 use Rattle.peer.specs.Updates.{with_times, with_loss, with_flow, with_lists, with_outgoing, with_checked}
 use Rattle.peer.specs.declared.settings.Settings.{Settings}
 use Rattle.peer.specs.declared.Peer.{Peer}
-use Rattle.peer.specs.declared.gate.Gate.TheVariants.{Open, Shut}
 use Rattle.peer.specs.declared.gate.Lent.TheVariants.{Nothing}
 use Rattle.peer.proofs.Clauses.{sound_clauses}
 use Rattle.places.specs.Whole.{whole, record_length, made, parts, sizes}
@@ -36,8 +36,7 @@ use Rattle.overdue.proofs.Laws.{lists_within}
 use Rattle.overdue.proofs.Staying.{walked-stays, lists_stay}
 use Rattle.overdue.specs.declared.step.Walk.{Walk}
 use Rattle.timeouts.specs.Calls.{answer_of, reply_by, walk_of, checks_sound, checks}
-use Rattle.timeouts.specs.declared.Reply.{Reply}
-use Rattle.timeouts.specs.declared.Reply.TheVariants as vr
+use Rattle.timeouts.specs.declared.Checked.{Checked}
 use Rattle.timeouts.proofs.Walking.{Going, going_turn, going_end}
 
 -- ---- the walk over the sent list of the record p₀, which is p now
@@ -137,10 +136,10 @@ module _ (s : Settings) (clock : ℕ) (ws : List ℕ) (g : AtGate s Nothing (who
   abbrev n : ℕ
   n = length (out_items p.lists.sent)
 
-  pub check_shut : (why : Refusal) → g.gate ≡ Shut why → Came answer_of (checks s clock p) (vr.Refused why) p
-  check_shut why q = came_shut g p (checks_sound clock p) answer_of (vr.Refused why) why refl q
+  pub check_shut : (why : Refusal) → g.gate ≡ Err why → Came answer_of (checks s clock p) (Err why) p
+  check_shut why q = came_shut g p (checks_sound clock p) answer_of (Err why) why refl q
 
-  module _ (opens : g.gate ≡ Open) (w : Walk) (marks : List ℕ) (we : w ≡ (walk_of clock p).walk) (me : take n marks ≡ (walk_of clock p).marks)
+  module _ (opens : g.gate ≡ Ok tt) (w : Walk) (marks : List ℕ) (we : w ≡ (walk_of clock p).walk) (me : take n marks ≡ (walk_of clock p).marks)
       (x : Peer) (xe : x ≡ with_outgoing p (walk_of clock p).slots) where
     abbrev v : Walked
     v = walk_of clock p
@@ -160,12 +159,12 @@ module _ (s : Settings) (clock : ℕ) (ws : List ℕ) (g : AtGate s Nothing (who
             ap (λ (q : Peer). lists_by marks q.lists) xe ∙ lists ∙ none ∙ ap (λ (q : Peer). q.lists) (sym xe) in
             ap (with_lists x) (sym same)
 
-    pub check_went : length ws ≡ record_length → (y z : Peer) (reply : Reply) → y ≡ pick w.back (with_lists x (lists_by marks x.lists)) x
-        → z ≡ settled y w → reply ≡ reply_by w.over → Came answer_of (checks s clock p) reply z
+    pub check_went : length ws ≡ record_length → (y z : Peer) (reply : Checked) → y ≡ pick w.back (with_lists x (lists_by marks x.lists)) x
+        → z ≡ settled y w → reply ≡ reply_by w.over → Came answer_of (checks s clock p) (Ok reply) z
     check_went long y z reply ye ze re =
-        came_open g p (checks_sound clock p) answer_of reply z opens
+        came_open g p (checks_sound clock p) answer_of (Ok reply) z opens
         (record {
-          answer = ap answer_of re ∙ ap (λ (u : Walk). answer_of (reply_by u.over)) we;
+          answer = ap (λ (k : Checked). answer_of (Ok k)) re ∙ ap (λ (u : Walk). answer_of (Ok (reply_by u.over))) we;
           after =
               ze
               ∙ ap (λ (q : Peer). settled q w) (ye ∙ divided long ∙ ap (λ (q : Peer). with_lists q (lists_by marks q.lists)) xe)

@@ -1,7 +1,8 @@
 -- The timeout check: the walk over the sent list as it stood at entry. "Giving up answers disconnect and keeps the moves made so far."
-use Rattle.std.specs.Prelude.{ℕ, Bool, [], ◌∷◌}
+use Rattle.std.specs.Prelude.{ℕ, Bool, [], ◌∷◌, Result, Ok, Err}
 use Rattle.numbers.specs.Pick.{pick}
 use Rattle.numbers.specs.Answers.{Answer, done, refused}
+use Rattle.numbers.specs.declared.refusals.Refusal.{Refusal}
 use Rattle.record.specs.Lists.{out_items}
 use Rattle.record.specs.Updates.{with_timeouts, with_packets_lost, with_transit}
 use Rattle.peer.specs.Outcome.{Outcome}
@@ -10,16 +11,16 @@ use Rattle.peer.specs.Updates.{with_checked}
 use Rattle.peer.specs.declared.settings.Settings.{Settings}
 use Rattle.peer.specs.declared.Peer.{Peer}
 use Rattle.overdue.specs.Walking.{Walked, at_entry, walked, lists_by}
-use Rattle.timeouts.specs.declared.Reply.{Reply}
-use Rattle.timeouts.specs.declared.Reply.TheVariants as vr
+use Rattle.timeouts.specs.declared.Checked.{Checked}
+use Rattle.timeouts.specs.declared.Checked.TheVariants as vr
 
 -- 1 done, 3 disconnect
-abbrev pub answer_of : Reply → Answer
-answer_of vr.Done = done (1 ∷ [])
-answer_of vr.Disconnect = done (3 ∷ [])
-answer_of (vr.Refused why) = refused why
+abbrev pub answer_of : Result Checked Refusal → Answer
+answer_of (Ok vr.Done) = done (1 ∷ [])
+answer_of (Ok vr.Disconnect) = done (3 ∷ [])
+answer_of (Err why) = refused why
 
-abbrev pub reply_by : Bool → Reply
+abbrev pub reply_by : Bool → Checked
 reply_by over = pick over vr.Disconnect vr.Done
 
 -- the walk over a record's sent list
@@ -35,7 +36,7 @@ walked_on p w =
 abbrev pub checks_sound : ℕ → Peer → Outcome Peer
 checks_sound clock p =
     let w = walk_of clock p in
-    record { answer = answer_of (reply_by w.walk.over); after = walked_on p w }
+    record { answer = answer_of (Ok (reply_by w.walk.over)); after = walked_on p w }
 
 abbrev pub checks : Settings → ℕ → Peer → Outcome Peer
 checks s clock p = on_record s p (checks_sound clock p)

@@ -11,7 +11,7 @@ ghost use Rattle.timeouts.specs.CodeEarly.{early};
 
 use overdue::step;
 use overdue::step::{BACK_OUTGOING, BACK_RELIABLE, STAYS, Sent, Walk};
-use places::pools;
+use places::{RECORD, pools};
 use queues::{Out, outgoing};
 use record::OUTGOING;
 use record::groups::Limits;
@@ -23,8 +23,7 @@ pub struct Passed {
 }
 
 // What the step needs of slot s.
-fn sent_at(words: &[u32], s: usize) -> Sent
-    requires { length words.now ≡ record_length }
+fn sent_at(words: &[u32; RECORD], s: usize) -> Sent
     ensures { result ≡ sent_of (get_or (whole words.now).outgoing s no_outgoing) }
 {
     let b = pools::brief_at(words, s);
@@ -38,27 +37,23 @@ fn sent_at(words: &[u32], s: usize) -> Sent
 }
 
 // How many at the head of the sent list are not due: the walk leaves them as they are.
-pub fn early(words: &[u32], clock: u32) -> usize
-    requires { length words.now ≡ record_length }
+pub fn early(words: &[u32; RECORD], clock: u32) -> usize
     ensures { result ≡ early clock (whole words.now).outgoing (out_items (whole words.now).lists.sent) }
 {
     let n = outgoing::count(words, Out::Sent);
-    let mut j: usize = 0;
-    while j < n {
+    for j in 0..n {
         let s = outgoing::slot_at(words, Out::Sent, j);
         let o = sent_at(words, s as usize);
         if step::is_due(clock, o) {
             return j;
         }
-        j = j + 1;
     }
     n
 }
 
 // Slot s gets this timeout, and nothing else of it changes; one that it has is not written again.
-fn retime(words: &mut [u32], s: usize, o: Sent, timeout: u32)
-    requires words_len { length words.old ≡ record_length }
-    requires o_value { o ≡ sent_of (get_or (whole words.old).outgoing s no_outgoing) }
+fn retime(words: &mut [u32; RECORD], s: usize, o: Sent, timeout: u32)
+    requires { o ≡ sent_of (get_or (whole words.old).outgoing s no_outgoing) }
     ensures { whole words.new ≡ with_outgoing (whole words.old) (set (whole words.old).outgoing s (with_timeout (get_or (whole words.old).outgoing s no_outgoing) timeout)) }
 {
     if timeout == o.timeout {
@@ -68,8 +63,7 @@ fn retime(words: &mut [u32], s: usize, o: Sent, timeout: u32)
 }
 
 // The step on a slot: its timeout changes, and nothing else of it.
-pub fn turn(words: &mut [u32], limits: Limits, clock: u32, walk: Walk, s: usize) -> Passed
-    requires { length words.old ≡ record_length }
+pub fn turn(words: &mut [u32; RECORD], limits: Limits, clock: u32, walk: Walk, s: usize) -> Passed
     ensures walk { result.walk ≡ (turn_by limits clock walk (get_or (whole words.old).outgoing s no_outgoing)).walk }
     ensures mark { result.mark ≡ (turn_by limits clock walk (get_or (whole words.old).outgoing s no_outgoing)).mark }
     ensures slot { whole words.new ≡ with_outgoing (whole words.old) (set (whole words.old).outgoing s (turn_by limits clock walk (get_or (whole words.old).outgoing s no_outgoing)).slot) }
@@ -85,30 +79,25 @@ pub fn turn(words: &mut [u32], limits: Limits, clock: u32, walk: Walk, s: usize)
 }
 
 // The slots of the sent list that bear a mark, in their order, into cells that are lent. Answers how many.
-fn gather(words: &[u32], marks: &[u8], mark: u8, cells: &mut [u32]) -> usize
-    requires words_len { length words.now ≡ record_length }
+fn gather(words: &[u32; RECORD], marks: &[u8], mark: u8, cells: &mut [u32]) -> usize
     requires marks_len { length marks.now ≡ outgoing }
     requires cells_len { length cells.old ≡ outgoing }
     ensures slots { map low (take result cells.new) ≡ bearing mark marks.now (out_items (whole words.now).lists.sent) }
     ensures fits { result ≤ outgoing }
 {
-    let n = outgoing::count(words, Out::Sent);
     let mut m: usize = 0;
-    let mut k: usize = 0;
-    while k < n {
+    for k in 0..outgoing::count(words, Out::Sent) {
         if marks[k] == mark {
             cells[m] = outgoing::slot_at(words, Out::Sent, k) as u32;
-            m = m + 1;
+            m += 1;
         }
-        k = k + 1;
     }
     m
 }
 
 // What stays is sent; the others go before what stood in their list.
-pub fn send_back(words: &mut [u32], marks: &[u8])
-    requires words_len { length words.old ≡ record_length }
-    requires marks_len { length marks.now ≡ outgoing }
+pub fn send_back(words: &mut [u32; RECORD], marks: &[u8])
+    requires { length marks.now ≡ outgoing }
     ensures { whole words.new ≡ with_lists (whole words.old) (lists_by marks.now (whole words.old).lists) }
 {
     let mut cells = [0u32; OUTGOING];

@@ -19,31 +19,29 @@ use crate::back::{early, send_back, turn};
 use numbers::refusals::Refusal;
 use overdue::step::Walk;
 use overdue::turn::at_entry;
-use peer::gate::{Gate, Lent};
+use peer::gate::Lent;
 use peer::settings::Settings;
 use places::{RECORD, groups};
 use queues::{Out, outgoing};
 use record::OUTGOING;
 
 #[derive(Clone, Copy)]
-pub enum Reply {
+pub enum Checked {
     Done,
     Disconnect,
-    Refused(Refusal),
 }
 
-fn reply_by(over: bool) -> Reply
+fn reply_by(over: bool) -> Checked
     ensures { result ≡ reply_by over }
 {
     if over {
-        return Reply::Disconnect;
+        return Checked::Disconnect;
     }
-    Reply::Done
+    Checked::Done
 }
 
 // The numbers that the walk begins with, behind k that are kept.
-fn begin(words: &[u32], k: usize) -> Walk
-    requires { length words.now ≡ record_length }
+fn begin(words: &[u32; RECORD], k: usize) -> Walk
     ensures { result ≡ begun k (at_entry (whole words.now).times (whole words.now).loss (whole words.now).flow) }
 {
     let mut w = at_entry(
@@ -56,31 +54,28 @@ fn begin(words: &[u32], k: usize) -> Walk
 }
 
 // The numbers that the walk ends with; a mark for each slot of the sent list is written.
-fn walk(words: &mut [u32], clock: u32, marks: &mut [u8]) -> Walk
-    requires words_len { length words.old ≡ record_length }
-    requires marks_value { marks.old ≡ replicate outgoing stays }
+fn walk(words: &mut [u32; RECORD], clock: u32, marks: &mut [u8]) -> Walk
+    requires { marks.old ≡ replicate outgoing stays }
     ensures walk { result ≡ (walk_of clock (whole words.old)).walk }
     ensures marks { take (length (out_items (whole words.old).lists.sent)) marks.new ≡ (walk_of clock (whole words.old)).marks }
     ensures slots { whole words.new ≡ with_outgoing (whole words.old) (walk_of clock (whole words.old)).slots }
 {
     let limits = groups::limits(words);
     let n = outgoing::count(words, Out::Sent);
-    let mut j = early(words, clock);
-    let mut w = begin(words, j);
-    while j < n {
+    let from = early(words, clock);
+    let mut w = begin(words, from);
+    for j in from..n {
         let s = outgoing::slot_at(words, Out::Sent, j);
         let t = turn(words, limits, clock, w, s as usize);
         marks[j] = t.mark;
         w = t.walk;
-        j = j + 1;
     }
     w
 }
 
 // Where one went back: what stays is sent, the others go before what stood in their list.
-fn divide(words: &mut [u32], back: bool, marks: &[u8])
-    requires words_len { length words.old ≡ record_length }
-    requires marks_len { length marks.now ≡ outgoing }
+fn divide(words: &mut [u32; RECORD], back: bool, marks: &[u8])
+    requires { length marks.now ≡ outgoing }
     ensures { whole words.new ≡ pick back (with_lists (whole words.old) (lists_by marks.now (whole words.old).lists)) (whole words.old) }
 {
     if back {
@@ -89,8 +84,7 @@ fn divide(words: &mut [u32], back: bool, marks: &[u8])
 }
 
 // Times, loss and flow get the walk's numbers.
-fn settle(words: &mut [u32], w: Walk)
-    requires { length words.old ≡ record_length }
+fn settle(words: &mut [u32; RECORD], w: Walk)
     ensures { whole words.new ≡ with_checked (whole words.old) (with_timeouts (whole words.old).times w.next w.earliest) (with_packets_lost (whole words.old).loss w.lost) (with_transit (whole words.old).flow w.transit) (whole words.old).lists (whole words.old).outgoing }
 {
     let mut times = groups::times(words);
@@ -106,16 +100,13 @@ fn settle(words: &mut [u32], w: Walk)
 }
 
 // Refused by 11 and 13.
-pub fn check(words: &mut [u32; RECORD], settings: Settings, clock: u32) -> Reply
+pub fn check(words: &mut [u32; RECORD], settings: Settings, clock: u32) -> Result<Checked, Refusal>
     ensures { Came answer_of (checks settings clock (whole words.old)) result (whole words.new) }
 {
-    let gate = gate::ask(words, settings, Lent::Nothing);
-    if let Gate::Shut(why) = gate {
-        return Reply::Refused(why);
-    }
+    gate::ask(words, settings, Lent::Nothing)?;
     let mut marks = [0u8; OUTGOING];
     let w = walk(words, clock, &mut marks);
     divide(words, w.back, &marks);
     settle(words, w);
-    reply_by(w.over)
+    Ok(reply_by(w.over))
 }

@@ -101,13 +101,10 @@ pub extern "C" fn lyn_walk(
     ensures { Walks limits clock walk sent.old result sent.new }
 {
     let mut w = read(walk);
-    let mut i: usize = 0;
-    while i < sent.len() {
-        let a = sent[i];
-        let t = turn(limits, clock, w, a);
-        sent[i] = t.awaiting;
+    for a in sent.iter_mut() {
+        let t = turn(limits, clock, w, *a);
+        *a = t.awaiting;
         w = t.walk;
-        i = i + 1;
     }
     write(w)
 }

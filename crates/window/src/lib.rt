@@ -33,6 +33,7 @@ pub struct Judged {
 }
 
 // Whether the group is marked in the words.
+#[tactic(auto, unfolding(crate::specs::Window::marked))]
 fn marked(words: [u32; UNSEQUENCED_WORDS], group: Group) -> bool
     ensures { result ≡ marked words group.0 }
 {
@@ -89,6 +90,7 @@ fn distant(base: Group, group: Group) -> bool
 }
 
 // The words with the group marked: done once it is stored.
+#[tactic(auto, unfolding(crate::specs::Window::marking))]
 pub fn marking(words: [u32; UNSEQUENCED_WORDS], group: Group) -> [u32; UNSEQUENCED_WORDS]
     ensures { result ≡ marking words group.0 }
 {

@@ -3,11 +3,12 @@
 use mathlib.Core.Path.{◌≡◌, refl, ap, ◌∙◌, sym}
 use mathlib.Core.Bool.{Bool, true, false}
 use mathlib.Core.List.{List, ◌∷◌}
-use Prim.Native.Nat.{ℕ, ◌+◌, ◌%◌, ◌≤◌, ◌<◌}
+use Prim.Native.Nat.{ℕ, ◌+◌, ◌≤◌}
 use native.Mathlib.Omega.{arith}
 use lib.Dec.{leb}
-use lib.ListN.{length, take, get_or-eq_default}
-use borrow.Author.Tests.{lt-leb, le-leb, leb-true}
+use lib.ListN.{length, take}
+use borrow.Author.Tests.{le-leb, leb-true}
+use Rattle.std.specs.Prelude.{Some, None}
 use Rattle.numbers.specs.Pick.{pick, both}
 use Rattle.numbers.specs.Answers.{done, refused}
 use Rattle.numbers.specs.declared.refusals.Refusal.TheVariants.{BadCommand}
@@ -16,8 +17,8 @@ use Rattle.command.specs.Bytes.{row_at, pad, fits, Bytes}
 use Rattle.wire.specs.Built.{built_from}
 use Rattle.wire.specs.Reading.{kind_at, readable, read_at}
 use Rattle.wire.specs.Steps.{whole_kind, placed}
-use Rattle.numbers.proofs.BoolLaws.{both_left, both_right, both_true, both_false}
-use Rattle.command.proofs.LayoutLaws.{known_low, layout-length}
+use Rattle.numbers.proofs.BoolLaws.{both_left, both_right, both_true}
+use Rattle.command.proofs.LayoutLaws.{layout-length}
 use Rattle.command.proofs.RowLaws.{row_length, take-pad, fits_read}
 
 module _ (s : List ℕ) (i : ℕ) where
@@ -27,48 +28,26 @@ module _ (s : List ℕ) (i : ℕ) where
   pub chosen : (b : Bool) → readable s i ≡ b → read_at s i ≡ pick b (done ((i + size_of (kind_at s i)) ∷ whole)) (refused BadCommand)
   chosen b e = ap (λ (t : Bool). pick t (done ((i + size_of (kind_at s i)) ∷ whole)) (refused BadCommand)) e
 
-  unread : readable s i ≡ false → 0 ≡ whole_kind s i
-  unread e = sym (ap (λ (b : Bool). pick b (kind_at s i) 0) e)
+  unread : readable s i ≡ false → None ≡ whole_kind s i
+  unread e = sym (ap (λ (b : Bool). pick b (Some (kind_at s i)) None) e)
 
-  pub kind_past : length s ≤ i → 0 ≡ whole_kind s i
-  kind_past h =
-      let z : kind_at s i ≡ 0 = ap (λ (x : ℕ). x % 16) (get_or-eq_default s 0 {n = i} h) in
-      unread (ap (λ (k : ℕ). both (known k) (leb (i + size_of k) (length s))) z)
-
-  pub kind_unknown : known (kind_at s i) ≡ false → 0 ≡ whole_kind s i
+  pub kind_unknown : known (kind_at s i) ≡ false → None ≡ whole_kind s i
   kind_unknown e = unread (ap (λ (b : Bool). both b (leb (i + size_of (kind_at s i)) (length s))) e)
 
-  pub kind_short : length s < i + size_of (kind_at s i) → 0 ≡ whole_kind s i
-  kind_short h =
-      unread
-      (both_false (known (kind_at s i)) (leb (i + size_of (kind_at s i)) (length s)) (lt-leb (i + size_of (kind_at s i)) (length s) h))
-
-  pub kind_whole : known (kind_at s i) ≡ true → i + size_of (kind_at s i) ≤ length s → kind_at s i ≡ whole_kind s i
+  pub kind_whole : known (kind_at s i) ≡ true → i + size_of (kind_at s i) ≤ length s → Some (kind_at s i) ≡ whole_kind s i
   kind_whole e h =
       let f : readable s i ≡ true =
       both_true (known (kind_at s i)) (leb (i + size_of (kind_at s i)) (length s)) e (le-leb (i + size_of (kind_at s i)) (length s) h)
       in
-      sym (ap (λ (b : Bool). pick b (kind_at s i) 0) f)
+      sym (ap (λ (b : Bool). pick b (Some (kind_at s i)) None) f)
 
-  -- kind 0 is none, so it says that nothing is read
-  pub whole_none : whole_kind s i ≡ 0 → refused BadCommand ≡ read_at s i
-  whole_none z = go (readable s i) refl
+  -- a kind that stands there is the first byte's, and the command is whole
+  pub whole_some : (k : ℕ) → whole_kind s i ≡ Some k → (readable s i ≡ true) × (k ≡ kind_at s i)
+  whole_some k z = go (readable s i) z
     where
-      go : (b : Bool) → readable s i ≡ b → refused BadCommand ≡ read_at s i
-      go true e =
-          let k : kind_at s i ≡ 0 = sym (ap (λ (b : Bool). pick b (kind_at s i) 0) e) ∙ z in
-          absurd (omega (arith, known_low (kind_at s i) (both_left (known (kind_at s i)) (leb (i + size_of (kind_at s i)) (length s)) e)))
-      go false e = sym (chosen false e)
-
-  pub whole_some : (whole_kind s i ≡ 0 → ⊥) → readable s i ≡ true
-  whole_some n = go (readable s i) refl
-    where
-      go : (b : Bool) → readable s i ≡ b → b ≡ true
-      go true e = refl
-      go false e = absurd (n (ap (λ (b : Bool). pick b (kind_at s i) 0) e))
-
-  pub whole_kind_lem : readable s i ≡ true → whole_kind s i ≡ kind_at s i
-  whole_kind_lem e = ap (λ (b : Bool). pick b (kind_at s i) 0) e
+      go : (b : Bool) → pick b (Some (kind_at s i)) None ≡ Some k → (b ≡ true) × (k ≡ kind_at s i)
+      go true e = (refl, cc)
+      go false e = absurd (let o : ◌≡◌ {A = ℕ} 0 1 = cc in omega arith)
 
   pub whole_room : readable s i ≡ true → i + size_of (kind_at s i) ≤ length s
   whole_room e =
@@ -95,3 +74,14 @@ module _ (s : List ℕ) (i : ℕ) where
   read_found n b e m =
       ap (placed n) (read_built b (both_left (known (kind_at s i)) (leb (i + size_of (kind_at s i)) (length s)) e))
       ∙ ap (λ (x : ℕ). done (x ∷ whole)) m ∙ sym (chosen true e)
+
+  -- so what is built of the row that stands there is what the reader answers
+  pub read_built_at :
+      (k n : ℕ) (row : List ℕ) → Bytes s → whole_kind s i ≡ Some k → row ≡ pad 16 (row_at s i (layout k)) → n ≡ i + size_of k
+      → placed n (built_from k row) ≡ read_at s i
+  read_built_at k n row b e r m =
+      let t = whole_some k e in
+      let q : k ≡ kind_at s i = t.1 in
+      ap (λ (l : List ℕ). placed n (built_from k l)) r
+      ∙ ap (λ (x : ℕ). placed n (built_from x (pad 16 (row_at s i (layout x))))) q
+      ∙ read_found n b t.0 (m ∙ ap (λ (x : ℕ). i + size_of x) q)

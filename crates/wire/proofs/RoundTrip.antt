@@ -23,9 +23,7 @@ use Rattle.wire.specs.RoundTrip.{Fitting, WriteThenRead, ReadThenWrite}
 use Rattle.command.specs.declared.fields.Command.{Command}
 use Rattle.command.specs.declared.fields.Fields.{Fields}
 use Rattle.command.specs.declared.fields.Fields.TheVariants as vr
-use Rattle.wire.specs.declared.reader.Reading.TheVariants as rd
-use Rattle.wire.specs.declared.writer.Writing.{Writing}
-use Rattle.wire.specs.declared.writer.Writing.TheVariants as wr
+use Rattle.std.specs.Prelude.{Option, Some, None}
 use Rattle.numbers.proofs.BoolLaws.{both_left, both_right, both_true, both_false}
 use Rattle.command.proofs.ByteLaws.{put-length, put_below, put_above, number_same, number_put, put_read, sets_append}
 use Rattle.command.proofs.LayoutLaws.{named, layout-known}
@@ -33,7 +31,7 @@ use Rattle.command.proofs.Settled.{apart}
 use Rattle.wire.proofs.ReadLaws.{chosen, whole_room}
 use Rattle.command.proofs.RowLengths.{row_of-length}
 use Rattle.wire.proofs.WriteLaws.{answered, bytes_are, named_kind}
-use Rattle.wire.proofs.Settled.{readings_apart, writings_apart}
+use Rattle.wire.proofs.Settled.{found, readings_apart, writings_apart}
 
 -- ---- a row in bytes
 pub row_put_length : (s ws xs : List ℕ) (i : ℕ) → length (put_row s i ws xs) ≡ length s
@@ -143,7 +141,7 @@ module _ (s : List ℕ) (i : ℕ) (c : Command) where
       ∙ ap (λ (l : List ℕ). done ((i + size_of kind) ∷ kind ∷ l)) row
 
   -- a write changes no other byte
-  module _ (r : Writing) (after : List ℕ) (w : Written s i c r after) where
+  module _ (r : Option ℕ) (after : List ℕ) (w : Written s i c r after) where
     either : (P : List ℕ → Type 0) → P s → P (put_row s i (layout kind) (row_of c)) → P after
     either P hs hp = subst P (sym w.buffer) (go (writable s i c))
       where
@@ -161,7 +159,7 @@ module _ (s : List ℕ) (i : ℕ) (c : Command) where
     written_above j h = either (λ (l : List ℕ). get_or l j 0 ≡ get_or s j 0) refl (row_above s (layout kind) (row_of c) i j h)
 
 pub write_then_read : WriteThenRead
-write_then_read s after i next c r f w q = readings_apart r (rd.Found c next) (q ∙ go (writable s i c) refl)
+write_then_read s after i next c r f w q = readings_apart r (Some (found c next)) (q ∙ go (writable s i c) refl)
   where
     go : (b : Bool) → writable s i c ≡ b → read_at after i ≡ done (next ∷ kind_of c.fields ∷ row_of c)
     go true e =
@@ -170,7 +168,7 @@ write_then_read s after i next c r f w q = readings_apart r (rd.Found c next) (q
     go false e = absurd (apart _ _ (w.answer ∙ answered s i c false e) refl refl)
 
 -- what a read found: the bytes it stands on, whole
-module _ (s : List ℕ) (i next : ℕ) (c : Command) (e : answer_of (rd.Found c next) ≡ read_at s i) where
+module _ (s : List ℕ) (i next : ℕ) (c : Command) (e : answer_of (Some (found c next)) ≡ read_at s i) where
   found_readable : readable s i ≡ true
   found_readable = go (readable s i) refl
     where
@@ -214,27 +212,27 @@ read_then_write s t after i j size c r b e w = record { room = there; short = no
     wide : length (take (span c) (drop i s)) ≡ span c
     wide = found_wide s i (i + size) c e
 
-    there : j + size ≤ length t → (r ≡ wr.Done (j + size)) × (after ≡ take j t ++ take size (drop i s) ++ drop (j + size) t)
+    there : j + size ≤ length t → (r ≡ Some (j + size)) × (after ≡ take j t ++ take size (drop i s) ++ drop (j + size) t)
     there h =
         let k : j + span c ≤ length t = omega (arith, same) in
         let ok : writable t j c ≡ true = both_true (names_fields c) (leb (j + span c) (length t)) (found_named s i (i + size) c e) (le-leb _ _ k) in
         let put : sets t j (take (span c) (drop i s)) ≡ take j t ++ take (span c) (drop i s) ++ drop (j + span c) t =
         rw wide at (sets-eq (take (span c) (drop i s)) t j (omega (arith, wide)))
         in (
-          writings_apart r (wr.Done (j + size)) (w.answer ∙ answered t j c true ok ∙ rw same),
+          writings_apart r (Some (j + size)) (w.answer ∙ answered t j c true ok ∙ rw same),
           rw same (w.buffer ∙ bytes_are t j c true ok ∙ found_copy s i (i + size) c e t j b ∙ put),
         )
 
-    none : length t < j + size → (r ≡ wr.Refused) × (after ≡ t)
+    none : length t < j + size → (r ≡ None) × (after ≡ t)
     none h =
         let no : writable t j c ≡ false =
         both_false (names_fields c) (leb (j + span c) (length t)) (lt-leb (j + span c) (length t) (omega (arith, same)))
         in
-        (writings_apart r wr.Refused (w.answer ∙ answered t j c false no), w.buffer ∙ bytes_are t j c false no)
+        (writings_apart r None (w.answer ∙ answered t j c false no), w.buffer ∙ bytes_are t j c false no)
 
 -- a command has one encoding: wherever it is found, the bytes are the same
 pub one_encoding :
-    (s t : List ℕ) (i j m n : ℕ) (c : Command) → Bytes s → Bytes t → answer_of (rd.Found c m) ≡ read_at s i → answer_of (rd.Found c n) ≡ read_at t j
+    (s t : List ℕ) (i j m n : ℕ) (c : Command) → Bytes s → Bytes t → answer_of (Some (found c m)) ≡ read_at s i → answer_of (Some (found c n)) ≡ read_at t j
     → take (span c) (drop i s) ≡ take (span c) (drop j t)
 one_encoding s t i j m n c bs bt e f =
     sym (laid a refl)

@@ -16,7 +16,7 @@ use Rattle.command.specs.Bytes.{put_row, pad}
 use Rattle.command.specs.Rows.{kind_of, row_of, names_fields}
 use Rattle.wire.specs.Writing.{writable, write_answer, write_bytes, Written}
 use Rattle.command.specs.declared.fields.Command.{Command}
-use Rattle.wire.specs.declared.writer.Writing.TheVariants as writing
+use Rattle.std.specs.Prelude.{Some, None}
 use Rattle.numbers.proofs.BoolLaws.{both_true, both_false}
 use Rattle.command.proofs.LayoutLaws.{layout-length}
 use Rattle.command.proofs.RowLaws.{put_pad}
@@ -32,13 +32,13 @@ module _ (s : List ℕ) (i : ℕ) (c : Command) where
   pub bytes_are : (b : Bool) → writable s i c ≡ b → write_bytes s i c ≡ pick b (put_row s i (layout kind) (row_of c)) s
   bytes_are b e = ap (λ (t : Bool). pick t (put_row s i (layout kind) (row_of c)) s) e
 
-  none : writable s i c ≡ false → Written s i c writing.Refused s
+  none : writable s i c ≡ false → Written s i c None s
   none e = record { answer = sym (answered false e); buffer = sym (bytes_are false e) }
 
-  pub write_unnamed : names_fields c ≡ false → Written s i c writing.Refused s
+  pub write_unnamed : names_fields c ≡ false → Written s i c None s
   write_unnamed e = none (ap (λ (b : Bool). both b (leb (i + size_of kind) (length s))) e)
 
-  pub write_short : length s < i + size_of kind → Written s i c writing.Refused s
+  pub write_short : length s < i + size_of kind → Written s i c None s
   write_short h =
       none (both_false (names_fields c) (leb (i + size_of kind) (length s)) (lt-leb (i + size_of kind) (length s) h))
 
@@ -47,7 +47,7 @@ module _ (s : List ℕ) (i : ℕ) (c : Command) where
 
   pub write_done :
       (n : ℕ) (t : List ℕ) → names_fields c ≡ true → i + size_of kind ≤ length s → n ≡ size_of (c.byte % 16)
-      → t ≡ put_row s i (layout (c.byte % 16)) (pad 16 (row_of c)) → Written s i c (writing.Done (i + n)) t
+      → t ≡ put_row s i (layout (c.byte % 16)) (pad 16 (row_of c)) → Written s i c (Some (i + n)) t
   write_done n t named room m e =
       let k = named_kind named in
       let w = both_true (names_fields c) (leb (i + size_of kind) (length s)) named (le-leb (i + size_of kind) (length s) room) in

@@ -1,5 +1,5 @@
 -- The writer: 9 for "such a command, or one whose byte names another than its fields", and for a short buffer, which is then unchanged.
-use Rattle.std.specs.Prelude.{ℕ, ◌+◌, ◌≡◌, Bool, List, [], ◌∷◌, leb, length}
+use Rattle.std.specs.Prelude.{ℕ, ◌+◌, ◌≡◌, Bool, List, [], ◌∷◌, leb, length, Option, Some, None}
 use Rattle.numbers.specs.Pick.{pick, both}
 use Rattle.numbers.specs.Answers.{Answer, done, refused}
 use Rattle.numbers.specs.declared.refusals.Refusal.TheVariants.{BadCommand}
@@ -7,8 +7,6 @@ use Rattle.command.specs.Layout.{layout, size_of}
 use Rattle.command.specs.Bytes.{put_row}
 use Rattle.command.specs.Rows.{kind_of, row_of, names_fields}
 use Rattle.command.specs.declared.fields.Command.{Command}
-use Rattle.wire.specs.declared.writer.Writing.{Writing}
-use Rattle.wire.specs.declared.writer.Writing.TheVariants as vr
 
 abbrev pub writable : List ℕ → ℕ → Command → Bool
 writable s i c = both (names_fields c) (leb (i + size_of (kind_of c.fields)) (length s))
@@ -21,11 +19,11 @@ write_answer s i c = pick (writable s i c) (done ((i + size_of (kind_of c.fields
 abbrev pub write_bytes : List ℕ → ℕ → Command → List ℕ
 write_bytes s i c = pick (writable s i c) (put_row s i (layout (kind_of c.fields)) (row_of c)) s
 
-abbrev pub answer_of : Writing → Answer
-answer_of (vr.Done next) = done (next ∷ [])
-answer_of vr.Refused = refused BadCommand
+abbrev pub answer_of : Option ℕ → Answer
+answer_of (Some next) = done (next ∷ [])
+answer_of None = refused BadCommand
 
 -- what a write at i answers, and what the buffer s then holds
-pub record Written (s : List ℕ) (i : ℕ) (c : Command) (r : Writing) (after : List ℕ) : Type 0 where
+pub record Written (s : List ℕ) (i : ℕ) (c : Command) (r : Option ℕ) (after : List ℕ) : Type 0 where
   pub answer : answer_of r ≡ write_answer s i c
   pub buffer : after ≡ write_bytes s i c

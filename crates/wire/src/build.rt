@@ -10,24 +10,18 @@ use command::layout;
 use numbers::counters::{Group, Reliable, Unreliable};
 use numbers::widths::{low8, low16};
 
-#[derive(Clone, Copy)]
-pub enum Built {
-    Done(Command),
-    Refused,
-}
-
 // The command of this kind whose row begins so; refused where there is no such kind, or a number does not fit its place.
-pub fn build(kind: u8, row: [u32; 16]) -> Built
+pub fn build(kind: u8, row: [u32; 16]) -> Option<Command>
     ensures { answer_of result ≡ built_from kind row }
 {
     if !layout::is_fit(kind, row) {
-        return Built::Refused;
+        return None;
     }
-    let command = assembled(kind, row);
-    Built::Done(command)
+    Some(assembled(kind, row))
 }
 
 // The command of this kind in a row, each number cut to its width; where there is no such kind, the fields are an empty slot's.
+#[tactic(auto, unfolding(crate::specs::Decoded::decoded))]
 pub fn decoded(kind: u32, row: [u32; 16]) -> Command
     ensures { result ≡ decoded kind row }
 {
@@ -83,15 +77,14 @@ fn shaped(kind: u8, row: [u32; 16]) -> Fields
 {
     if kind < 6 {
         control_of(kind, row)
+    } else if kind < 10 {
+        packet_of(kind, row)
     } else {
-        if kind < 10 {
-            packet_of(kind, row)
-        } else {
-            settings_of(kind, row)
-        }
+        settings_of(kind, row)
     }
 }
 
+#[tactic(auto, unfolding(command::specs::Shapes::shaped_by))]
 fn control_of(kind: u8, row: [u32; 16]) -> Fields
     requires { (1 ≤ kind) × (kind < 6) }
     ensures { result ≡ shaped kind row }
@@ -118,6 +111,7 @@ fn control_of(kind: u8, row: [u32; 16]) -> Fields
     }
 }
 
+#[tactic(auto, unfolding(command::specs::Shapes::shaped_by))]
 fn packet_of(kind: u8, row: [u32; 16]) -> Fields
     requires { (6 ≤ kind) × (kind < 10) }
     ensures { result ≡ shaped kind row }
@@ -148,6 +142,7 @@ fn packet_of(kind: u8, row: [u32; 16]) -> Fields
     }
 }
 
+#[tactic(auto, unfolding(command::specs::Shapes::shaped_by))]
 fn settings_of(kind: u8, row: [u32; 16]) -> Fields
     requires { (10 ≤ kind) × (kind < 13) }
     ensures { result ≡ shaped kind row }
@@ -170,6 +165,7 @@ fn settings_of(kind: u8, row: [u32; 16]) -> Fields
     }
 }
 
+#[tactic(auto, unfolding(command::specs::Shapes::connect_by))]
 fn connect_from(row: [u32; 16]) -> Connect
     ensures { result ≡ connect_from row }
 {
@@ -192,6 +188,7 @@ fn connect_from(row: [u32; 16]) -> Connect
     }
 }
 
+#[tactic(auto, unfolding(command::specs::Shapes::fragment_by))]
 fn fragment_from(row: [u32; 16]) -> Fragment
     ensures { result ≡ fragment_from row }
 {

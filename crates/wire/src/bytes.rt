@@ -4,7 +4,6 @@ ghost use Rattle.command.specs.Layout.{layout, size_of};
 ghost use Rattle.command.specs.Bytes.{number_at, put_number, row_at, put_row, pad};
 
 use command::layout;
-use numbers::widths::wide8;
 
 // The number whose bytes start at `at`, the high byte first.
 fn number_at(s: &[u8], at: usize, width: usize) -> u32
@@ -12,10 +11,8 @@ fn number_at(s: &[u8], at: usize, width: usize) -> u32
     ensures { (result ≡ number_at s.now at width) × (result < 256 ^ width) }
 {
     let mut n: u32 = 0;
-    let mut j: usize = 0;
-    while j < width {
-        n = n * 256 + wide8(s[at + j]);
-        j = j + 1;
+    for b in &s[at..at + width] {
+        n = n * 256 + u32::from(*b);
     }
     n
 }
@@ -26,11 +23,9 @@ fn put_number(out: &mut [u8], at: usize, width: usize, x: u32)
     ensures { out.new ≡ put_number out.old at width x }
 {
     let mut rest = x;
-    let mut j = width;
-    while 0 < j {
-        j = j - 1;
+    for j in (0..width).rev() {
         out[at + j] = (rest % 256) as u8;
-        rest = rest / 256;
+        rest /= 256;
     }
 }
 
@@ -41,12 +36,10 @@ pub(crate) fn row_at(s: &[u8], at: usize, kind: u8) -> [u32; 16]
 {
     let mut row = [0u32; 16];
     let mut place = at;
-    let mut j: usize = 0;
-    while j < 16 {
+    for (j, x) in row.iter_mut().enumerate() {
         let width = layout::width_of(kind, j);
-        row[j] = number_at(s, place, width);
-        place = place + width;
-        j = j + 1;
+        *x = number_at(s, place, width);
+        place += width;
     }
     row
 }
@@ -57,11 +50,9 @@ pub(crate) fn put_row(out: &mut [u8], at: usize, kind: u8, row: [u32; 16])
     ensures { out.new ≡ put_row out.old at (layout kind) row }
 {
     let mut place = at;
-    let mut j: usize = 0;
-    while j < 16 {
+    for (j, x) in row.iter().enumerate() {
         let width = layout::width_of(kind, j);
-        put_number(out, place, width, row[j]);
-        place = place + width;
-        j = j + 1;
+        put_number(out, place, width, *x);
+        place += width;
     }
 }

@@ -6,26 +6,20 @@ use crate::bytes;
 use command::fields::Command;
 use command::{layout, rows};
 
-#[derive(Clone, Copy)]
-pub enum Writing {
-    Done(usize),
-    Refused,
-}
-
-pub fn write(out: &mut [u8], at: usize, c: Command) -> Writing
+pub fn write(out: &mut [u8], at: usize, c: Command) -> Option<usize>
     ensures { Written out.old at c result out.new }
 {
     if !rows::names_fields(c) {
-        return Writing::Refused;
+        return None;
     }
     let kind = c.byte % 16;
     let size = layout::size_of(kind);
     if out.len() < at {
-        return Writing::Refused;
+        return None;
     }
     if out.len() - at < size {
-        return Writing::Refused;
+        return None;
     }
     bytes::put_row(out, at, kind, rows::of(c));
-    Writing::Done(at + size)
+    Some(at + size)
 }

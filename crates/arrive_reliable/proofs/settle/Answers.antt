@@ -14,4 +14,4 @@ returns c =
     let a = c.args in
     let ws = a.words.now in
     settled (whole ws) (whole h.new.words) (whole i.new.words) (whole w.new.words) (whole d.new.words) a.i a.number.0 a.s a.slot a.waiting
-    (omega (arith, (sized ws).channels, c.requires.i_lt_channels)) h.ensures i.ensures w.ensures d.ensures
+    (omega (arith, (sized ws).channels, c.requires)) h.ensures i.ensures w.ensures d.ensures

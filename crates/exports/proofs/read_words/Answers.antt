@@ -1,22 +1,13 @@
--- `read_words` reads a word a turn: the words read and those left in the buffer are always the whole row.
-use mathlib.Core.Path.{sym, ◌∙◌}
+-- `read_words` makes the row of the words at its places, each by one call.
+use Prim.Native.Nat.{◌+◌, ◌*◌}
 use native.Mathlib.Omega.{arith}
-use lib.ListN.{replicate, length-set}
 use borrow.Author.Rules.{rules}
-use Rattle.numbers.specs.Limits.{window_words}
-use Rattle.exports.proofs.Words.{read_start, read_step, read_done}
+use Rattle.command.specs.Bytes.{number_at}
+use Rattle.exports.proofs.Words.{row_by_place, made}
 use Rattle.exports.proofs.read_words.Goals as goal
 
-pub loop-i-init : goal.loop-i-init
-loop-i-init c = (search rules, search rules, read_start c.args.s.now window_words (replicate window_words 0))
-
-pub loop-i-preserved : goal.loop-i-preserved
-loop-i-preserved c = (
-  search rules,
-  simp length-set c.loop-i.invariant.1,
-  read_step c.args.s.now window_words c.loop-i.words c.loop-i.i c.word_at.result (omega arith) (omega arith) c.word_at.ensures
-      ∙ c.loop-i.invariant.2,
-)
-
 pub returns : goal.returns
-returns c = sym (read_done c.args.s.now window_words c.loop-i.words c.loop-i.i (omega arith) (omega arith)) ∙ c.loop-i.invariant.2
+returns c =
+    let s = c.args.s.now in
+    let m = c.from_fn.ensures.items in
+    row_by_place s c.from_fn.result 0 32 m.long (λ k h. made _ _ (λ i. number_at s (0 + 4 * i) 4) (λ i r q e. search rules) _ 0 32 m.each k (omega arith) (omega arith))

@@ -1,4 +1,4 @@
--- `word_at` adds up the four bytes as the definition does, in two halves.
+-- `word_at` adds up the four bytes as the definition does.
 use mathlib.Core.Path.{◌≡◌}
 use Prim.Native.Nat.{◌+◌}
 use native.Mathlib.Omega.{arith}

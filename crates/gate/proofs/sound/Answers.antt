@@ -23,7 +23,7 @@ returns-then-not-out_side c =
 pub in_side-requires : goal.in_side-requires
 in_side-requires c =
     let ws = c.args.words.now in
-    record { words_len = c.requires; count_le_channels = count_low (get_or ws 39 0) (get_or ws 6 0) (sym c.ranged.ensures ∙ not-false _ c.if-not-ranged.false-raw) }
+    count_low (get_or ws 39 0) (get_or ws 6 0) (sym c.ranged.ensures ∙ not-false _ c.if-not-ranged.false-raw)
 
 pub returns : goal.returns
 returns c =

@@ -3,4 +3,4 @@ use Rattle.lifecycle.proofs.Places.{put_limits_lem}
 use Rattle.lifecycle.proofs.put_limits.Goals as goal
 
 pub returns : goal.returns
-returns c = put_limits_lem c.args.words.now c.requires c.args.x
+returns c = put_limits_lem c.args.words.now c.told-words c.args.x

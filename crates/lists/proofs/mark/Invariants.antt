@@ -1,13 +1,11 @@
 -- `mark` meets its contract: the marks of the whole list are those so far and those of what is left of it, a turn at a time; a slot that does not exist leaves none.
-use Prim.Native.Nat.{◌-◌, ◌≤◌}
 use mathlib.Core.Path.{◌≡◌}
-use lib.ListN.{length, drop}
+use lib.ListN.{drop}
 use Rattle.cells.specs.Free.{marked_all}
 use Rattle.lists.specs.Rows.{row_at, items_of}
 use Rattle.lists.proofs.mark.Given as goal
 
 abbrev pub invariant-loop-k : goal.invariant-loop-k
-invariant-loop-k l = (l.k ≤ l.n) × (l.n ≡ length (items_of (row_at l.at l.size l.words))) × (length l.marks ≡ length l.initial.marks) × (marked_all l.initial.marks (items_of (row_at l.at l.size l.words)) ≡ marked_all l.marks (drop l.k (items_of (row_at l.at l.size l.words))))
-
-abbrev pub decreases-loop-k : goal.decreases-loop-k
-decreases-loop-k l = l.n - l.k
+invariant-loop-k l =
+    marked_all l.initial.marks (items_of (row_at l.at l.size l.words))
+    ≡ marked_all l.marks (drop l.k (items_of (row_at l.at l.size l.words)))

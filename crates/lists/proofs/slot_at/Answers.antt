@@ -3,28 +3,13 @@ use mathlib.Core.Path.{sym, ◌∙◌}
 use native.Mathlib.Omega.{arith}
 use lib.ListN.{get_or-eq_default}
 use Rattle.lists.specs.Rows.{row_at, items_of}
-use Rattle.lists.proofs.Placed.{items_length, item_at}
+use Rattle.lists.proofs.Placed.{item_at}
 use Rattle.lists.proofs.slot_at.Goals as goal
 
 pub returns-then-count-k : goal.returns-then-count-k
 returns-then-count-k c =
     let a = c.args in
     sym (get_or-eq_default (items_of (row_at a.at a.size a.words.now)) 0 (omega (arith, c.count.ensures, c.if-count-k.true)))
-
-pub overflow_add-at-2 : goal.overflow_add-at-2
-overflow_add-at-2 c =
-    let a = c.args in
-    omega (arith, items_length a.words.now a.at a.size c.requires, c.count.ensures)
-
-pub offset_bounds-words-at : goal.offset_bounds-words-at
-offset_bounds-words-at c =
-    let a = c.args in
-    omega (arith, items_length a.words.now a.at a.size c.requires, c.count.ensures)
-
-pub bounds-words-at : goal.bounds-words-at
-bounds-words-at c =
-    let a = c.args in
-    omega (arith, items_length a.words.now a.at a.size c.requires, c.count.ensures)
 
 pub returns : goal.returns
 returns c =

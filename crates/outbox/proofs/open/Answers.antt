@@ -3,4 +3,4 @@ use Rattle.outbox.proofs.open.Goals as goal
 
 pub returns : goal.returns
 returns c =
-    rw (c.totals-totals.ensures, c.waiting-waiting.ensures, c.counters_at-counters.ensures, c.mark.ensures, c.requires.marks_value)
+    rw (c.totals-totals.ensures, c.waiting-waiting.ensures, c.counters_at-counters.ensures, c.mark.ensures, c.requires)

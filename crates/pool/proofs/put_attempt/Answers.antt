@@ -2,7 +2,7 @@
 use Prim.Native.Nat.{◌<◌}
 use mathlib.Core.Path.{sym}
 use native.Mathlib.Omega.{arith}
-use lib.ListN.{length-set, get_or}
+use lib.ListN.{get_or}
 use Rattle.record.specs.Fresh.{no_outgoing}
 use Rattle.record.specs.Updates.{with_attempt}
 use Rattle.pool.specs.Slots.{slot_from, slots_of}
@@ -15,12 +15,6 @@ returns-then-i-ge-OUTGOING c =
     let a = c.args in
     let ws = a.pool.now in
     sym (rows_out slot_from 26 32 ws a.i (with_attempt (get_or (slots_of ws) a.i no_outgoing) a.sent a.timeout a.attempts) c.if-i-ge-OUTGOING.true)
-
-pub bounds-pool-at-2 : goal.bounds-pool-at-2
-bounds-pool-at-2 c = rw length-set (omega arith)
-
-pub bounds-pool-at-3 : goal.bounds-pool-at-3
-bounds-pool-at-3 c = rw (length-set, length-set) (omega arith)
 
 pub returns : goal.returns
 returns c =

@@ -10,5 +10,5 @@ pub returns : goal.returns
 returns c =
     let part = c.args.part in
     let e : c.copy.new.to ≡ take 16 (drop 9 part) = c.copy.ensures ∙ paste_over (replicate 16 0) (drop 9 part) 16 refl in
-    slot_made part c.low16.result c.low16-2.result c.low16-length.result c.low16-attempts.result c.decoded-command.result
-    c.low16.ensures c.low16-2.ensures c.low16-length.ensures c.low16-attempts.ensures (c.decoded-command.ensures ∙ ap (decoded (get_or part 25 0)) e)
+    slot_made part c.low16.result c.low16-2.result c.low16-3.result c.low16-4.result c.decoded-command.result
+    c.low16.ensures c.low16-2.ensures c.low16-3.ensures c.low16-4.ensures (c.decoded-command.ensures ∙ ap (decoded (get_or part 25 0)) e)

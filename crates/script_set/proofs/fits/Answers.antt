@@ -7,9 +7,6 @@ use Rattle.script_set.proofs.Laws.{fits_bits, fits_all}
 use borrow.Author.Rules.{rules}
 use Rattle.script_set.proofs.fits.Goals as goal
 
-pub returns-then-bits-eq0 : goal.returns-then-bits-eq0
-returns-then-bits-eq0 c = rw c.if-bits-eq0.true
-
 pub returns-then-bits-ge32 : goal.returns-then-bits-ge32
 returns-then-bits-ge32 c =
     let e = c.args.place in

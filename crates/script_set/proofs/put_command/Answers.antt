@@ -1,21 +1,15 @@
--- `put_command` meets its contract: sixteen numbers copied, and the kind behind them.
-use Prim.Native.Nat.{ℕ}
-use mathlib.Core.Path.{◌≡◌, ap, ◌∙◌}
-use mathlib.Core.List.{[], ◌∷◌, ◌++◌}
+-- `put_command` meets its contract: sixteen numbers, and the kind behind them.
+use mathlib.Core.Path.{◌≡◌, ◌∙◌}
 use lib.ListN.{length}
-use lib.Seq.{sets}
+use borrow.Author.Rules.{rules}
 use Rattle.command.specs.Bytes.{pad}
 use Rattle.command.specs.Rows.{row_of}
-use native.Mathlib.Omega.{arith}
-use Rattle.script_set.proofs.Laws.{command_put}
-use borrow.Author.Rules.{rules}
+use Rattle.script_set.proofs.Laws.{one_behind}
 use Rattle.script_set.proofs.put_command.Goals as goal
 
 pub returns : goal.returns
 returns c =
     let a = c.args in
     let o = c.of-row in
-    let k = c.kind_of-kind in
     let row : length o.result ≡ 16 = search rules in
-    command_put a.words.now o.result (pad 16 (row_of a.c)) c.copy.new.to a.i k.result (omega arith) row o.ensures c.copy.ensures
-    ∙ ap (λ (n : ℕ). sets a.words.now a.i (pad 16 (row_of a.c) ++ (n ∷ []))) k.ensures
+    rw c.put_all.ensures (one_behind a.words.now o.result (pad 16 (row_of a.c)) a.i _ _ row o.ensures (c.from.ensures ∙ c.kind_of.ensures))

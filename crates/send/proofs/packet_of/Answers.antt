@@ -9,7 +9,7 @@ pub overflow_cast-fragment : goal.overflow_cast-fragment
 overflow_cast-fragment c =
     let a = c.args in
     let f = (whole a.words.now).flow in
-    let h : c.fragment_length-fragment.result ≤ 65535 = rw (c.fragment_length-fragment.ensures, c.flow-flow.ensures) (length_high f.mtu a.settings.checksum c.requires.words_bound) in
+    let h : c.fragment_length-fragment.result ≤ 65535 = rw (c.fragment_length-fragment.ensures, c.flow-flow.ensures) (length_high f.mtu a.settings.checksum c.requires) in
     search rules
 
 pub returns : goal.returns

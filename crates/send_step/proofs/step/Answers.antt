@@ -1,56 +1,36 @@
 -- `step` goes by the gate, then asks for the head: the changes one after the other are the rule's record.
+use Rattle.std.specs.Prelude.{Ok, Some}
 use Rattle.std.proofs.Common.{sym, refl, subst}
 use Rattle.record.specs.Lists.{out_items}
 use Rattle.peer.specs.Outcome.{Came}
 use Rattle.peer.specs.declared.gate.Lent.TheVariants.{Nothing}
 use Rattle.peer.specs.declared.Peer.{Peer}
-use Rattle.peer.proofs.Gates.{AtGate, came_shut}
+use Rattle.peer.proofs.Gates.{AtGate}
 use Rattle.places.specs.Whole.{whole}
 use Rattle.send_step.specs.Steps.{times_sent, packet_sent, flow_sent, lists_sent}
-use Rattle.send_step.specs.Calls.{answer_of, steps, steps_sound}
-use Rattle.send_step.specs.declared.Reply.TheVariants as vr
-use Rattle.send_step.proofs.Steps.{step_empty, step_named, step_slot}
+use Rattle.send_step.specs.Calls.{answer_of, steps}
+use Rattle.send_step.proofs.Steps.{step_named, step_slot}
 use Rattle.send_step.proofs.Changes.{stepped}
 use Rattle.send_step.proofs.step.Goals as goal
 
-pub returns-in-Shut : goal.returns-in-Shut
-returns-in-Shut c =
-    let k = c.ask-gate in
-    let a = c.args in
-    let p = whole a.words.now in
-    let q : AtGate a.settings Nothing p = record { gate = k.result; is = k.ensures } in
-    record { came = came_shut q p (steps_sound a.q a.time p) answer_of (vr.Refused c.in-Shut.why) c.in-Shut.why refl c.in-Shut.is; named = tt }
-
-pub returns-in_default-first : goal.returns-in_default-first
-returns-in_default-first c =
-    let k = c.ask-gate in
-    let a = c.args in
-    let p = whole a.words.now in
-    let q : AtGate a.settings Nothing p = record { gate = k.result; is = k.ensures } in
-    let f = c.first_of-first in record {
-      came = step_empty a.settings a.q a.time p q c.in_default.is f.result f.ensures
-          c.in_default-first.is;
-      named = tt;
-    }
-
 pub returns : goal.returns
 returns c =
-    let k = c.ask-gate in
+    let k = c.ask in
     let a = c.args in
     let p = whole a.words.now in
     let q : AtGate a.settings Nothing p = record { gate = k.result; is = k.ensures } in
-    let opens = c.in_default.is in
+    let opens = c.in_ok-ask.was in
     let f = c.first_of-first in
     let o = c.attempt-o in
     let z = o.result in
     let done =
     stepped p (whole o.new.words) (whole c.count.new.words) (whole c.time.new.words) (whole c.carry.new.words)
-    (whole c.move_on.new.words) a.q c.in-Slot.s z o.ensures.kept c.count.ensures c.time.ensures c.carry.ensures
+    (whole c.move_on.new.words) a.q c.in-Some.s z o.ensures.kept c.count.ensures c.time.ensures c.carry.ensures
     c.move_on.ensures in record {
-      came = subst (λ (y : Peer). Came answer_of (steps a.settings a.q a.time p) (vr.Head z) y) (sym done)
-          (step_slot a.settings a.q a.time p q opens f.result f.ensures c.in-Slot.s c.in-Slot.is z
+      came = subst (λ (y : Peer). Came answer_of (steps a.settings a.q a.time p) (Ok (Some z)) y) (sym done)
+          (step_slot a.settings a.q a.time p q opens f.result f.ensures c.in-Some.s c.in-Some.is z
           o.ensures.out (times_sent p.times (out_items p.lists.sent) z) (packet_sent p.loss) (flow_sent p.flow z)
-          (lists_sent a.q p.lists c.in-Slot.s z) refl refl refl refl);
-      named = step_named a.settings a.q a.time p q opens f.result f.ensures c.in-Slot.s c.in-Slot.is z
+          (lists_sent a.q p.lists c.in-Some.s z) refl refl refl refl);
+      named = step_named a.settings a.q a.time p q opens f.result f.ensures c.in-Some.s c.in-Some.is z
           o.ensures.out;
     }

@@ -1,45 +1,39 @@
 -- `parse` meets its contract: edition, numbers and stored bytes are read one behind the other, each by the rule's case.
 use Prim.Native.Nat.{ℕ}
-use mathlib.Core.Path.{◌≡◌, ap, ◌∙◌}
+use mathlib.Core.Path.{ap, ◌∙◌}
 use mathlib.Core.List.{List}
 use native.Mathlib.Omega.{arith}
-use lib.ListN.{drop, replicate}
-use borrow.Author.Rules.{rules}
+use lib.ListN.{drop}
+use Rattle.std.specs.Prelude.{Option}
 use Rattle.snapshot_parts.specs.Row.{numbers_from, result_of}
-use Rattle.snapshot_parts.specs.CodeRow.{end_of}
 use Rattle.snapshot.proofs.RestoreLaws.{edition_none, numbers_none, bytes_other, bytes_all}
 use Rattle.snapshot.proofs.parse.Goals as goal
 
-pub returns-in-Unread : goal.returns-in-Unread
-returns-in-Unread c =
-    let b = c.begin in
-    record { snapshot = edition_none c.args.bytes.now b.result b.ensures.edition c.in-Unread.is; inside = omega arith }
+pub returns-in_err-at-clause-snapshot : goal.returns-in_err-at-clause-snapshot
+returns-in_err-at-clause-snapshot c =
+    let a = c.args in
+    ap (λ (r : Option ℕ). result_of r a.words.now a.bytes.now) c.from_residual.ensures ∙ edition_none a.bytes.now c.in_err-at.ensures.edition
 
-pub read-requires : goal.read-requires
-read-requires c = record { words_len = search rules; at_in_bounds = omega (arith, ap end_of c.in-Read.is, c.begin.ensures.inside) }
+pub returns-in_err-end-clause-snapshot : goal.returns-in_err-end-clause-snapshot
+returns-in_err-end-clause-snapshot c =
+    let bs = c.args.bytes.now in
+    let at = c.in_ok-at.at in
+    ap (λ (r : Option ℕ). result_of r c.read.new.words bs) c.from_residual-in_err-end.ensures
+    ∙ numbers_none bs at c.in_ok-at.ensures.edition
+    (c.in_err-end.ensures.numbers ∙ ap (λ (ws : List ℕ). numbers_from 1236 0 ws (drop at bs)) c.requires)
 
-pub returns-in-Unread-read : goal.returns-in-Unread-read
-returns-in-Unread-read c =
-    let bytes_of : List ℕ = c.args.bytes.now in
-    let place_of : ℕ = c.in-Read.end in
-    let numbers : result_of c.read.result c.read.new.words bytes_of ≡ numbers_from 1236 0 (replicate 1236 0) (drop place_of bytes_of) = c.read.ensures.numbers ∙ ap (λ ws. numbers_from 1236 0 ws (drop place_of bytes_of)) c.requires.words_value in
-    let b = c.begin in
-    record { snapshot = numbers_none bytes_of b.result b.ensures.edition place_of c.in-Read.is c.read.result _ numbers c.in-Unread-read.is; inside = omega arith }
+pub returns-then-bytes-end-clause-snapshot : goal.returns-then-bytes-end-clause-snapshot
+returns-then-bytes-end-clause-snapshot c =
+    let bs = c.args.bytes.now in
+    let at = c.in_ok-at.at in
+    bytes_other bs at c.in_ok-at.ensures.edition c.read.new.words c.in_ok-end.end
+    (c.in_ok-end.ensures.numbers ∙ ap (λ (ws : List ℕ). numbers_from 1236 0 ws (drop at bs)) c.requires)
+    (λ h. omega (arith, c.if-bytes-end.true, c.size.ensures))
 
-pub overflow_sub-bytes : goal.overflow_sub-bytes
-overflow_sub-bytes c =
-    omega (arith, ap end_of c.in-Read-read.is, c.read.ensures.inside)
-
-pub returns-then-bytes-end : goal.returns-then-bytes-end
-returns-then-bytes-end c =
-    let bytes_of : List ℕ = c.args.bytes.now in
-    let place_of : ℕ = c.in-Read.end in
-    let numbers : result_of c.read.result c.read.new.words bytes_of ≡ numbers_from 1236 0 (replicate 1236 0) (drop place_of bytes_of) = c.read.ensures.numbers ∙ ap (λ ws. numbers_from 1236 0 ws (drop place_of bytes_of)) c.requires.words_value in
-    let b = c.begin in record { snapshot = bytes_other bytes_of b.result b.ensures.edition place_of c.in-Read.is c.read.result _ numbers c.in-Read-read.end c.in-Read-read.is (λ h. omega (arith, c.if-bytes-end.true, c.size.ensures)); inside = omega arith }
-
-pub returns : goal.returns
-returns c =
-    let bytes_of : List ℕ = c.args.bytes.now in
-    let place_of : ℕ = c.in-Read.end in
-    let numbers : result_of c.read.result c.read.new.words bytes_of ≡ numbers_from 1236 0 (replicate 1236 0) (drop place_of bytes_of) = c.read.ensures.numbers ∙ ap (λ ws. numbers_from 1236 0 ws (drop place_of bytes_of)) c.requires.words_value in
-    let b = c.begin in record { snapshot = bytes_all bytes_of b.result b.ensures.edition place_of c.in-Read.is c.read.result _ numbers c.in-Read-read.end c.in-Read-read.is (omega (arith, c.if-bytes-end.false, c.size.ensures)); inside = omega (arith, ap end_of c.in-Read-read.is, c.read.ensures.inside) }
+pub returns-clause-snapshot : goal.returns-clause-snapshot
+returns-clause-snapshot c =
+    let bs = c.args.bytes.now in
+    let at = c.in_ok-at.at in
+    bytes_all bs at c.in_ok-at.ensures.edition c.read.new.words c.in_ok-end.end
+    (c.in_ok-end.ensures.numbers ∙ ap (λ (ws : List ℕ). numbers_from 1236 0 ws (drop at bs)) c.requires)
+    (omega (arith, c.if-bytes-end.false, c.size.ensures))

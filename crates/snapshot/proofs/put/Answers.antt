@@ -1,34 +1,28 @@
 -- `put` meets its contract: edition, numbers and stored bytes are set one behind the other; the buffer has room for all of them.
-use Prim.Native.Nat.{◌+◌, ◌≤◌}
 use native.Mathlib.Omega.{arith}
-use lib.ListN.{length}
-use borrow.Author.Rules.{rules}
 use Rattle.peer.specs.Outcome.{State}
 use Rattle.places.specs.Whole.{whole}
 use Rattle.places.proofs.Sized.{sized}
-use Rattle.snapshot.proofs.WriteLaws.{numbers, total, edition_one, snapshot_length, put_is}
+use Rattle.snapshot.proofs.WriteLaws.{edition_one, parts_fit, put_is}
 use Rattle.snapshot.proofs.put.Goals as goal
 
 pub put-requires : goal.put-requires
 put-requires c =
     let state : State = record { peer = whole c.args.words.now; store = c.args.store.now; second = c.args.second.now } in
-    let room : 1 + length (numbers state) + total state ≤ length c.args.buffer.now =
-    omega (arith, c.requires.second_in_bounds, snapshot_length state (sized c.args.words.now).incoming c.requires.store_len.0 c.requires.store_len.1) in
+    let room = parts_fit state (sized c.args.words.now).incoming c.requires.store_len.0 c.requires.store_len.1 _ c.requires.second_in_bounds in
     omega (arith, edition_one, room)
 
 pub put-end-requires : goal.put-end-requires
 put-end-requires c =
     let state : State = record { peer = whole c.args.words.now; store = c.args.store.now; second = c.args.second.now } in
-    let room : 1 + length (numbers state) + total state ≤ length c.args.buffer.now =
-    omega (arith, c.requires.second_in_bounds, snapshot_length state (sized c.args.words.now).incoming c.requires.store_len.0 c.requires.store_len.1) in
-    record { words_len = search rules; words_in_bounds = omega (arith, room) }
+    let room = parts_fit state (sized c.args.words.now).incoming c.requires.store_len.0 c.requires.store_len.1 _ c.requires.second_in_bounds in
+    omega (arith, room)
 
-pub put-requires-2 : goal.put-requires-2
-put-requires-2 c =
+pub put-requires-2-clause-words_in_bounds : goal.put-requires-2-clause-words_in_bounds
+put-requires-2-clause-words_in_bounds c =
     let state : State = record { peer = whole c.args.words.now; store = c.args.store.now; second = c.args.second.now } in
-    let room : 1 + length (numbers state) + total state ≤ length c.args.buffer.now =
-    omega (arith, c.requires.second_in_bounds, snapshot_length state (sized c.args.words.now).incoming c.requires.store_len.0 c.requires.store_len.1) in
-    record { words_len = search rules; store_len = search rules; words_in_bounds = omega (arith, c.put-end.ensures.end, room) }
+    let room = parts_fit state (sized c.args.words.now).incoming c.requires.store_len.0 c.requires.store_len.1 _ c.requires.second_in_bounds in
+    omega (arith, c.put-end.ensures.end, room)
 
 pub returns : goal.returns
 returns c =

@@ -1,5 +1,6 @@
 -- `lay` meets its contract: where a test fails nothing changes, else the copy is what the tests pick.
-use Rattle.std.proofs.Common.{sym}
+use Rattle.std.proofs.Common.{sym, rules}
+use Rattle.std.proofs.lemmas.Slice.{overwrites}
 use Rattle.arrival.proofs.Cells.{laid_is, laid_short, laid_ended}
 use Rattle.arrival.proofs.storing.lay.Goals as goal
 
@@ -16,4 +17,5 @@ returns-then-datagram-from c =
 pub returns : goal.returns
 returns c =
     let a = c.args in
-    rw (laid_is a.store.now a.to a.datagram.now a.place a.n c.if-store-at.false c.if-datagram-from.false) c.copy.ensures
+    rw (laid_is a.store.now a.to a.datagram.now a.place a.n c.if-store-at.false c.if-datagram-from.false)
+    (search (rules, overwrites))

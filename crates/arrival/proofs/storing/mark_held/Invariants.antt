@@ -1,5 +1,5 @@
--- `mark_held` meets its contract: the marks of all are those so far and those of the channels that are left, a channel at a time; the measure is the channels that are left.
-use Rattle.std.proofs.Common.{◌≡◌, ◌-◌, ◌≤◌, length, take, drop}
+-- `mark_held` meets its contract: the marks of all are those so far and those of the channels that are left, a channel at a time.
+use Rattle.std.proofs.Common.{◌≡◌, take, drop}
 use Rattle.cells.specs.Free.{marked_all}
 use Rattle.record.specs.Damage.{held}
 use Rattle.places.specs.Whole.{whole}
@@ -7,7 +7,4 @@ use Rattle.arrival.proofs.storing.mark_held.Given as goal
 
 abbrev pub invariant-loop-k : goal.invariant-loop-k
 invariant-loop-k l =
-    (l.k ≤ 8) × (length l.marks ≡ length l.initial.marks) × (marked_all l.initial.marks (held (take l.count (whole l.words).channels)) ≡ marked_all l.marks (held (drop l.k (take l.count (whole l.words).channels))))
-
-abbrev pub decreases-loop-k : goal.decreases-loop-k
-decreases-loop-k l = 8 - l.k
+    marked_all l.initial.marks (held (take l.count (whole l.words).channels)) ≡ marked_all l.marks (held (drop l.k (take l.count (whole l.words).channels)))

@@ -1,5 +1,4 @@
 -- Whether the channels below the count hold a block is whether those that are left do, a channel at a time.
-use Prim.Native.Nat.{◌-◌, ◌≤◌}
 use mathlib.Core.Path.{◌≡◌}
 use lib.ListN.{take, drop}
 use Rattle.record.specs.Damage.{held, blocks}
@@ -10,7 +9,4 @@ abbrev pub invariant-loop-k : goal.invariant-loop-k
 invariant-loop-k l =
     let slots = (whole l.words).incoming in
     let cs = take l.count (whole l.words).channels in
-    (l.k ≤ 8) × (blocks slots (held cs) ≡ blocks slots (held (drop l.k cs)))
-
-abbrev pub decreases-loop-k : goal.decreases-loop-k
-decreases-loop-k l = 8 - l.k
+    blocks slots (held cs) ≡ blocks slots (held (drop l.k cs))

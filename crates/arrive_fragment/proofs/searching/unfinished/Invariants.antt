@@ -1,5 +1,4 @@
 -- What the whole list holds of that start is what is left of it holds, a turn at a time.
-use Prim.Native.Nat.{◌-◌, ◌≤◌}
 use mathlib.Core.Path.{◌≡◌}
 use lib.ListN.{take, drop}
 use Rattle.record.specs.Lists.{in_items}
@@ -11,8 +10,5 @@ use Rattle.arrive_fragment.proofs.searching.unfinished.Given as goal
 abbrev pub invariant-loop-k : goal.invariant-loop-k
 invariant-loop-k l =
     let slots = (whole l.words).incoming in
-    let xs = take l.n (in_items (held_of (whole l.words) l.i)) in
-    (l.k ≤ l.n) × (unfinished slots xs l.start.0 ≡ unfinished slots (drop l.k xs) l.start.0)
-
-abbrev pub decreases-loop-k : goal.decreases-loop-k
-decreases-loop-k l = l.n - l.k
+    let xs = take l.k-end (in_items (held_of (whole l.words) l.i)) in
+    unfinished slots xs l.start.0 ≡ unfinished slots (drop l.k xs) l.start.0

@@ -1,30 +1,25 @@
--- `find` meets its contract: the search on the whole view is the search on what is left of it, a turn at a time.
-use mathlib.Core.Path.{sym, ◌∙◌}
-use native.Mathlib.Omega.{arith}
+-- `find` meets its contract: it is std's `position` of the cells in view.
+use mathlib.Core.Path.{◌≡◌, ap, sym, ◌∙◌}
+use Prim.Native.Nat.{ℕ}
+use mathlib.Core.List.{List}
+use lib.Dec.{eqb}
+use lib.ListN.{take}
+use Rattle.std.proofs.Common.{rules, tests}
+use Rattle.std.specs.Prelude.{position}
+use Rattle.std.proofs.lemmas.Iterator.{YieldsList-from_slice}
+use Rattle.std.proofs.lemmas.Iterator.Search.{position_from_yields_List}
+use Rattle.cells.specs.Runs.{find_from}
 use Rattle.cells.proofs.CellLaws.{clip}
-use Rattle.cells.proofs.WalkLaws.{find_hit, find_miss, find_end}
+use Rattle.cells.proofs.WalkLaws.{find_position}
 use Rattle.cells.proofs.narrow.find.Goals as goal
-
-pub loop-j-init : goal.loop-j-init
-loop-j-init c =
-    let a = c.args in
-    let m = c.least-m in
-    (omega arith, omega arith, rw (clip a.cells.now a.n m.result m.ensures))
-
-pub returns-then-cells-j : goal.returns-then-cells-j
-returns-then-cells-j c =
-    let a = c.args in
-    let v = c.least-m.result in
-    sym (c.loop-j.invariant.2 ∙ find_hit a.cells.now v c.loop-j.j a.s (omega arith) (omega arith) c.if-cells-j.true)
-
-pub loop-j-preserved : goal.loop-j-preserved
-loop-j-preserved c =
-    let a = c.args in
-    let v = c.least-m.result in
-    (omega arith, omega arith, c.loop-j.invariant.2 ∙ find_miss a.cells.now v c.loop-j.j a.s (omega arith) (omega arith) c.if-cells-j.false)
 
 pub returns : goal.returns
 returns c =
     let a = c.args in
-    let v = c.least-m.result in
-    sym (c.loop-j.invariant.2 ∙ find_end a.cells.now v c.loop-j.j a.s (omega arith))
+    let view = take c.min.result a.cells.now in
+    let test = (λ (x : ℕ). eqb x a.s) in
+    let e : c.position.result ≡ position test view =
+    position_from_yields_List test _ _ c.position.result c.position.ensures.ran (YieldsList-from_slice view cc) (λ x b q k. search (rules, tests)) in
+    e
+    ∙ find_position view a.s
+    ∙ ap (λ (xs : List ℕ). find_from 0 xs a.s) (sym (clip a.cells.now a.n c.min.result c.min.ensures))

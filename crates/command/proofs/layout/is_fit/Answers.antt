@@ -1,8 +1,7 @@
 -- The loop tests a number a turn: the whole row fits where the rest does. Sixteen places cover every layout.
 use mathlib.Core.Path.{sym, ap, ◌∙◌}
-use mathlib.Core.Bool.{Bool}
+use mathlib.Core.Bool.{Bool, true, false}
 use lib.ListN.{drop}
-use borrow.Author.Tests.{not-true, not-false}
 use Rattle.numbers.specs.Pick.{both}
 use Rattle.command.specs.Layout.{known, layout}
 use Rattle.command.specs.Bytes.{fits}
@@ -23,20 +22,16 @@ returns-then-not-is_within c =
     let a = c.args in
     let l = c.loop-j in
     let w = c.width_of in
-    let r = c.is_within in
-    let t = fits_turn (layout a.kind) a.row l.j w.result r.result (layout-narrow a.kind) (omega arith) w.ensures r.ensures in
-    let n = not-true r.result c.if-not-is_within.true-raw in
-    sym (both_false (known a.kind) (fits (layout a.kind) a.row) (l.invariant.1 ∙ t ∙ rw n))
+    let t = fits_turn (layout a.kind) a.row l.j w.result false (layout-narrow a.kind) (omega arith) w.ensures c.if-not-is_within.ensures in
+    sym (both_false (known a.kind) (fits (layout a.kind) a.row) (l.invariant ∙ t))
 
 pub loop-j-preserved : goal.loop-j-preserved
 loop-j-preserved c =
     let a = c.args in
     let l = c.loop-j in
     let w = c.width_of in
-    let r = c.is_within in
-    let t = fits_turn (layout a.kind) a.row l.j w.result r.result (layout-narrow a.kind) (omega arith) w.ensures r.ensures in
-    let n = not-false r.result c.if-not-is_within.false-raw in
-    (omega arith, l.invariant.1 ∙ t ∙ rw n)
+    l.invariant
+    ∙ fits_turn (layout a.kind) a.row l.j w.result true (layout-narrow a.kind) (omega arith) w.ensures c.if-not-is_within.ensures
 
 pub returns : goal.returns
 returns c =
@@ -46,4 +41,4 @@ returns c =
     let h = layout-length a.kind in
     sym
     (both_true (known a.kind) (fits (layout a.kind) a.row) (size_known a.kind (λ z. omega arith))
-    (l.invariant.1 ∙ fits_end (layout a.kind) (drop l.j a.row) l.j (omega arith)))
+    (l.invariant ∙ fits_end (layout a.kind) (drop l.j a.row) l.j (omega arith)))

@@ -1,5 +1,5 @@
 -- The size of each command is the sum of its widths: one computed test over the table, and an empty layout past it.
-use mathlib.Core.Path.{◌≡◌, sym, ◌∙◌}
+use mathlib.Core.Path.{sym}
 use Rattle.command.specs.Layout.{layout, total, size_of}
 use Rattle.command.proofs.TableLaws.{entry}
 use Rattle.command.proofs.LayoutLaws.{size_none, not_known}
@@ -11,7 +11,4 @@ returns-then-kind-ge16 c = sym (size_none c.args.kind (not_known c.args.kind (om
 
 pub returns : goal.returns
 unfolding layout total
-returns c =
-    let k = c.args.kind in
-    let e : c.wide.result ≡ k = c.wide.ensures in
-    c.wide-2.ensures ∙ (rw e (entry size_of 0 16 k (omega arith)))
+returns c = entry size_of 0 16 c.args.kind (omega arith)

@@ -1,5 +1,5 @@
 -- The width at each place of each command: the table is the layouts with zeros at their ends, by computing; none past it.
-use mathlib.Core.Path.{◌≡◌, sym, ap, ◌∙◌}
+use mathlib.Core.Path.{sym, ap, ◌∙◌}
 use mathlib.Core.List.{List, []}
 use Prim.Native.Nat.{ℕ}
 use lib.ListN.{get_or, get_or-eq_default}
@@ -25,6 +25,4 @@ unfolding layout pad
 returns c =
     let k = c.args.kind in
     let j = c.args.j in
-    let e : c.wide.result ≡ k = c.wide.ensures in
-    c.wide-2.ensures
-    ∙ rw e (ap (λ (ws : List ℕ). get_or ws j 0) (entry (λ n. pad 16 (layout n)) [] 16 k (omega arith)) ∙ pad_at 16 (layout k) j (omega arith))
+    ap (λ (ws : List ℕ). get_or ws j 0) (entry (λ n. pad 16 (layout n)) [] 16 k (omega arith)) ∙ pad_at 16 (layout k) j (omega arith)

@@ -1,26 +1,21 @@
--- After k turns the first k cells are read; a turn is one more, the measure is what is left.
-use Prim.Native.Nat.{◌-◌}
-use mathlib.Core.Path.{refl}
-use native.Mathlib.Omega.{arith}
-use lib.ListN.{length, length-set}
-use Rattle.copies.proofs.ListLaws.{cells_turn, cells_end}
+-- Each cell is read from its place.
+use mathlib.Core.Path.{◌≡◌, sym, ◌∙◌}
+use Prim.Native.Nat.{◌+◌}
+use lib.ListN.{get_or, drop}
 use borrow.Author.Rules.{rules}
+use Rattle.lists.specs.Rows.{low}
+use Rattle.lists.proofs.Mapped.{map-take}
+use Rattle.copies.proofs.Filling.{from_fn_front}
+use Rattle.copies.proofs.ListLaws.{cells_from, cell_is, cells_long}
 use Rattle.copies.proofs.reading.cells.Goals as goal
 
-pub loop-k-init : goal.loop-k-init
-loop-k-init c = (search rules, refl, refl)
-
-pub loop-k-preserved : goal.loop-k-preserved
-loop-k-preserved c =
-    let l = c.loop-k in
-    let a = c.args in (
-      omega arith,
-      rw length-set l.invariant.1,
-      cells_turn a.words.now l.slots a.at l.k c.low16-s.result (search rules) (search rules) l.invariant.2 c.low16-s.ensures,
-    )
-
 pub returns : goal.returns
-returns c =
-    let l = c.loop-k in
-    let a = c.args in
-    cells_end a.words.now l.slots a.at (length a.slots.now) l.k l.invariant.1 (omega arith) l.invariant.2
+returns g c =
+    let at = c.args.at in
+    let ws = c.args.words.now in
+    from_fn_front _ _ _ (cells_from ws at) 0
+    (λ k y q h.
+    let e : y ≡ low (get_or ws (at + k) 0) = search rules in
+    (search rules, e ∙ cell_is ws at k))
+    g.row.N c.from_fn.ensures.items (cells_long ws at g.row.N c.requires)
+    ∙ sym (map-take low g.row.N (drop at ws))

@@ -4,4 +4,4 @@ use Rattle.copies.proofs.reading.in_list.Goals as goal
 
 pub returns : goal.returns
 returns c =
-    in_made c.args.words.now c.args.at c.low16-len.result c.cells.new.slots c.low16-len.ensures c.requires c.cells.ensures
+    in_made c.args.words.now c.args.at c.low16.result c.cells.result c.low16.ensures c.requires c.cells.ensures

@@ -3,33 +3,6 @@ use Rattle.places.specs.Whole.{whole}
 use Rattle.copies.proofs.RecordLaws.{peer_made}
 use Rattle.copies.proofs.reading.read.Goals as goal
 
-pub lists-lists-requires : goal.lists-lists-requires
-lists-lists-requires c = c.requires
-
-pub unsequenced-unsequenced-requires : goal.unsequenced-unsequenced-requires
-unsequenced-unsequenced-requires c =
-    c.requires
-
-pub waiting-waiting-requires : goal.waiting-waiting-requires
-waiting-waiting-requires c =
-    c.requires
-
-pub all_channels-channels-requires : goal.all_channels-channels-requires
-all_channels-channels-requires c =
-    c.requires
-
-pub outgoing-outgoing-requires : goal.outgoing-outgoing-requires
-outgoing-outgoing-requires c =
-    c.requires
-
-pub incoming-incoming-requires : goal.incoming-incoming-requires
-incoming-incoming-requires c =
-    c.requires
-
-pub marks-marks-requires : goal.marks-marks-requires
-marks-marks-requires c =
-    c.requires
-
 pub returns : goal.returns
 returns c =
     peer_made

@@ -3,4 +3,4 @@ use Rattle.copies.proofs.RecordLaws.{put_bandwidth_lem}
 use Rattle.copies.proofs.writing.put_bandwidth.Goals as goal
 
 pub returns : goal.returns
-returns c = put_bandwidth_lem c.args.words.now c.requires c.args.x
+returns c = put_bandwidth_lem c.args.words.now c.told-words c.args.x

@@ -1,5 +1,4 @@
--- After i turns the first i stand there; a turn is one more, the measure is what is left.
-use Prim.Native.Nat.{◌-◌}
+-- After i turns the first i stand there; a turn is one more.
 use mathlib.Core.Path.{◌≡◌, refl, ap}
 use mathlib.Core.List.{List, []}
 use native.Mathlib.Omega.{arith}
@@ -28,17 +27,16 @@ zeros =
 pub loop-i-init : goal.loop-i-init
 loop-i-init c =
     let a = c.args in
-    (omega arith, c.requires, ap (with_channels (whole a.words.now)) (paste-zero (whole a.words.now).channels 0 a.all))
+    (c.told-words, ap (with_channels (whole a.words.now)) (paste-zero (whole a.words.now).channels 0 a.all))
 
 pub loop-i-preserved : goal.loop-i-preserved
 loop-i-preserved c =
     let l = c.loop-i in
     let a = c.args in
     let m : length a.all ≡ 8 = search rules in (
-      omega arith,
       search rules,
       put_turn (λ (p : Peer). p.channels) with_channels (λ (p : Peer) (x y : List Channel). refl) (λ (p : Peer) (x : List Channel). refl)
-          (whole a.words.now) (whole l.words) (whole c.put_channel.new.words) a.all 8 l.i zeros (get_or a.all l.i zeros) (sized a.words.now).channels m (omega arith) l.invariant.2 c.put_channel.ensures refl,
+          (whole a.words.now) (whole l.words) (whole c.put_channel.new.words) a.all 8 l.i zeros (get_or a.all l.i zeros) (sized a.words.now).channels m (omega arith) l.invariant.1 c.put_channel.ensures refl,
     )
 
 pub returns : goal.returns
@@ -47,4 +45,4 @@ returns c =
     let a = c.args in
     let m : length a.all ≡ 8 = search rules in
     put-end (λ (p : Peer). p.channels) with_channels (λ (p : Peer) (x y : List Channel). refl) (λ (p : Peer) (x : List Channel). refl)
-    (whole a.words.now) (whole l.words) a.all 8 l.i (sized a.words.now).channels m (omega arith) l.invariant.2
+    (whole a.words.now) (whole l.words) a.all 8 l.i (sized a.words.now).channels m (omega arith) l.invariant.1

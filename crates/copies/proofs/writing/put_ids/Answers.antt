@@ -7,13 +7,13 @@ use Rattle.copies.proofs.writing.put_ids.Goals as goal
 
 pub bounds-words-4 : goal.bounds-words-4
 bounds-words-4 c =
-    omega (arith, length-sets c.args.words.now 0 (c.wide16-outgoing_peer.result ∷ c.wide16-incoming_peer.result ∷ c.args.x.connect ∷ c.wide8-outgoing_session.result ∷ []), c.requires)
+    omega (arith, length-sets c.args.words.now 0 (c.wide16-outgoing_peer.result ∷ c.wide16-incoming_peer.result ∷ c.args.x.connect ∷ c.wide8-outgoing_session.result ∷ []), c.told-words)
 
 pub returns : goal.returns
 returns c =
     put_ids_lem
     c.args.words.now
-    c.requires
+    c.told-words
     c.args.x
     c.wide16-outgoing_peer.result
     c.wide16-incoming_peer.result

@@ -1,5 +1,4 @@
--- After i turns the first i stand there; a turn is one more, the measure is what is left.
-use Prim.Native.Nat.{◌-◌, ◌≤◌}
+-- After i turns the first i stand there; a turn is one more.
 use mathlib.Core.Path.{◌≡◌}
 use lib.ListN.{length}
 use lib.Seq.{paste}
@@ -8,7 +7,4 @@ use Rattle.places.specs.Whole.{whole}
 use Rattle.copies.proofs.writing.put_incoming.Given as goal
 
 abbrev pub invariant-loop-i : goal.invariant-loop-i
-invariant-loop-i l = (l.i ≤ 12) × (length l.words ≡ 1236) × (whole l.words ≡ with_incoming (whole l.initial.words) (paste (whole l.initial.words).incoming 0 l.all l.i))
-
-abbrev pub decreases-loop-i : goal.decreases-loop-i
-decreases-loop-i l = 12 - l.i
+invariant-loop-i l = (length l.words ≡ 1236) × (whole l.words ≡ with_incoming (whole l.initial.words) (paste (whole l.initial.words).incoming 0 l.fn.all l.i))

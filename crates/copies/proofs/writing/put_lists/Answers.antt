@@ -7,6 +7,7 @@ use Rattle.record.specs.Updates.{with_sent_list, with_reliable_list, with_outgoi
 use Rattle.peer.specs.Updates.{with_lists}
 use Rattle.places.specs.Whole.{out_list_from, in_list_from, whole}
 use Rattle.copies.proofs.ListLaws.{list_in, row_sent, row_reliable, row_outgoing, row_dispatched, lists_put}
+use borrow.Author.Rules.{rules}
 use Rattle.copies.proofs.writing.put_lists.Goals as goal
 
 pub returns : goal.returns
@@ -16,11 +17,11 @@ returns c =
     let v = c.put_out.new.words in
     let w = c.put_out-2.new.words in
     let u = c.put_out-3.new.words in
-    let lv : length v ≡ 1236 = c.words-1.given ∙ c.requires in
-    let lw : length w ≡ 1236 = c.words-2-1.given ∙ lv in
-    let lu : length u ≡ 1236 = c.words-3-1.given ∙ lw in
+    let lv : length v ≡ 1236 = search rules in
+    let lw : length w ≡ 1236 = search rules in
+    let lu : length u ≡ 1236 = search rules in
     let es : whole c.put_out.new.words ≡ with_lists (whole ws) (with_sent_list (whole ws).lists x.sent) =
-    list_in OutList out_list_from (λ (y : OutList). with_lists (whole ws) (with_sent_list (whole ws).lists y)) ws c.put_out.new.words 43 32 (row_sent ws c.requires) x.sent x.sent.len x.sent.slots
+    list_in OutList out_list_from (λ (y : OutList). with_lists (whole ws) (with_sent_list (whole ws).lists y)) ws c.put_out.new.words 43 32 (row_sent ws c.told-words) x.sent x.sent.len x.sent.slots
     c.put_out.ensures.long c.put_out.ensures.is c.put_out.ensures.back in
     let er : whole c.put_out-2.new.words ≡ with_lists (whole v) (with_reliable_list (whole v).lists x.send_reliable) =
     list_in OutList out_list_from (λ (y : OutList). with_lists (whole v) (with_reliable_list (whole v).lists y)) v c.put_out-2.new.words 76 32 (row_reliable v lv) x.send_reliable x.send_reliable.len x.send_reliable.slots

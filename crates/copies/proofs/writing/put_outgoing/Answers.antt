@@ -1,5 +1,4 @@
--- After i turns the first i stand there; a turn is one more, the measure is what is left.
-use Prim.Native.Nat.{◌-◌}
+-- After i turns the first i stand there; a turn is one more.
 use mathlib.Core.Path.{◌≡◌, refl, ap}
 use mathlib.Core.List.{List}
 use native.Mathlib.Omega.{arith}
@@ -18,7 +17,7 @@ use Rattle.copies.proofs.writing.put_outgoing.Goals as goal
 pub loop-i-init : goal.loop-i-init
 loop-i-init c =
     let a = c.args in
-    (omega arith, c.requires, ap (with_outgoing (whole a.words.now)) (paste-zero (whole a.words.now).outgoing 0 a.all))
+    (c.told-words, ap (with_outgoing (whole a.words.now)) (paste-zero (whole a.words.now).outgoing 0 a.all))
 
 pub loop-i-preserved : goal.loop-i-preserved
 unfolding no_outgoing
@@ -26,10 +25,9 @@ loop-i-preserved c =
     let l = c.loop-i in
     let a = c.args in
     let m : length a.all ≡ 32 = search rules in (
-      omega arith,
       search rules,
       put_turn (λ (p : Peer). p.outgoing) with_outgoing (λ (p : Peer) (x y : List Outgoing). refl) (λ (p : Peer) (x : List Outgoing). refl)
-          (whole a.words.now) (whole l.words) (whole c.put_outgoing.new.words) a.all 32 l.i no_outgoing (get_or a.all l.i no_outgoing) (outgoing-length a.words.now) m (omega arith) l.invariant.2 c.put_outgoing.ensures refl,
+          (whole a.words.now) (whole l.words) (whole c.put_outgoing.new.words) a.all 32 l.i no_outgoing (get_or a.all l.i no_outgoing) (outgoing-length a.words.now) m (omega arith) l.invariant.1 c.put_outgoing.ensures refl,
     )
 
 pub returns : goal.returns
@@ -38,4 +36,4 @@ returns c =
     let a = c.args in
     let m : length a.all ≡ 32 = search rules in
     put-end (λ (p : Peer). p.outgoing) with_outgoing (λ (p : Peer) (x y : List Outgoing). refl) (λ (p : Peer) (x : List Outgoing). refl)
-    (whole a.words.now) (whole l.words) a.all 32 l.i (outgoing-length a.words.now) m (omega arith) l.invariant.2
+    (whole a.words.now) (whole l.words) a.all 32 l.i (outgoing-length a.words.now) m (omega arith) l.invariant.1

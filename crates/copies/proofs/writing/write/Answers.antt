@@ -4,18 +4,6 @@ use Rattle.places.specs.Whole.{whole}
 use Rattle.copies.proofs.RecordLaws.{peer_put}
 use Rattle.copies.proofs.writing.write.Goals as goal
 
-pub put_marks-requires : goal.put_marks-requires
-put_marks-requires c =
-    c.words-8-1.given
-    ∙ c.words-7-1.given
-    ∙ c.words-6-1.given
-    ∙ c.words-5-1.given
-    ∙ c.words-4-1.given
-    ∙ c.words-3-1.given
-    ∙ c.words-2-1.given
-    ∙ c.words-1.given
-    ∙ c.requires
-
 pub returns : goal.returns
 returns c =
     let a = c.args in

@@ -25,7 +25,7 @@ shift-requires c =
     let p = whole a.words.now in
     let xs = in_items (held_of p a.i) in
     let low : r.result.count ≤ length xs = omega (arith, r.ensures.count, ready_low p.incoming xs o.result.incoming_reliable.0) in
-    record { words_len = c.requires.words_len; i_lt_channels = c.requires.i_lt_channels; k_in_bounds = low }
+    record { i_lt_channels = c.requires; k_in_bounds = low }
 
 pub returns : goal.returns
 returns c =

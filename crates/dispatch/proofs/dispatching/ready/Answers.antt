@@ -1,5 +1,5 @@
 -- What may go of the whole list is what went so far and what may go of the rest, from the number that is the last then, a turn at a time.
-use Rattle.std.proofs.Common.{◌≡◌, ℕ, ◌-◌, ◌≤◌, List, length, get_or, take, sym, refl, ap, ◌∙◌, arith, take_all}
+use Rattle.std.proofs.Common.{◌≡◌, ℕ, ◌≤◌, List, length, get_or, take, sym, refl, ap, ◌∙◌, arith, take_all}
 use borrow.Author.Tests.{not-true, not-false}
 use Rattle.record.specs.Lists.{in_items}
 use Rattle.record.specs.Fresh.{no_incoming}
@@ -11,7 +11,7 @@ use Rattle.dispatch.proofs.DispatchingPlaces.{count_more}
 use Rattle.dispatch.proofs.dispatching.ready.Goals as goal
 
 pub loop-k-init : goal.loop-k-init
-loop-k-init c = (omega arith, omega arith, refl)
+loop-k-init c = (omega arith, refl)
 
 pub returns-then-not-follows : goal.returns-then-not-follows
 returns-then-not-follows c =
@@ -28,7 +28,7 @@ returns-then-not-follows c =
     let bad = not-true q.result c.if-not-follows.true-raw in
     let none = count_stop p.incoming xs n.result c.loop-k.k c.loop-k.now.0 low (omega arith) i.result is q.result q.ensures bad in
     let same = last_stop p.incoming xs n.result c.loop-k.k c.loop-k.now.0 low (omega arith) i.result is q.result q.ensures bad in
-    let counted : c.loop-k.k ≡ ready_count p.incoming (take n.result xs) a.last.0 = omega (arith, c.loop-k.invariant.1, none) in record { count = counted ∙ ap (λ (ys : List ℕ). ready_count p.incoming ys a.last.0) all; last = sym (c.loop-k.invariant.2 ∙ same) ∙ ap (λ (ys : List ℕ). ready_last p.incoming ys a.last.0) all }
+    let counted : c.loop-k.k ≡ ready_count p.incoming (take n.result xs) a.last.0 = omega (arith, c.loop-k.invariant.0, none) in record { count = counted ∙ ap (λ (ys : List ℕ). ready_count p.incoming ys a.last.0) all; last = sym (c.loop-k.invariant.1 ∙ same) ∙ ap (λ (ys : List ℕ). ready_last p.incoming ys a.last.0) all }
 
 pub loop-k-preserved : goal.loop-k-preserved
 loop-k-preserved c =
@@ -48,7 +48,7 @@ loop-k-preserved c =
     count_turn p.incoming xs n.result c.loop-k.k c.loop-k.now.0 low h i.result is q.result q.ensures good next.result.0 next.ensures in
     let same =
     last_turn p.incoming xs n.result c.loop-k.k c.loop-k.now.0 low h i.result is q.result q.ensures good next.result.0 next.ensures in
-    (omega (arith, h), count_more _ _ _ _ c.loop-k.invariant.1 more, c.loop-k.invariant.2 ∙ same)
+    (count_more _ _ _ _ c.loop-k.invariant.0 more, c.loop-k.invariant.1 ∙ same)
 
 pub returns : goal.returns
 returns c =
@@ -59,4 +59,4 @@ returns c =
     let all = take_all n.result xs (omega (arith, n.ensures)) in
     let none = count_end p.incoming xs n.result c.loop-k.k c.loop-k.now.0 (omega arith) in
     let same = last_end p.incoming xs n.result c.loop-k.k c.loop-k.now.0 (omega arith) in
-    let counted : c.loop-k.k ≡ ready_count p.incoming (take n.result xs) a.last.0 = omega (arith, c.loop-k.invariant.1, none) in record { count = counted ∙ ap (λ (ys : List ℕ). ready_count p.incoming ys a.last.0) all; last = sym (c.loop-k.invariant.2 ∙ same) ∙ ap (λ (ys : List ℕ). ready_last p.incoming ys a.last.0) all }
+    let counted : n.result ≡ ready_count p.incoming (take n.result xs) a.last.0 = omega (arith, c.loop-k.invariant.0, none) in record { count = counted ∙ ap (λ (ys : List ℕ). ready_count p.incoming ys a.last.0) all; last = sym (c.loop-k.invariant.1 ∙ same) ∙ ap (λ (ys : List ℕ). ready_last p.incoming ys a.last.0) all }

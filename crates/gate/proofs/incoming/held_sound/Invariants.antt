@@ -1,5 +1,5 @@
 -- The lists of all the channels below the count are those that are left, from the marks, the sum and the count so far, a channel at a time.
-use Prim.Native.Nat.{◌+◌, ◌*◌, ◌-◌, ◌≤◌}
+use Prim.Native.Nat.{◌+◌, ◌*◌, ◌≤◌}
 use mathlib.Core.Path.{◌≡◌}
 use lib.ListN.{length, take, drop}
 use Rattle.record.specs.Damage.{held, lengths, blocks}
@@ -9,12 +9,9 @@ use Rattle.gate.proofs.incoming.held_sound.Given as goal
 
 abbrev pub invariant-loop-k : goal.invariant-loop-k
 invariant-loop-k l =
-    (l.k ≤ l.count) × (length l.marks ≡ 12)
+    (length l.marks ≡ 12)
     × (held_sound (whole l.words).marks (whole l.words).incoming l.count 0 l.initial.marks (take l.count (whole l.words).channels) ≡ held_sound (whole l.words).marks (whole l.words).incoming l.count l.k l.marks (drop l.k (take l.count (whole l.words).channels)))
-    × (l.from + lengths (whole l.words).incoming (held (take l.count (whole l.words).channels)) ≡ l.total + lengths (whole l.words).incoming (held (drop l.k (take l.count (whole l.words).channels))))
-    × (l.total ≤ 393216 * (l.k + 1))
-    × (l.before + blocks (whole l.words).incoming (held (take l.count (whole l.words).channels)) ≡ l.blocks + blocks (whole l.words).incoming (held (drop l.k (take l.count (whole l.words).channels))))
-    × (l.blocks ≤ 12 * (l.k + 1))
-
-abbrev pub decreases-loop-k : goal.decreases-loop-k
-decreases-loop-k l = l.count - l.k
+    × (l.initial.walk.total + lengths (whole l.words).incoming (held (take l.count (whole l.words).channels)) ≡ l.walk.total + lengths (whole l.words).incoming (held (drop l.k (take l.count (whole l.words).channels))))
+    × (l.walk.total ≤ 393216 * (l.k + 1))
+    × (l.initial.walk.blocks + blocks (whole l.words).incoming (held (take l.count (whole l.words).channels)) ≡ l.walk.blocks + blocks (whole l.words).incoming (held (drop l.k (take l.count (whole l.words).channels))))
+    × (l.walk.blocks ≤ 12 * (l.k + 1))

@@ -4,4 +4,4 @@ use Rattle.gate.proofs.incoming.length_at.Goals as goal
 
 pub returns : goal.returns
 returns c =
-    length_is c.args.words.now c.args.s c.requires.s_lt_incoming
+    length_is c.args.words.now c.args.s c.requires

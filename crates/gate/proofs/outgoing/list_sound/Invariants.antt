@@ -1,5 +1,4 @@
 -- A turn of the walk at a time: each return is where the list, the cell or the slot says so.
-use Prim.Native.Nat.{◌-◌, ◌≤◌}
 use mathlib.Core.Path.{◌≡◌}
 use mathlib.Core.List.{map}
 use lib.ListN.{length}
@@ -9,9 +8,6 @@ use Rattle.places.specs.Whole.{whole}
 use Rattle.gate.proofs.Turns.{Left}
 use Rattle.gate.proofs.outgoing.list_sound.Given as goal
 
-abbrev pub invariant-loop-j : goal.invariant-loop-j
-invariant-loop-j l =
-    (l.j ≤ l.n) × (length l.marks ≡ 32) × Left (grade_passes (map (slot_grade l.count) (whole l.words).outgoing) l.sent) l.initial.marks (items_of (row_at l.at 32 l.words)) l.marks l.j
-
-abbrev pub decreases-loop-j : goal.decreases-loop-j
-decreases-loop-j l = l.n - l.j
+abbrev pub invariant-loop-cell : goal.invariant-loop-cell
+invariant-loop-cell l =
+    (length l.marks ≡ 32) × Left (grade_passes (map (slot_grade l.count) (whole l.words).outgoing) l.sent) l.initial.marks (items_of (row_at l.at 32 l.words)) l.marks l.cell-index

@@ -1,6 +1,5 @@
--- `is_set` answers bit k: a shift and a mask are a quotient and a remainder.
-use Rattle.std.proofs.Common.{◌/◌, ◌^◌, ◌<◌, sym, rules}
-use lib.Bits.{and_mask}
+-- `is_set` answers no for a bit past the word: a word has none there.
+use Rattle.std.proofs.Common.{◌^◌, ◌<◌, sym, rules}
 use Rattle.numbers.proofs.BitLaws.{bit_none}
 use Rattle.numbers.proofs.bits.is_set.Goals as goal
 
@@ -8,6 +7,3 @@ pub returns-then-k-ge32 : goal.returns-then-k-ge32
 returns-then-k-ge32 c =
     let small : c.args.word < 2 ^ 32 = search rules in
     sym (bit_none c.args.word c.args.k small c.if-k-ge32.true)
-
-pub returns : goal.returns
-returns c = rw (and_mask (c.args.word / 2 ^ c.args.k) 1)

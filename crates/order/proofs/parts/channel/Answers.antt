@@ -4,15 +4,12 @@ use mathlib.Core.Path.{◌∙◌}
 use Rattle.order.proofs.PartLaws.{channel_number_place, channel_list_place}
 use Rattle.order.proofs.parts.channel.Goals as goal
 
-pub overflow_cast-is_written : goal.overflow_cast-is_written
-overflow_cast-is_written c = omega (arith, c.shared_slice_known-2-1.given 6)
-
 pub returns-then-j-lt-HELD : goal.returns-then-j-lt-HELD
 returns-then-j-lt-HELD c =
     let a = c.args in
-    c.written_if.ensures ∙ rw c.short.ensures (channel_number_place a.words.now c.requires.words_len a.c (omega arith) a.j c.if-j-lt-HELD.true)
+    c.written_if.ensures ∙ rw c.short.ensures (channel_number_place a.words.now c.told-words a.c (omega arith) a.j c.if-j-lt-HELD.true)
 
 pub returns : goal.returns
 returns c =
     let a = c.args in
-    c.written_if-2.ensures ∙ rw c.list.ensures (channel_list_place a.words.now c.requires.words_len a.c (omega arith) a.j c.if-j-lt-HELD.false (omega arith))
+    c.written_if-2.ensures ∙ rw c.list.ensures (channel_list_place a.words.now c.told-words a.c (omega arith) a.j c.if-j-lt-HELD.false (omega arith))

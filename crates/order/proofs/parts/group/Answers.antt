@@ -6,9 +6,9 @@ use Rattle.order.proofs.parts.group.Goals as goal
 pub returns-then-j-lt4 : goal.returns-then-j-lt4
 returns-then-j-lt4 c =
     let a = c.args in
-    c.short.ensures ∙ group_place a.words.now a.j 16 c.requires.words_len c.requires.j_bound (group_narrow a.j c.if-j-lt4.true)
+    c.short.ensures ∙ group_place a.words.now a.j 16 c.told-words c.requires (group_narrow a.j c.if-j-lt4.true)
 
 pub returns : goal.returns
 returns c =
     let a = c.args in
-    c.long.ensures ∙ group_place a.words.now a.j 32 c.requires.words_len c.requires.j_bound (group_wide a.j c.if-j-lt4.false c.requires.j_bound)
+    c.long.ensures ∙ group_place a.words.now a.j 32 c.told-words c.requires (group_wide a.j c.if-j-lt4.false c.requires)

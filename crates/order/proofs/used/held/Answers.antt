@@ -1,5 +1,4 @@
 -- `held` meets its contract: what the channels below the count hold is what those from channel c on hold, a channel at a time.
-use Prim.Native.Nat.{◌-◌}
 use mathlib.Core.Path.{◌≡◌, refl, ap, sym, ◌∙◌}
 use native.Mathlib.Omega.{arith}
 use lib.ListN.{length, get_or}
@@ -11,11 +10,8 @@ use Rattle.places.proofs.Sized.{sized}
 use Rattle.order.proofs.UsedLaws.{held_hit, held_miss, held_end, held_at}
 use Rattle.order.proofs.used.held.Goals as goal
 
-pub overflow_cast-words : goal.overflow_cast-words
-overflow_cast-words c = omega (arith, c.shared_slice_known-2-1.given 6)
-
 pub loop-c-init : goal.loop-c-init
-loop-c-init c = (omega arith, c.least-count.ensures, refl)
+loop-c-init c = (c.min-count.ensures, refl)
 
 pub returns-then-names : goal.returns-then-names
 returns-then-names c =
@@ -24,8 +20,8 @@ returns-then-names c =
     let s = c.args.s in
     let n : (whole ws).standing.channels ≡ get_or ws 6 0 = ap (λ (x : Standing). x.channels) (standing_is ws) in
     let e : length (whole ws).channels ≡ 8 = (sized ws).channels in
-    let names = held_at ws s l.c (omega (arith, l.invariant.1)) c.requires ∙ sym c.names.ensures ∙ c.if-names.true in
-    sym (l.invariant.2 ∙ held_hit (whole ws).channels (whole ws).standing.channels l.c s no_channel (omega (arith, l.invariant.1)) (omega (arith, l.invariant.1)) names)
+    let names = held_at ws s l.c (omega (arith, l.invariant.0)) c.told-words ∙ sym c.names.ensures ∙ c.if-names.true in
+    sym (l.invariant.1 ∙ held_hit (whole ws).channels (whole ws).standing.channels l.c s no_channel (omega (arith, l.invariant.0)) (omega (arith, l.invariant.0)) names)
 
 pub loop-c-preserved : goal.loop-c-preserved
 loop-c-preserved c =
@@ -34,8 +30,8 @@ loop-c-preserved c =
     let s = c.args.s in
     let n : (whole ws).standing.channels ≡ get_or ws 6 0 = ap (λ (x : Standing). x.channels) (standing_is ws) in
     let e : length (whole ws).channels ≡ 8 = (sized ws).channels in
-    let names = held_at ws s l.c (omega (arith, l.invariant.1)) c.requires ∙ sym c.names.ensures ∙ c.if-names.false in
-    (omega arith, l.invariant.1, l.invariant.2 ∙ held_miss (whole ws).channels (whole ws).standing.channels l.c s no_channel (omega (arith, l.invariant.1)) (omega (arith, l.invariant.1)) names)
+    let names = held_at ws s l.c (omega (arith, l.invariant.0)) c.told-words ∙ sym c.names.ensures ∙ c.if-names.false in
+    (l.invariant.0, l.invariant.1 ∙ held_miss (whole ws).channels (whole ws).standing.channels l.c s no_channel (omega (arith, l.invariant.0)) (omega (arith, l.invariant.0)) names)
 
 pub returns : goal.returns
 returns c =
@@ -43,4 +39,4 @@ returns c =
     let ws = c.args.words.now in
     let n : (whole ws).standing.channels ≡ get_or ws 6 0 = ap (λ (x : Standing). x.channels) (standing_is ws) in
     let e : length (whole ws).channels ≡ 8 = (sized ws).channels in
-    sym (l.invariant.2 ∙ held_end (whole ws).channels (whole ws).standing.channels l.c c.args.s (rw (n, e) (omega (arith, l.invariant.1))))
+    sym (l.invariant.1 ∙ held_end (whole ws).channels (whole ws).standing.channels l.c c.args.s (rw (n, e) (omega (arith, l.invariant.0))))

@@ -6,9 +6,9 @@ use Rattle.order.proofs.used.incoming.Goals as goal
 pub returns-then-names : goal.returns-then-names
 returns-then-names c =
     let a = c.args in
-    sym (used_in a.words.now a.s ∙ rw (sym c.names.ensures ∙ c.if-names.true))
+    c.if-names.true ∙ sym (used_in a.words.now a.s ∙ rw (sym c.names.ensures ∙ c.if-names.true))
 
-pub returns : goal.returns
-returns c =
+pub returns-else-names : goal.returns-else-names
+returns-else-names c =
     let a = c.args in
     c.held.ensures ∙ sym (used_in a.words.now a.s ∙ rw (sym c.names.ensures ∙ c.if-names.false))

@@ -1,31 +1,15 @@
--- `names` meets its contract: whether the whole list names the slot is whether what is left of it does, a turn at a time.
-use Prim.Native.Nat.{◌-◌}
-use mathlib.Core.Path.{refl, sym, ◌∙◌}
-use native.Mathlib.Omega.{arith}
-use Rattle.lists.specs.Rows.{row_at, items_of}
-use Rattle.order.proofs.UsedLaws.{has_hit, has_miss, has_end}
+-- `names` meets its contract: the list's cells up to its length are its slots.
+use Rattle.std.proofs.Common.{rules, tests, ◌∙◌, ◌+◌}
+use lib.Dec.{eqb}
+use Rattle.lists.specs.Rows.{low}
+use Rattle.std.specs.List.{between}
+use Rattle.std.proofs.lemmas.Iterator.{YieldsList-from_slice}
+use Rattle.std.proofs.lemmas.Iterator.Search.{any_from_yields_List}
+use Rattle.order.proofs.UsedLaws.{names_any}
 use Rattle.order.proofs.used.names.Goals as goal
-
-pub loop-k-init : goal.loop-k-init
-loop-k-init c = (omega arith, c.count-n.ensures, refl)
-
-pub returns-then-slot_at-s : goal.returns-then-slot_at-s
-returns-then-slot_at-s c =
-    let l = c.loop-k in
-    let a = c.args in
-    let xs = items_of (row_at a.at a.size a.words.now) in
-    sym (l.invariant.2 ∙ has_hit xs l.k a.s (omega (arith, l.invariant.1)) (sym c.slot_at.ensures ∙ c.if-slot_at-s.true))
-
-pub loop-k-preserved : goal.loop-k-preserved
-loop-k-preserved c =
-    let l = c.loop-k in
-    let a = c.args in
-    let xs = items_of (row_at a.at a.size a.words.now) in
-    (omega arith, l.invariant.1, l.invariant.2 ∙ has_miss xs l.k a.s (omega (arith, l.invariant.1)) (λ e. c.if-slot_at-s.false (c.slot_at.ensures ∙ e)))
 
 pub returns : goal.returns
 returns c =
-    let l = c.loop-k in
     let a = c.args in
-    let xs = items_of (row_at a.at a.size a.words.now) in
-    sym (l.invariant.2 ∙ has_end xs l.k a.s (omega (arith, l.invariant.1)))
+    any_from_yields_List (λ x. eqb (low x) a.s) _ _ _ c.any.ensures.ran (YieldsList-from_slice (between (a.at + 1) (a.at + 1 + c.count-n.result) a.words.now) c.iter.ensures.rest) (λ x b q k. search (rules, tests))
+    ∙ names_any a.words.now a.at a.size c.count-n.result a.s c.requires c.count-n.ensures

@@ -13,8 +13,8 @@ returns c =
     c.low16-2.result
     c.low16-3.result
     c.low16-4.result
-    c.requires.i_lt_channels
-    c.requires.words_len
+    c.requires
+    c.told-words
     c.low16.ensures
     c.low16-2.ensures
     c.low16-3.ensures

@@ -8,4 +8,4 @@ pub returns : goal.returns
 returns c =
     let p = c.put_pair in
     let a = c.args in
-    ap whole p.ensures.is ∙ put_outgoing_numbers a.words.now a.i a.r a.u c.requires.i_lt_channels c.requires.words_len p.ensures.low.0 p.ensures.low.1
+    ap whole p.ensures.is ∙ put_outgoing_numbers a.words.now a.i a.r a.u c.requires c.told-words p.ensures.low.0 p.ensures.low.1

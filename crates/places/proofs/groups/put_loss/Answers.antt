@@ -7,4 +7,4 @@ pub bounds-words-21 : goal.bounds-words-21
 bounds-words-21 c = search rules depth 12
 
 pub returns : goal.returns
-returns c = put_loss_lem c.args.words.now c.requires c.args.x
+returns c = put_loss_lem c.args.words.now c.told-words c.args.x

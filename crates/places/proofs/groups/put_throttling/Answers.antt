@@ -13,4 +13,4 @@ pub bounds-words-28 : goal.bounds-words-28
 bounds-words-28 c = search rules depth 12
 
 pub returns : goal.returns
-returns c = put_throttling_lem c.args.words.now c.requires c.args.x
+returns c = put_throttling_lem c.args.words.now c.told-words c.args.x

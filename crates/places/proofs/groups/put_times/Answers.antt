@@ -3,4 +3,4 @@ use Rattle.places.proofs.GroupLaws.{put_times_lem}
 use Rattle.places.proofs.groups.put_times.Goals as goal
 
 pub returns : goal.returns
-returns c = put_times_lem c.args.words.now c.requires c.args.x
+returns c = put_times_lem c.args.words.now c.told-words c.args.x

@@ -10,4 +10,4 @@ pub bounds-words-38 : goal.bounds-words-38
 bounds-words-38 c = search rules depth 12
 
 pub returns : goal.returns
-returns c = put_trips_lem c.args.words.now c.requires c.args.x
+returns c = put_trips_lem c.args.words.now c.told-words c.args.x

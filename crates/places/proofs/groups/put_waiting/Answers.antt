@@ -3,4 +3,4 @@ use Rattle.places.proofs.GroupLaws.{put_waiting_lem}
 use Rattle.places.proofs.groups.put_waiting.Goals as goal
 
 pub returns : goal.returns
-returns c = put_waiting_lem c.args.words.now c.requires c.args.x
+returns c = put_waiting_lem c.args.words.now c.told-words c.args.x

@@ -12,4 +12,4 @@ use Rattle.places.proofs.pools.put_attempt.Goals as goal
 pub returns : goal.returns
 returns c =
     let e : length c.put_attempt.new.pool ≡ 832 = search rules in
-    pool_back c.args.words.now c.put_attempt.new.pool c.requires (λ (x : List Outgoing). set x c.args.i (with_attempt (get_or x c.args.i no_outgoing) c.args.sent c.args.timeout c.args.attempts)) e c.put_attempt.ensures
+    pool_back c.args.words.now c.put_attempt.new.pool c.told-words (λ (x : List Outgoing). set x c.args.i (with_attempt (get_or x c.args.i no_outgoing) c.args.sent c.args.timeout c.args.attempts)) e c.put_attempt.ensures

@@ -10,4 +10,4 @@ use Rattle.places.proofs.pools.put_incoming.Goals as goal
 pub returns : goal.returns
 returns c =
     let e : length c.put_in.new.pool ≡ 72 = search rules in
-    in_pool_back c.args.words.now c.put_in.new.pool c.requires (λ (x : List Incoming). set x c.args.i c.args.slot) e c.put_in.ensures
+    in_pool_back c.args.words.now c.put_in.new.pool c.told-words (λ (x : List Incoming). set x c.args.i c.args.slot) e c.put_in.ensures

@@ -10,4 +10,4 @@ use Rattle.places.proofs.pools.put_outgoing.Goals as goal
 pub returns : goal.returns
 returns c =
     let e : length c.put.new.pool ≡ 832 = search rules in
-    pool_back c.args.words.now c.put.new.pool c.requires (λ (x : List Outgoing). set x c.args.i c.args.slot) e c.put.ensures
+    pool_back c.args.words.now c.put.new.pool c.told-words (λ (x : List Outgoing). set x c.args.i c.args.slot) e c.put.ensures

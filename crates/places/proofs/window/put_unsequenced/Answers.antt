@@ -1,21 +1,13 @@
 -- The four numbers, to their places, then the words.
-use mathlib.Core.Path.{◌∙◌}
-use mathlib.Core.List.{[], ◌∷◌}
-use lib.Seq.{length-sets}
 use Rattle.places.specs.Whole.{whole}
 use Rattle.places.proofs.WindowLaws.{put_unsequenced_lem}
 use Rattle.places.proofs.window.put_unsequenced.Goals as goal
-
-pub shape_of-words : goal.shape_of-words
-shape_of-words c =
-    let ws = c.args.words.now in
-    c.words-1.given ∙ length-sets ws 155 (c.wide16-flags.result ∷ c.wide16-reserved.result ∷ c.wide16-incoming.result ∷ c.wide16-outgoing.result ∷ [])
 
 pub returns : goal.returns
 returns c =
     put_unsequenced_lem
     c.args.words.now
-    c.requires
+    c.told-words
     c.args.x
     c.wide16-flags.result
     c.wide16-reserved.result

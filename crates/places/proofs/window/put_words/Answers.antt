@@ -9,4 +9,4 @@ use Rattle.places.proofs.window.put_words.Goals as goal
 pub returns : goal.returns
 returns c =
     let m : length c.args.window ≡ 32 = search rules in
-    ap whole c.copy.ensures ∙ put_words_lem c.args.words.now c.requires c.args.window m
+    ap whole c.copy.ensures ∙ put_words_lem c.args.words.now c.told-words c.args.window m

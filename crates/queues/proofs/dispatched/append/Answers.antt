@@ -10,4 +10,4 @@ pub returns : goal.returns
 returns c =
     let a = c.args in
     let o = c.append in
-    dispatched_kept a.words.now c.requires (moved_to incoming a.k (map low a.run.now)) o.new.words o.ensures
+    dispatched_kept a.words.now c.told-words (moved_to incoming a.k (map low a.run.now)) o.new.words o.ensures

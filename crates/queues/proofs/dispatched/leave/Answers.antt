@@ -7,4 +7,4 @@ pub returns : goal.returns
 returns c =
     let a = c.args in
     let o = c.remove in
-    dispatched_kept a.words.now c.requires (λ xs. without xs 0) o.new.words o.ensures
+    dispatched_kept a.words.now c.told-words (λ xs. without xs 0) o.new.words o.ensures

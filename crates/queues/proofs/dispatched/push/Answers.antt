@@ -8,4 +8,4 @@ pub returns : goal.returns
 returns c =
     let a = c.args in
     let o = c.push in
-    dispatched_kept a.words.now c.requires (λ xs. pushed incoming xs a.s) o.new.words o.ensures
+    dispatched_kept a.words.now c.told-words (λ xs. pushed incoming xs a.s) o.new.words o.ensures

@@ -9,4 +9,4 @@ returns c =
     let a = c.args in
     let at = c.place_of in
     let o = c.copy in
-    held_cells a.words.now c.requires.words_len a.i c.requires.i_lt_channels at.result at.ensures (replicate 12 0) o.new.to refl o.ensures
+    held_cells a.words.now c.told-words a.i c.requires at.result at.ensures (replicate 12 0) o.new.to refl o.ensures

@@ -8,4 +8,4 @@ pub returns : goal.returns
 returns c =
     let a = c.args in
     let at = c.place_of in
-    c.count.ensures ∙ ap length (held_items a.words.now c.requires.words_len a.i c.requires.i_lt_channels at.result at.ensures)
+    c.count.ensures ∙ ap length (held_items a.words.now c.told-words a.i c.requires at.result at.ensures)

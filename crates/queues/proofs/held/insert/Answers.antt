@@ -9,4 +9,4 @@ returns c =
     let a = c.args in
     let o = c.insert in
     let at = c.place_of in
-    held_kept a.words.now c.requires.words_len a.i c.requires.i_lt_channels at.result at.ensures (λ xs. inserted incoming xs a.k a.s) o.new.words o.ensures
+    held_kept a.words.now c.told-words a.i c.requires at.result at.ensures (λ xs. inserted incoming xs a.k a.s) o.new.words o.ensures

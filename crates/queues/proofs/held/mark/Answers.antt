@@ -11,4 +11,4 @@ returns c =
     let a = c.args in
     let at = c.place_of in
     c.mark.ensures
-    ∙ ap (λ (xs : List ℕ). marked_all a.marks.now xs) (held_items a.words.now c.requires.words_len a.i c.requires.i_lt_channels at.result at.ensures)
+    ∙ ap (λ (xs : List ℕ). marked_all a.marks.now xs) (held_items a.words.now c.told-words a.i c.requires at.result at.ensures)

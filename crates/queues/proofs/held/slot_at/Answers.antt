@@ -10,4 +10,4 @@ pub returns : goal.returns
 returns c =
     let a = c.args in
     let at = c.place_of in
-    c.slot_at.ensures ∙ ap (λ (xs : List ℕ). get_or xs a.k 0) (held_items a.words.now c.requires.words_len a.i c.requires.i_lt_channels at.result at.ensures)
+    c.slot_at.ensures ∙ ap (λ (xs : List ℕ). get_or xs a.k 0) (held_items a.words.now c.told-words a.i c.requires at.result at.ensures)

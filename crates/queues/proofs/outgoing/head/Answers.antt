@@ -6,7 +6,7 @@ use Rattle.queues.proofs.outgoing.head.Goals as goal
 
 pub head-requires : goal.head-requires
 head-requires c =
-    place_fits c.args.list c.place_of.result _ c.place_of.ensures c.requires
+    place_fits c.args.list c.place_of.result _ c.place_of.ensures c.told-words
 
 pub returns : goal.returns
 returns c =

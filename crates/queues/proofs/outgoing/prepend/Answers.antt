@@ -9,11 +9,11 @@ use Rattle.queues.proofs.QueueLaws.{place_fits, out_kept}
 use Rattle.queues.proofs.outgoing.prepend.Goals as goal
 
 pub prepend-requires : goal.prepend-requires
-prepend-requires c = record { size_in_bounds = place_fits c.args.list c.place_of.result _ c.place_of.ensures c.requires; size_bound = omega arith }
+prepend-requires c = record { size_in_bounds = place_fits c.args.list c.place_of.result _ c.place_of.ensures c.told-words; size_bound = omega arith }
 
 pub returns : goal.returns
 returns c =
     let a = c.args in
     let o = c.prepend in
     let at = c.place_of in
-    out_kept a.list at.result at.ensures a.words.now c.requires (prepended outgoing (map low (take a.k a.run.now))) o.new.words o.ensures
+    out_kept a.list at.result at.ensures a.words.now c.told-words (prepended outgoing (map low (take a.k a.run.now))) o.new.words o.ensures

@@ -8,7 +8,7 @@ use Rattle.queues.proofs.outgoing.slot_at.Goals as goal
 
 pub slot_at-requires : goal.slot_at-requires
 slot_at-requires c =
-    place_fits c.args.list c.place_of.result _ c.place_of.ensures c.requires
+    place_fits c.args.list c.place_of.result _ c.place_of.ensures c.told-words
 
 pub returns : goal.returns
 returns c =

@@ -1,65 +1,58 @@
 -- `read_at` meets its contract: its returns are the cases of the rule at one place.
-use mathlib.Core.Path.{◌≡◌, sym, ◌∙◌}
-use mathlib.Core.Bool.{true}
+use mathlib.Core.Path.{sym, ap, ◌∙◌}
 use native.Mathlib.Omega.{arith}
 use borrow.Author.Tests.{not-true, not-false}
-use Rattle.snapshot_parts.proofs.ReadLaws.{command_inside, unwritten_is, none_is, unfit_is, fit_is, fit_most, groups_inside}
+use Rattle.std.specs.Prelude.{ℕ, Option}
+use Rattle.snapshot_parts.specs.Row.{result_of}
+use Rattle.snapshot_parts.proofs.ReadLaws.{command_inside, unwritten_is, none_is, unfit_is, fit_is, groups_inside}
 use Rattle.snapshot_parts.proofs.row.read_at.Goals as goal
 
-pub returns-then-not-place : goal.returns-then-not-place
-returns-then-not-place c =
-    let a = c.args in
-    let e = c.place_at-place in record { numbers = unwritten_is a.words.now a.bytes.now a.at a.i e.result e.ensures (not-true e.result.is_written c.if-not-place.true); inside = c.requires.i_lt_record_length.1 }
-
-pub returns-then-not-fits : goal.returns-then-not-fits
-returns-then-not-fits c =
+pub returns-then-not-place-clause-numbers : goal.returns-then-not-place-clause-numbers
+returns-then-not-place-clause-numbers c =
     let a = c.args in
     let e = c.place_at-place in
-    let w : e.result.is_written ≡ true = not-false e.result.is_written c.if-not-place.false in
-    let f = not-true c.fits.result c.if-not-fits.true-raw in record {
-      numbers = unfit_is a.words.now a.bytes.now a.at a.i e.result e.ensures w c.read.result c.read.ensures
-          c.in-Number.value c.in-Number.groups c.in-Number.is (sym c.fits.ensures ∙ f);
-      inside = omega arith;
-    }
+    unwritten_is a.words.now a.bytes.now a.at a.i e.result e.ensures (not-true e.result.is_written c.if-not-place.true)
 
-pub overflow_cast-value : goal.overflow_cast-value
-overflow_cast-value c =
-    let f = not-false c.fits.result c.if-not-fits.false-raw in
-    let e = c.place_at-place in
-    omega (arith, fit_most e.result c.in-Number.value (sym c.fits.ensures ∙ f))
-
-pub set-requires : goal.set-requires
-set-requires c =
+pub returns-in_err-number-clause-numbers : goal.returns-in_err-number-clause-numbers
+returns-in_err-number-clause-numbers c =
     let a = c.args in
     let e = c.place_at-place in
-    record { i_in_bounds = omega (arith, c.requires.words_len, c.requires.i_lt_record_length.0); i_in_bounds_2 = λ q. rw c.requires.words_len (command_inside a.words.now c.requires.words_len a.i c.requires.i_lt_record_length.0 e.result e.ensures q) }
+    ap (λ (r : Option ℕ). result_of r a.words.now a.bytes.now) c.from_residual.ensures
+    ∙ none_is a.words.now a.bytes.now a.at a.i e.result e.ensures (not-false e.result.is_written c.if-not-place.false) c.in_err-number.ensures
+
+pub returns-then-not-fits-clause-numbers : goal.returns-then-not-fits-clause-numbers
+returns-then-not-fits-clause-numbers c =
+    let a = c.args in
+    let e = c.place_at-place in
+    unfit_is a.words.now a.bytes.now a.at a.i e.result e.ensures (not-false e.result.is_written c.if-not-place.false)
+    c.in_ok-number.number c.in_ok-number.ensures (sym c.fits.ensures ∙ c.if-not-fits.true)
+
+pub set-requires-clause-i_in_bounds_2 : goal.set-requires-clause-i_in_bounds_2
+set-requires-clause-i_in_bounds_2 c =
+    let a = c.args in
+    let e = c.place_at-place in
+    λ q. rw c.told-words (command_inside a.words.now c.told-words a.i c.requires.0 e.result e.ensures q)
 
 pub overflow_add-result : goal.overflow_add-result
 overflow_add-result c =
     let a = c.args in
     let e = c.place_at-place in
-    let w : e.result.is_written ≡ true = not-false e.result.is_written c.if-not-place.false in
     omega (
       arith,
-      groups_inside a.words.now a.bytes.now a.at a.i e.result e.ensures w c.read.result c.read.ensures
-          c.in-Number.value c.in-Number.groups c.in-Number.is c.requires.i_lt_record_length.1,
+      groups_inside a.words.now a.bytes.now a.at a.i e.result e.ensures (not-false e.result.is_written c.if-not-place.false)
+          c.in_ok-number.number c.in_ok-number.ensures c.requires.1,
     )
 
-pub returns-else-not-fits : goal.returns-else-not-fits
-returns-else-not-fits c =
+pub returns-clause-numbers : goal.returns-clause-numbers
+returns-clause-numbers c =
     let a = c.args in
     let e = c.place_at-place in
-    let w : e.result.is_written ≡ true = not-false e.result.is_written c.if-not-place.false in
-    let f = not-false c.fits.result c.if-not-fits.false-raw in record {
-      numbers = fit_is a.words.now a.bytes.now a.at a.i e.result e.ensures w c.read.result c.read.ensures
-          c.in-Number.value c.in-Number.groups c.in-Number.is (sym c.fits.ensures ∙ f)
-          _ c.set.ensures;
-      inside = groups_inside a.words.now a.bytes.now a.at a.i e.result e.ensures w c.read.result c.read.ensures
-          c.in-Number.value c.in-Number.groups c.in-Number.is c.requires.i_lt_record_length.1;
-    }
+    fit_is a.words.now a.bytes.now a.at a.i e.result e.ensures (not-false e.result.is_written c.if-not-place.false)
+    c.in_ok-number.number c.in_ok-number.ensures (sym c.fits.ensures ∙ c.if-not-fits.false) _ c.set.ensures
 
-pub returns-in-Unread : goal.returns-in-Unread
-returns-in-Unread c =
+pub returns-clause-inside : goal.returns-clause-inside
+returns-clause-inside c =
     let a = c.args in
     let e = c.place_at-place in
-    let w : e.result.is_written ≡ true = not-false e.result.is_written c.if-not-place.false in record { numbers = none_is a.words.now a.bytes.now a.at a.i e.result e.ensures w c.read.result c.read.ensures c.in-Unread.is; inside = omega arith }
+    groups_inside a.words.now a.bytes.now a.at a.i e.result e.ensures (not-false e.result.is_written c.if-not-place.false)
+    c.in_ok-number.number c.in_ok-number.ensures c.requires.1

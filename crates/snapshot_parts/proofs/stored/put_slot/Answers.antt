@@ -4,28 +4,22 @@ use native.Mathlib.Omega.{arith}
 use Rattle.snapshot_parts.proofs.StoredLaws.{block_inside, cell_inside, put_block, put_cell}
 use Rattle.snapshot_parts.proofs.stored.put_slot.Goals as goal
 
-pub copy-requires : goal.copy-requires
-copy-requires c =
-    let n = c.stored_length-n.ensures in
-    let e = sym c.is_block.ensures ∙ c.if-is_block.true in
-    record { count_in_bounds = omega (arith, n, c.requires.slot_in_bounds); count_in_bounds_2 = omega (arith, n, c.requires.s_lt_incoming.2, block_inside c.args.slot c.args.s e) }
-
 pub returns-then-is_block : goal.returns-then-is_block
 returns-then-is_block c =
     let a = c.args in
-    let e = sym c.is_block.ensures ∙ c.if-is_block.true in
-    put_block a.slot c.stored_length-n.result a.s a.at c.stored_length-n.ensures
-    a.store.now a.second.now a.buffer.now _ e c.copy.ensures
-
-pub copy-requires-2 : goal.copy-requires-2
-copy-requires-2 c =
     let n = c.stored_length-n.ensures in
-    let e = sym c.is_block.ensures ∙ c.if-is_block.false in
-    record { count_in_bounds = omega (arith, n, c.requires.slot_in_bounds); count_in_bounds_2 = omega (arith, n, c.requires.s_lt_incoming.1, cell_inside c.args.slot c.args.s e c.requires.s_lt_incoming.0) }
+    let e = sym c.is_block.ensures ∙ c.if-is_block.true in
+    put_block a.slot c.stored_length-n.result a.s a.at n a.store.now a.second.now a.buffer.now _ e
+    (omega (arith, n, c.requires.slot_in_bounds))
+    (omega (arith, n, c.requires.s_lt_incoming.2, block_inside c.args.slot c.args.s e))
+    c.copy.ensures
 
 pub returns : goal.returns
 returns c =
     let a = c.args in
+    let n = c.stored_length-n.ensures in
     let e = sym c.is_block.ensures ∙ c.if-is_block.false in
-    put_cell a.slot c.stored_length-n.result a.s a.at c.stored_length-n.ensures
-    a.store.now a.second.now a.buffer.now _ e c.copy-2.ensures
+    put_cell a.slot c.stored_length-n.result a.s a.at n a.store.now a.second.now a.buffer.now _ e
+    (omega (arith, n, c.requires.slot_in_bounds))
+    (omega (arith, n, c.requires.s_lt_incoming.1, cell_inside c.args.slot c.args.s e c.requires.s_lt_incoming.0))
+    c.copy-2.ensures

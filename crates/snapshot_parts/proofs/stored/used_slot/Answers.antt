@@ -7,12 +7,6 @@ use Rattle.record.specs.Fresh.{no_incoming}
 use Rattle.places.specs.Whole.{whole}
 use Rattle.snapshot_parts.proofs.stored.used_slot.Goals as goal
 
-pub returns-then-incoming : goal.returns-then-incoming
-returns-then-incoming c =
-    let a = c.args in
-    let slot = get_or (whole a.words.now).incoming a.s no_incoming in
-    c.incoming_at.ensures ∙ ap (λ (b : Bool). pick b slot no_incoming) (sym c.if-incoming.true ∙ c.incoming.ensures)
-
 pub returns : goal.returns
 unfolding no_incoming
 returns c =

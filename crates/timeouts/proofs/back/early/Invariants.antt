@@ -1,5 +1,5 @@
--- `early` meets its contract. The loop's invariant: what the search from the head finds is j and what it finds from place j on. The measure is what is left
-use Prim.Native.Nat.{◌+◌, ◌-◌, ◌≤◌}
+-- `early` meets its contract. The loop's invariant: what the search from the head finds is j and what it finds from place j on.
+use Prim.Native.Nat.{◌+◌}
 use mathlib.Core.Path.{◌≡◌}
 use lib.ListN.{length, drop}
 use Rattle.record.specs.Lists.{out_items}
@@ -11,7 +11,4 @@ abbrev pub invariant-loop-j : goal.invariant-loop-j
 invariant-loop-j l =
     let p = whole l.words in
     let items = out_items p.lists.sent in
-    (l.j ≤ l.n) × (l.n ≡ length items) × (early l.clock p.outgoing items ≡ l.j + early l.clock p.outgoing (drop l.j items))
-
-abbrev pub decreases-loop-j : goal.decreases-loop-j
-decreases-loop-j l = l.n - l.j
+    (l.n ≡ length items) × (early l.clock p.outgoing items ≡ l.j + early l.clock p.outgoing (drop l.j items))

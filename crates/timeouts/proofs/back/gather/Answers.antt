@@ -1,6 +1,6 @@
 -- `gather` meets its contract. The loop's invariant: what bears the mark among the slots passed stands in the run from its first cell on, and m counts it;
--- a turn is one more place, with or without its slot. The measure is what is left of the slots.
-use Prim.Native.Nat.{◌+◌, ◌<◌, ◌-◌}
+-- a turn is one more place, with or without its slot.
+use Prim.Native.Nat.{◌+◌, ◌<◌}
 use mathlib.Core.Path.{refl, ap, ◌∙◌}
 use native.Mathlib.Omega.{arith}
 use lib.ListN.{length, take}
@@ -16,8 +16,7 @@ use Rattle.timeouts.proofs.back.gather.Goals.{then-marks-k, else-marks-k}
 pub loop-k-init : goal.loop-k-init
 loop-k-init c =
     let a = c.args in (
-      omega arith,
-      omega (arith, c.count-n.ensures, sent_fits a.words.now),
+      omega (arith, c.count-k-end.ensures, sent_fits a.words.now),
       omega arith,
       refl,
       borne_none a.mark a.marks.now (out_items (whole a.words.now).lists.sent) a.cells.now,
@@ -28,15 +27,15 @@ loop-k-preserved c =
     let a = c.args in
     let i = c.loop-k.invariant in
     let items = out_items (whole a.words.now).lists.sent in
-    let h : c.loop-k.k < length items = omega (arith, c.count-n.ensures) in
+    let h : c.loop-k.k < length items = omega (arith, c.count-k-end.ensures) in
     let next : Borne a.mark a.marks.now items a.cells.now (c.loop-k.k + 1) c.if-marks-k.cells c.if-marks-k.m =
     elim c.if-marks-k.branch [
-      | then-marks-k w ↦ rw (w.cells-is, w.m-is, w.slot_at.ensures) (borne_with a.mark a.marks.now items a.cells.now i.4 h w.if-marks-k.true)
-      | else-marks-k w ↦ rw (w.cells-is, w.m-is) (borne_without a.mark a.marks.now items a.cells.now i.4 h w.if-marks-k.false)
+      | then-marks-k w ↦ rw (w.cells-is, w.m-is, w.slot_at.ensures) (borne_with a.mark a.marks.now items a.cells.now i.3 h w.if-marks-k.true)
+      | else-marks-k w ↦ rw (w.cells-is, w.m-is) (borne_without a.mark a.marks.now items a.cells.now i.3 h w.if-marks-k.false)
     ] in
-    (omega arith, i.1, borne_low a.mark a.marks.now items a.cells.now next, ap length next.stored ∙ length-sets a.cells.now 0 (bearing a.mark a.marks.now (take (c.loop-k.k + 1) items)), next)
+    (i.0, borne_low a.mark a.marks.now items a.cells.now next, ap length next.stored ∙ length-sets a.cells.now 0 (bearing a.mark a.marks.now (take (c.loop-k.k + 1) items)), next)
 
 pub returns : goal.returns
 returns c =
     let a = c.args in
-    let i = c.loop-k.invariant in record { slots = gathered a.mark a.words.now a.marks.now a.cells.now c.loop-k.cells c.loop-k.k c.loop-k.m (omega (arith, c.count-n.ensures)) (omega arith) i.4; fits = omega arith }
+    let i = c.loop-k.invariant in record { slots = gathered a.mark a.words.now a.marks.now a.cells.now c.loop-k.cells c.loop-k.k c.loop-k.m (omega (arith, c.count-k-end.ensures)) (omega arith) i.3; fits = omega arith }

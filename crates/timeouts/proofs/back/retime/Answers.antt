@@ -6,9 +6,9 @@ use Rattle.timeouts.proofs.back.retime.Goals as goal
 pub returns-then-timeout-o : goal.returns-then-timeout-o
 returns-then-timeout-o c =
     let a = c.args in
-    retime_same (whole a.words.now) a.s a.o c.requires.o_value a.timeout c.if-timeout-o.true
+    retime_same (whole a.words.now) a.s a.o c.requires a.timeout c.if-timeout-o.true
 
 pub returns : goal.returns
 returns c =
     let a = c.args in
-    retime_put (whole a.words.now) a.s a.o c.requires.o_value a.timeout (whole c.put_attempt.new.words) c.put_attempt.ensures
+    retime_put (whole a.words.now) a.s a.o c.requires a.timeout (whole c.put_attempt.new.words) c.put_attempt.ensures

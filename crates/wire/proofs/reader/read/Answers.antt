@@ -1,51 +1,28 @@
--- Kind 0 is a refusal; past it the row that was read is built as it stands, at the place after it.
-use mathlib.Core.Path.{◌≡◌, ap, ◌∙◌}
-use Prim.Native.Nat.{ℕ, ◌+◌}
-use mathlib.Core.List.{List}
-use Rattle.command.specs.Layout.{layout, size_of}
-use Rattle.command.specs.Bytes.{row_at, pad, Bytes}
-use Rattle.wire.specs.Built.{built_from}
-use Rattle.wire.specs.Reading.{kind_at}
+-- Where a command stands whole, the row that was read is built as it stands, at the place after it.
+use mathlib.Core.Path.{sym, ap, ◌∙◌}
+use Prim.Native.Nat.{◌+◌}
+use Rattle.command.specs.Bytes.{Bytes}
+use Rattle.wire.specs.Reading.{answer_of}
 use Rattle.wire.specs.Steps.{placed}
-use Rattle.wire.proofs.ReadLaws.{whole_none, whole_some, whole_kind_lem, whole_room, read_found}
+use Rattle.wire.proofs.ReadLaws.{read_built_at}
 use native.Mathlib.Omega.{arith}
 use Rattle.wire.proofs.reader.read.Goals as goal
 
-pub returns-then-kind-eq0 : goal.returns-then-kind-eq0
-returns-then-kind-eq0 c =
-    let a = c.args in
-    let e = c.whole_kind-kind.ensures in
-    whole_none a.s.now a.at (omega arith)
-
-pub row_at-row-requires : goal.row_at-row-requires
-row_at-row-requires c =
+pub returns-in_err-command : goal.returns-in_err-command
+returns-in_err-command c =
     let s = c.args.s.now in
     let i = c.args.at in
-    let e = c.whole_kind-kind.ensures in
-    let r = whole_some s i (λ z. omega arith) in
-    let q = ap size_of (e ∙ whole_kind_lem s i r) in
-    omega (arith, whole_room s i r)
-
-pub overflow_add-next : goal.overflow_add-next
-overflow_add-next c =
-    let s = c.args.s.now in
-    let i = c.args.at in
-    let e = c.whole_kind-kind.ensures in
-    let r = whole_some s i (λ z. omega arith) in
-    let q = c.size_of.ensures ∙ ap size_of (e ∙ whole_kind_lem s i r) in
-    omega (arith, whole_room s i r)
+    let n = i + c.size_of.result in
+    let bytes : Bytes s = λ j. omega (arith, c.type_inv.s j) in
+    ap answer_of c.from_residual-in_err-command.ensures
+    ∙ ap (placed n) c.in_err-command.ensures
+    ∙ read_built_at s i c.in_ok-kind.kind n c.row_at-row.result bytes (sym c.in_ok-kind.ensures) c.row_at-row.ensures (omega (arith, c.size_of.ensures))
 
 pub returns : goal.returns
 returns c =
     let s = c.args.s.now in
     let i = c.args.at in
-    let k = c.whole_kind-kind.result in
-    let e = c.whole_kind-kind.ensures in
     let n = i + c.size_of.result in
-    let r = whole_some s i (λ z. omega arith) in
-    let q : k ≡ kind_at s i = e ∙ whole_kind_lem s i r in
-    let bytes : Bytes s = λ j. omega (arith, c.shared_slice_known-1.given j) in
-    c.found.ensures
-    ∙ ap (λ (l : List ℕ). placed n (built_from k l)) c.row_at-row.ensures
-    ∙ ap (λ (x : ℕ). placed n (built_from x (pad 16 (row_at s i (layout x))))) q
-    ∙ read_found s i n bytes r (ap (λ (x : ℕ). i + x) (c.size_of.ensures ∙ ap size_of q))
+    let bytes : Bytes s = λ j. omega (arith, c.type_inv.s j) in
+    ap (placed n) c.in_ok-command.ensures
+    ∙ read_built_at s i c.in_ok-kind.kind n c.row_at-row.result bytes (sym c.in_ok-kind.ensures) c.row_at-row.ensures (omega (arith, c.size_of.ensures))
