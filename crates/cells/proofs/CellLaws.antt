@@ -1,4 +1,4 @@
--- Runs of stores: a store at the end, a store before; and what a run of stores makes of the first n cells.
+-- Runs of stores: a store at the end, a store before, a cell past; and what a run of stores makes of the first n cells.
 -- The argument: by induction on the run; then `sets-eq` and the laws of take and drop.
 use Prim.Native.Nat.{ℕ, zero, suc, ◌+◌, ◌-◌, ◌≤◌, ◌<◌, min}
 use mathlib.Core.Path.{◌≡◌, refl, ap, sym, ◌∙◌}
@@ -7,7 +7,7 @@ use native.Mathlib.Numerals.{add-one}
 use native.Mathlib.Nat.{add-zero, zero-sub, sub-zero, suc-sub-suc, zero-min, min-zero, suc-min-suc}
 use native.Mathlib.Omega.{arith}
 use lib.ListN.{length, take, drop, get_or, set, length-append, length-take, take-append-drop}
-use lib.Seq.{sets, sets-eq, set_comm, take-suc, take-nil, take_all, length-take-le}
+use lib.Seq.{sets, sets-eq, set_comm, get_or-set_other, take-suc, take-nil, take_all, length-take-le}
 use Rattle.cells.specs.Runs.{over}
 
 -- a store at the end of a run
@@ -20,6 +20,17 @@ pub sets_before : (vs l : List ℕ) (i j a : ℕ) → i < j → set (sets l j vs
 sets_before [] l i j a h = refl
 sets_before (v ∷ vs) l i j a h =
     sets_before vs (set l j v) i (suc j) a (omega arith) ∙ ap (λ (m : List ℕ). sets m (suc j) vs) (set_comm l j i v a (λ e. omega arith))
+
+-- a cell outside of a run is as it was
+pub sets_past : (vs l : List ℕ) (i j : ℕ) → i + length vs ≤ j → get_or (sets l i vs) j 0 ≡ get_or l j 0
+sets_past [] l i j h = refl
+sets_past (v ∷ vs) l i j h =
+    sets_past vs (set l i v) (suc i) j (omega arith) ∙ get_or-set_other l i j v 0 (λ e. omega arith)
+
+pub sets_below : (vs l : List ℕ) (i j : ℕ) → j < i → get_or (sets l i vs) j 0 ≡ get_or l j 0
+sets_below [] l i j h = refl
+sets_below (v ∷ vs) l i j h =
+    sets_below vs (set l i v) (suc i) j (omega arith) ∙ get_or-set_other l i j v 0 (λ e. omega arith)
 
 pub drop-take : (i n : ℕ) (l : List ℕ) → drop i (take n l) ≡ take (n - i) (drop i l)
 drop-take zero n l = rw sub-zero

@@ -14,5 +14,5 @@ use places::RECORD;
 pub fn meant(words: &[u32; RECORD]) -> Peer
     ensures { result ≡ whole words.now }
 {
-    crate::reading::read(words)
+    crate::reading::whole(words)
 }

@@ -114,7 +114,15 @@ fn incoming(words: &[u32; RECORD]) -> [Incoming; INCOMING]
     std::array::from_fn(|i| pools::incoming_at(words, i))
 }
 
-pub fn read(words: &[u32; RECORD]) -> Peer
+// The record that a slice of so many numbers means.
+pub fn read(words: &[u32]) -> Peer
+    requires { length words.now ≡ record_length }
+    ensures { result ≡ whole words.now }
+{
+    whole(words.try_into().unwrap())
+}
+
+pub(crate) fn whole(words: &[u32; RECORD]) -> Peer
     ensures { result ≡ whole words.now }
 {
     let ids = ids(words);
