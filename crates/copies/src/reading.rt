@@ -7,13 +7,13 @@ ghost use Rattle.places.specs.Whole.{whole, record_length, out_list_from, in_lis
 
 use numbers::widths::{low8, low16};
 use peer::Peer;
-use places::{RECORD, channels, groups, pools, window};
+use places::{RECORD, channels, pools};
 use record::groups::{Bandwidth, CHANNELS, Channel, Ids, Incoming, Lists, Outgoing};
 use record::incoming::InList;
 use record::outgoing::OutList;
 use record::{INCOMING, OUTGOING};
 
-fn ids(words: &[u32; RECORD]) -> Ids
+pub(crate) fn ids(words: &[u32; RECORD]) -> Ids
     ensures { result ≡ (whole words.now).ids }
 {
     Ids {
@@ -25,7 +25,7 @@ fn ids(words: &[u32; RECORD]) -> Ids
     }
 }
 
-fn bandwidth(words: &[u32; RECORD]) -> Bandwidth
+pub(crate) fn bandwidth(words: &[u32; RECORD]) -> Bandwidth
     ensures { result ≡ (whole words.now).bandwidth }
 {
     Bandwidth {
@@ -66,7 +66,7 @@ fn in_list(words: &[u32], at: usize) -> InList
     }
 }
 
-fn lists(words: &[u32; RECORD]) -> Lists
+pub(crate) fn lists(words: &[u32; RECORD]) -> Lists
     ensures { result ≡ (whole words.now).lists }
 {
     let sent = out_list(words, places::SENT);
@@ -96,19 +96,19 @@ fn channel(words: &[u32; RECORD], i: usize) -> Channel
     }
 }
 
-fn all_channels(words: &[u32; RECORD]) -> [Channel; CHANNELS]
+pub(crate) fn all_channels(words: &[u32; RECORD]) -> [Channel; CHANNELS]
     ensures { result ≡ (whole words.now).channels }
 {
     std::array::from_fn(|i| channel(words, i))
 }
 
-fn outgoing(words: &[u32; RECORD]) -> [Outgoing; OUTGOING]
+pub(crate) fn outgoing(words: &[u32; RECORD]) -> [Outgoing; OUTGOING]
     ensures { result ≡ (whole words.now).outgoing }
 {
     std::array::from_fn(|i| pools::outgoing_at(words, i))
 }
 
-fn incoming(words: &[u32; RECORD]) -> [Incoming; INCOMING]
+pub(crate) fn incoming(words: &[u32; RECORD]) -> [Incoming; INCOMING]
     ensures { result ≡ (whole words.now).incoming }
 {
     std::array::from_fn(|i| pools::incoming_at(words, i))
@@ -119,46 +119,5 @@ pub fn read(words: &[u32]) -> Peer
     requires { length words.now ≡ record_length }
     ensures { result ≡ whole words.now }
 {
-    whole(words.try_into().unwrap())
-}
-
-pub(crate) fn whole(words: &[u32; RECORD]) -> Peer
-    ensures { result ≡ whole words.now }
-{
-    let ids = ids(words);
-    let standing = groups::standing(words);
-    let bandwidth = bandwidth(words);
-    let totals = groups::totals(words);
-    let times = groups::times(words);
-    let loss = groups::loss(words);
-    let throttling = groups::throttling(words);
-    let limits = groups::limits(words);
-    let trips = groups::trips(words);
-    let flow = groups::flow(words);
-    let lists = lists(words);
-    let unsequenced = window::unsequenced(words);
-    let waiting = groups::waiting(words);
-    let channels = all_channels(words);
-    let outgoing = outgoing(words);
-    let incoming = incoming(words);
-    let marks = groups::marks(words);
-    Peer {
-        ids,
-        standing,
-        bandwidth,
-        totals,
-        times,
-        loss,
-        throttling,
-        limits,
-        trips,
-        flow,
-        lists,
-        unsequenced,
-        waiting,
-        channels,
-        outgoing,
-        incoming,
-        marks,
-    }
+    crate::meant(words.try_into().unwrap())
 }

@@ -1,7 +1,7 @@
 -- Every group is the record's own.
 use Rattle.places.specs.Whole.{whole}
 use Rattle.copies.proofs.RecordLaws.{peer_made}
-use Rattle.copies.proofs.reading.whole.Goals as goal
+use Rattle.copies.proofs.meant.Goals as goal
 
 pub returns : goal.returns
 returns c =
